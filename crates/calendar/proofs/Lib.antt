@@ -1,0 +1,6 @@
+pub mod Logic
+pub mod Table
+pub mod Closed
+pub mod Bounds
+pub mod Places
+pub mod Dates

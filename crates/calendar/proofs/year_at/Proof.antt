@@ -1,0 +1,60 @@
+-- `year_at`. What is left to place is placed from the present year on.
+use mathlib.Core.Path.{_≡_, sym, _∙_}
+use Prim.Native.Nat.{_-_, _≤_, _<_}
+use native.Mathlib.Omega.{arith}
+use borrow.Author.Needs.{needs}
+use Rattle.calendar.specs.Calendar.{yearLength, place}
+use Rattle.calendar.proofs.Places.{place-here, place-next}
+use Rattle.calendar.proofs.year_at.Statement.{statement}
+use Rattle.calendar.proofs.year_at.Tie as tie
+
+abbrev Inv-loop : tie.InvT-loop
+Inv-loop number at₀ left₀ at left = (at ≤ 2099) × (place yearLength 99 2000 number ≡ place yearLength (2099 - at) at left)
+
+abbrev μ-loop : tie.MeasureT-loop
+μ-loop number at₀ left₀ at left = 2099 - at
+
+loop-holds : tie.Need-loop-holds Inv-loop μ-loop
+loop-holds c = search needs
+
+year-length-requires : tie.Need-year-length-requires Inv-loop μ-loop
+year-length-requires c κs = search needs
+
+returns : tie.Need-returns Inv-loop μ-loop
+returns c =
+    let l = c .before .before .before .loop in
+    let h : l .left < yearLength (l .at) = omega arith in
+    sym (l .inv .1 ∙ place-here yearLength _ _ _ h)
+
+add-at : tie.Need-add-at Inv-loop μ-loop
+add-at c = search needs
+
+loop-less : tie.Need-loop-less Inv-loop μ-loop
+loop-less c = search needs
+
+loop-again : tie.Need-loop-again Inv-loop μ-loop
+loop-again c =
+    let l = c .before .before .before .loop in
+    let h : yearLength (l .at) ≤ l .left = omega arith in
+    (omega arith, l .inv .1 ∙ rw (c .before .year-length .ensures) (place-next yearLength 2099 (l .at) (l .left) (omega arith) h))
+
+returns-2 : tie.Need-returns-2 Inv-loop μ-loop
+unfolding place
+returns-2 c =
+    let l = c .before .loop in
+    let e : 2099 - l .at ≡ 0 = omega arith in
+    sym (l .inv .1 ∙ rw e)
+
+pub year-at-spec : {M : Type 1} → statement M
+year-at-spec =
+    tie.close
+    (tie.spec
+    Inv-loop
+    μ-loop
+    loop-holds
+    year-length-requires
+    returns
+    add-at
+    loop-less
+    loop-again
+    returns-2)
