@@ -40,7 +40,7 @@ module _ (f : ℕ → ℕ) where
   left-small (suc k) a n = ⊎-elim (λ e. rw e (le-refl n)) (λ e. rw e (omega (arith, left-small k (suc a) (n - f a)))) (either (ltb n (f a)))
 
   -- `place` takes lengths off at the front, and `sum` adds them at the back
-  sum-first : (a k : ℕ) → sum f a (suc k) ≡ f a + sum f (suc a) k
+  pub sum-first : (a k : ℕ) → sum f a (suc k) ≡ f a + sum f (suc a) k
   unfolding sum
   sum-first a zero = rw (add-zero a) (omega arith)
   sum-first a (suc k) =

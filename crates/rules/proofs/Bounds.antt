@@ -1,0 +1,80 @@
+-- What a good head bounds.
+use mathlib.Core.Bool.{Bool, true, false, cond}
+use mathlib.Core.Logic.{⊎-elim}
+use mathlib.Core.Path.{_≡_, refl}
+use Prim.Native.Nat.{ℕ, _+_, _*_, _/_, _^_, _≤_, _<_}
+use native.Mathlib.Nat.{mul-le-mul, mul-comm, le-pred-of-lt, div-lt-iff-lt-mul}
+use native.Mathlib.Omega.{arith}
+use borrow.Author.Tests.{leb-true, eqb-true}
+use lib.Dec.{eqb, lit≤}
+use Rattle.rules.specs.declared.Head.{Head}
+use Rattle.rules.specs.Opening.{firstDay, intervalOk, dayTests, headTests, headOk, slotsPerDay, slotCount, limitOf}
+use Rattle.rules.proofs.Logic.{or-parts, passed}
+
+pub record Bounded (h : Head) : Type 0 where
+  pub interval-low : 5 ≤ h .interval
+  pub interval-high : h .interval ≤ 30
+  pub days-low : 1 ≤ h .days
+  pub days-high : h .days ≤ 400
+  pub last-day : firstDay h + h .days ≤ 36525
+  pub tolerance-high : h .tolerance ≤ 1000000
+  pub day-low : 48 ≤ slotsPerDay h
+  pub day-high : slotsPerDay h ≤ 288
+
+module _ (h : Head) where
+  -- the interval is 5, 15 or 30
+  lengths : intervalOk (h .interval) ≡ true → (5 ≤ h .interval) × (h .interval ≤ 30) × (48 ≤ slotsPerDay h) × (slotsPerDay h ≤ 288)
+  unfolding intervalOk slotsPerDay
+  lengths e =
+      ⊎-elim (λ x. of 5 x (lit≤ tt) (lit≤ tt) (lit≤ tt) (lit≤ tt))
+      (λ d. ⊎-elim (λ x. of 15 x (lit≤ tt) (lit≤ tt) (lit≤ tt) (lit≤ tt)) (λ x. of 30 x (lit≤ tt) (lit≤ tt) (lit≤ tt) (lit≤ tt)) (or-parts _ _ d))
+      (or-parts _ _ e)
+    where
+      of : (l : ℕ) → eqb (h .interval) l ≡ true → 5 ≤ l → l ≤ 30 → 48 ≤ 1440 / l → 1440 / l ≤ 288 → (5 ≤ h .interval) × (h .interval ≤ 30) × (48 ≤ 1440 / h .interval) × (1440 / h .interval ≤ 288)
+      of l x p q r s = rw (eqb-true (h .interval) l x) (p, q, r, s)
+
+  pub bounded : headOk h ≡ true → Bounded h
+  unfolding headOk
+  bounded e =
+      let l = lengths (passed (headTests h) e 0) in
+      let d = passed (headTests h) e 1 in
+      record {
+        interval-low = l .0;
+        interval-high = l .1;
+        days-low = leb-true _ _ (passed (dayTests h) d 1);
+        days-high = leb-true _ _ (passed (dayTests h) d 2);
+        last-day = leb-true _ _ (passed (dayTests h) d 3);
+        tolerance-high = leb-true _ _ (passed (headTests h) e 4);
+        day-low = l .2;
+        day-high = l .3;
+      }
+
+  -- N = n × D
+  pub count-product : slotCount h ≡ slotsPerDay h * h .days
+  unfolding slotCount
+  count-product = refl
+
+  -- at most 115,200 slots
+  pub count-high : Bounded h → slotCount h ≤ 115200
+  unfolding slotCount
+  count-high b = mul-le-mul (b .day-high) (b .days-high)
+
+  -- a good value is at most 35,000 Wh
+  pub limit-high : Bounded h → limitOf h * h .interval ≤ 2100000
+  unfolding limitOf
+  limit-high b = mul-le-mul (kinds (eqb (h .kind) 1)) (b .interval-high)
+    where
+      kinds : (k : Bool) → cond k 40000 70000 ≤ 70000
+      kinds true = lit≤ tt
+      kinds false = lit≤ tt
+
+-- a product of two 32-bit numbers fits 64 bits
+pub product : {a b : ℕ} → a < 2 ^ 32 → b < 2 ^ 32 → a * b < 2 ^ 64
+product {a} {b} p q = omega (arith, mul-le-mul (le-pred-of-lt p) (le-pred-of-lt q))
+
+-- the day of a slot
+pub day-below : (h : Head) → Bounded h → (at : ℕ) → at < slotCount h → at / slotsPerDay h < h .days
+unfolding slotCount
+day-below h b at p =
+    let q : 0 < slotsPerDay h = omega arith in
+    div-lt-iff-lt-mul q .1 (rw (mul-comm (h .days) (slotsPerDay h)) p)

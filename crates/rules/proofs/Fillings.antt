@@ -1,0 +1,43 @@
+-- What holds of all that the rules of filling can give holds of a filled slot, and so for a slot of a span.
+use mathlib.Core.Bool.{true, _&&_}
+use mathlib.Core.List.{List}
+use mathlib.Core.Logic.{⊎-elim}
+use mathlib.Core.Path.{_≡_}
+use Prim.Native.Nat.{ℕ, _+_}
+use lib.Dec.{eqb}
+use lib.ListN.{getD}
+use Rattle.rules.specs.declared.Head.{Head}
+use Rattle.rules.specs.declared.Outcome.{Outcome}
+use Rattle.rules.specs.declared.Quality.the-variants.{A, S}
+use Rattle.rules.specs.Opening.{Slots, Cells}
+use Rattle.rules.specs.Tests.{goodAt}
+use Rattle.rules.specs.Filling.{isOutageZero, isLinear, linearValue, references, fromReferences, filledAt}
+use Rattle.rules.specs.Spans.{isS, filled, stateOf, newValue, inSpan}
+use Rattle.rules.proofs.Logic.{and-parts, either}
+
+module _ (P : Outcome → Type 0) where
+  -- a slot before its span is scaled
+  pub filled-by : (h : Head) (s : Slots) (holidays : List ℕ) (i : ℕ)
+      → (goodAt h s i ≡ true → P (record { value = getD (s .values) i 0; quality = A; method = 0 }))
+      → P (record { value = 0; quality = A; method = 1 })
+      → (isLinear h s i ≡ true → P (record { value = linearValue s i; quality = S; method = 2 }))
+      → P (fromReferences (references h s holidays i))
+      → P (filledAt h s holidays i)
+  unfolding filledAt
+  filled-by h s holidays i good outage linear rest =
+      ⊎-elim (λ e. rw e (good e)) (λ e. rw e (
+      ⊎-elim (λ f. rw f outage) (λ f. rw f (
+      ⊎-elim (λ g. rw g (linear g)) (λ g. rw g rest)
+      (either (isLinear h s i))))
+      (either (isOutageZero h s i))))
+      (either (goodAt h s i))
+
+  -- a slot of a span
+  pub spanned-by : (h : Head) (b : Cells) (first last i : ℕ)
+      → (isS (filled h b first last i .quality) ≡ true → P (record { value = newValue h b first last i; quality = S; method = filled h b first last i .method + 16 }))
+      → P (filled h b first last i)
+      → P (inSpan h b first last i)
+  unfolding inSpan
+  spanned-by h b first last i scaled kept =
+      ⊎-elim (λ t. rw t (scaled (and-parts _ _ t .0))) (λ t. rw t kept)
+      (either (isS (filled h b first last i .quality) && eqb (stateOf h b first last) 1))

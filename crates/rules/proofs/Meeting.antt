@@ -1,0 +1,59 @@
+-- The sums of a span's slots give its outcome and the scaling before its first slot.
+use mathlib.Core.Bool.{Bool, true, false, cond}
+use mathlib.Core.List.{List}
+use mathlib.Core.Path.{_≡_, refl, _∙_}
+use Prim.Native.Nat.{ℕ, _-_, _*_, _≤_}
+use native.Mathlib.Nat.{sub-self}
+use borrow.Author.Tests.{leb-true, eq-eqb}
+use lib.Dec.{leb}
+use Rattle.rules.specs.declared.Head.{Head}
+use Rattle.rules.specs.declared.spans.Summary.{Summary}
+use Rattle.rules.specs.Lists.{sum}
+use Rattle.rules.specs.Opening.{Slots, Cells, slotsPerDay}
+use Rattle.rules.specs.Spans.{apart, stateBy, filled, start, slotsIn, R, actual, stateOf, T, allZero, e, E, P, spanOf, isS}
+use Rattle.rules.specs.Inner.Lent.{cells}
+use Rattle.rules.specs.Inner.Summaries.{summaryOf, scalingOf}
+use Rattle.rules.specs.Inner.Stretches.{scalingAt, spanStretch, stretchBy}
+use Rattle.rules.proofs.States.{stated}
+
+-- state 1 is given only where R ≥ V
+pub scaled-advance : (hole full : Bool) (r v t : ℕ) → stateBy hole full r v t ≡ 1 → v ≤ r
+unfolding stateBy
+scaled-advance hole full r v t z = leb-true v r (stated hole full (leb v r) (leb (apart r v) t) .scaled-has (eq-eqb _ _ z) .1)
+
+module _ (h : Head) (b : Cells) (first last : ℕ) where
+  -- the sums of the span's slots
+  abbrev whole : Summary
+  whole = summaryOf h (b .slots) (b .holidays) (start h b first last) (slotsIn h b first last)
+
+  shape : (ones : Bool) → sum (λ i. cond (isS (filled h b first last i .quality)) (cond ones 1 (filled h b first last i .value)) 0) (start h b first last) (slotsIn h b first last) ≡ cond ones (whole .count) (whole .substituted)
+  unfolding summaryOf
+  shape true = refl
+  shape false = refl
+
+  scaling-first : scalingOf whole (R h b first last) ≡ scalingAt h b first last (start h b first last)
+  unfolding scalingOf T actual allZero E e P summaryOf sum
+  scaling-first = rw (sub-self, shape (allZero h b first last))
+
+  module _ (m : Summary) (r state : ℕ) (p : m ≡ whole) (q : r ≡ R h b first last) (s : state ≡ stateBy (m .hole) (m .filled) r (m .actual) (h .tolerance)) where
+    state-found : state ≡ stateOf h b first last
+    unfolding stateOf actual summaryOf
+    state-found = s ∙ (rw (p, q))
+
+    pub meet-span : record { first = first; last = last; advance = r; state = state } ≡ spanOf h b first last
+    unfolding spanOf
+    meet-span = rw (state-found, q)
+
+    pub meet-stretch : stretchBy (last * slotsPerDay h) state m r ≡ spanStretch h b first last (start h b first last)
+    unfolding stretchBy spanStretch
+    meet-stretch = rw (state-found, p, q, scaling-first)
+
+-- a span's figures rest on no register version
+module _ (h : Head) (s : Slots) (holidays readings v w : List ℕ) (first last : ℕ) where
+  pub span-versions : spanOf h (cells s holidays readings v) first last ≡ spanOf h (cells s holidays readings w) first last
+  unfolding spanOf R stateOf actual start slotsIn
+  span-versions = refl
+
+  pub stretch-versions : (i : ℕ) → spanStretch h (cells s holidays readings v) first last i ≡ spanStretch h (cells s holidays readings w) first last i
+  unfolding spanStretch R stateOf actual start slotsIn T E allZero e P
+  stretch-versions i = refl

@@ -1,0 +1,92 @@
+-- A filled value is at most 35,000 Wh.
+use mathlib.Core.Bool.{Bool, true, false, cond, false≢true}
+use mathlib.Core.List.{List, [], _∷_}
+use mathlib.Core.Logic.{⊎-elim}
+use mathlib.Core.Path.{_≡_, refl}
+use Prim.Native.Nat.{ℕ, zero, suc, _+_, _-_, _*_, _≤_, _<_, zero-le}
+use native.Mathlib.Nat.{div-le-of-le-mul}
+use native.Mathlib.Omega.{arith}
+use borrow.Author.Tests.{leb-true, ltb-true, ltb-false}
+use lib.Dec.{ltb, eqb}
+use lib.ListN.{length, getD, take}
+use Rattle.rules.specs.declared.Head.{Head}
+use Rattle.rules.specs.declared.tests.Cause.the-variants.{Nothing, Gap, TimeChange, Partial, Demand}
+use Rattle.rules.specs.Opening.{Slots, limitOf, slotCount}
+use Rattle.rules.specs.Tests.{isGood, timeChangeBit, partialBit, causeOf, causeAt, goodAt}
+use Rattle.rules.specs.Filling.{isReference, slotsPerWeek, weeksBack, references, total, meanOf, isLinear, linearValue, fromReferences, filledAt}
+use Rattle.rules.proofs.Logic.{and-parts, either}
+use Rattle.rules.proofs.Bounds.{Bounded, limit-high}
+use Rattle.rules.proofs.Fillings.{filled-by}
+
+-- only the last test can leave a slot good
+last-test : (a b c d : Bool) → isGood (cond a Gap (cond b TimeChange (cond c Partial (cond d Demand Nothing)))) ≡ true → d ≡ false
+last-test true b c d e = absurd (false≢true e)
+last-test false true c d e = absurd (false≢true e)
+last-test false false true d e = absurd (false≢true e)
+last-test false false false true e = absurd (false≢true e)
+last-test false false false false e = refl
+
+-- what `isLinear` tells
+pub linear-tells : (h : Head) (s : Slots) (i : ℕ) → isLinear h s i ≡ true
+    → (1 ≤ i) × (i + 1 < slotCount h) × (goodAt h s (i - 1) ≡ true) × (goodAt h s (i + 1) ≡ true)
+unfolding isLinear
+linear-tells h s i e =
+    let p = and-parts _ _ e in
+    let q = and-parts _ _ (p .0) in
+    let r = and-parts _ _ (q .0) in
+    (leb-true _ _ (r .0), ltb-true _ _ (r .1), q .1, p .1)
+
+-- every value of a list is small
+abbrev small : List ℕ → Type 0
+small [] = Unit {0}
+small (x ∷ xs) = (x ≤ 35000) × small xs
+
+small-take : (n : ℕ) (xs : List ℕ) → small xs → small (take n xs)
+small-take zero xs p = tt
+small-take (suc n) [] p = tt
+small-take (suc n) (x ∷ xs) p = (p .0, small-take n xs (p .1))
+
+small-total : (xs : List ℕ) → small xs → total xs ≤ length xs * 35000
+unfolding total
+small-total [] p = zero-le
+small-total (x ∷ xs) p = omega (arith, small-total xs (p .1), p .0)
+
+module _ (h : Head) (b : Bounded h) (s : Slots) where
+  pub good-small : (i : ℕ) → goodAt h s i ≡ true → getD (s .values) i 0 ≤ 35000
+  unfolding goodAt causeAt causeOf
+  good-small i e =
+      let x = getD (s .statuses) i 0 in
+      let p : getD (s .values) i 0 * 60 ≤ limitOf h * h .interval =
+      ltb-false _ _ (last-test (eqb (getD (s .versions) i 0) 0) (timeChangeBit x) (partialBit x) _ e) in
+      omega (arith, limit-high h b)
+
+  half-small : (i : ℕ) → isLinear h s i ≡ true → linearValue s i ≤ 35000
+  unfolding linearValue
+  half-small i e =
+      let l = linear-tells h s i e in
+      omega (arith, good-small (i - 1) (l .2), good-small (i + 1) (l .3))
+
+  module _ (holidays : List ℕ) where
+    reference-small : (j : ℕ) → isReference h s holidays j ≡ true → getD (s .values) j 0 ≤ 35000
+    unfolding isReference
+    reference-small j e = good-small j (and-parts _ _ (and-parts _ _ e .0) .0)
+
+    weeks-small : (k j : ℕ) → small (weeksBack h s holidays j k)
+    unfolding weeksBack
+    weeks-small zero j = tt
+    weeks-small (suc k) j =
+        let r = weeks-small k (j - slotsPerWeek h) in
+        ⊎-elim (λ e. rw e tt) (λ e. rw e (
+        ⊎-elim (λ f. rw f (reference-small (j - slotsPerWeek h) f, r)) (λ f. rw f r)
+        (either (isReference h s holidays (j - slotsPerWeek h)))))
+        (either (ltb j (slotsPerWeek h)))
+
+    mean-small : (xs : List ℕ) → small xs → fromReferences xs .value ≤ 35000
+    unfolding fromReferences meanOf
+    mean-small xs p = ⊎-elim (λ e. rw e zero-le) (λ e. rw e (div-le-of-le-mul (length xs) (small-total xs p))) (either (eqb (length xs) 0))
+
+    pub filled-small : (i : ℕ) → filledAt h s holidays i .value ≤ 35000
+    unfolding references
+    filled-small i =
+        filled-by (λ o. o .value ≤ 35000) h s holidays i (good-small i) zero-le (half-small i)
+        (mean-small (take 4 (weeksBack h s holidays i 52)) (small-take 4 (weeksBack h s holidays i 52) (weeks-small 52 i)))

@@ -1,0 +1,167 @@
+-- One slot of the pass: its outcome in the stretch that it lies in, and the stretch that is carried on.
+use mathlib.Core.Bool.{Bool, true, false, cond, and-true, and-false, false≢true}
+use mathlib.Core.Option.{Option, none, some}
+use mathlib.Core.Path.{_≡_, refl, sym, ap, _∙_}
+use Prim.Native.Nat.{ℕ, suc, _+_, _-_, _*_, _/_, _≤_, _<_}
+use native.Mathlib.Nat.{le-div-iff-mul-le, div-lt-iff-lt-mul, add-zero}
+use native.Mathlib.Numerals.{add-one}
+use native.Mathlib.Omega.{arith}
+use lib.Dec.{eqb, lit≤}
+use Rattle.rules.specs.declared.Head.{Head}
+use Rattle.rules.specs.declared.Outcome.{Outcome}
+use Rattle.rules.specs.declared.Quality.the-variants.{S}
+use Rattle.rules.specs.declared.stretch.Stretch.{Stretch}
+use Rattle.rules.specs.Opening.{Cells, slotsPerDay, slotCount}
+use Rattle.rules.specs.Filling.{filledAt}
+use Rattle.rules.specs.Spans.{isS, lastRead, nextRead, filled, start, slotsIn, stateOf, T, allZero, e, E, C, P, newValue, inSpan, between, outcomeAt}
+use Rattle.rules.specs.Inner.Summaries.{weightOf, scaledBy, Scales}
+use Rattle.rules.specs.Inner.Stretches.{unscaledTo, scalingAt, spanStretch, stretchOf, stretchOn, stretchAt, carriedAt, fitOutcome, fitNext}
+use Rattle.rules.proofs.Bounds.{Bounded, count-high}
+use Rattle.rules.proofs.Boundaries.{last-tells, next-tells}
+use Rattle.rules.proofs.Places.{span-end, slots-within}
+use Rattle.rules.proofs.Outcomes.{advance-low}
+use Rattle.rules.proofs.Scaling.{running, shape-positive}
+use Rattle.rules.proofs.Small.{filled-small}
+use Rattle.rules.proofs.Summaries.{sum-small, cond-small}
+use Rattle.rules.proofs.Sums.{sum-grows, any-some}
+
+-- the outcome of slot i of a scaled span
+abbrev newly : Head → Cells → ℕ → ℕ → ℕ → Outcome
+newly h b first last i =
+    cond (isS (filled h b first last i .quality))
+    (record { value = newValue h b first last i; quality = S; method = filled h b first last i .method + 16 })
+    (filled h b first last i)
+
+-- such a span before slot i
+abbrev within : Head → Cells → ℕ → ℕ → ℕ → Stretch
+within h b first last i = record { until = last * slotsPerDay h; scaled = true; by = scalingAt h b first last i }
+
+-- slot i in an unscaled stretch or in a scaled span: the stretch before it, its outcome, the stretch behind it
+data Slot (h : Head) (b : Cells) (i : ℕ) : Stretch → Outcome → Stretch → Type 0 where
+  unscaled : (until : ℕ) → Slot h b i (unscaledTo until) (filledAt h (b .slots) (b .holidays) i) (unscaledTo until)
+  scaled : (first last : ℕ) → start h b first last ≤ i → i < start h b first last + slotsIn h b first last → first ≤ last → last ≤ h .days
+      → Slot h b i (within h b first last i)
+      (newly h b first last i)
+      (within h b first last (suc i))
+
+module _ (h : Head) (w : Bounded h) (b : Cells) (i : ℕ) where
+  in-span : (first last : ℕ) → start h b first last ≤ i → i < start h b first last + slotsIn h b first last → first ≤ last → last ≤ h .days
+      → Slot h b i (spanStretch h b first last i) (inSpan h b first last i) (spanStretch h b first last (suc i))
+  unfolding spanStretch inSpan
+  in-span first last l m j k = go (eqb (stateOf h b first last) 1) refl
+    where
+      go : (t : Bool) → eqb (stateOf h b first last) 1 ≡ t → Slot h b i (spanStretch h b first last i) (inSpan h b first last i) (spanStretch h b first last (suc i))
+      go true t = rw (t, and-true) (scaled first last l m j k)
+      go false t = rw (t, and-false) (unscaled (last * slotsPerDay h))
+
+  -- the day of slot i
+  abbrev d : ℕ
+  d = i / slotsPerDay h
+
+  slot : Slot h b i (stretchAt h b i) (outcomeAt h b i) (carriedAt h b (suc i))
+  unfolding stretchAt stretchOn stretchOf carriedAt outcomeAt between start
+  slot = go (lastRead (b .readVersions) d) (nextRead (b .readVersions) (d + 1) (h .days - d)) refl refl
+    where
+      go : (f l : Option ℕ) → lastRead (b .readVersions) d ≡ f → nextRead (b .readVersions) (d + 1) (h .days - d) ≡ l
+          → Slot h b i (stretchOf h b f l i) (between h b f l i) (stretchOf h b f l (suc i))
+      go (some first) (some last) p q =
+          let f = last-tells (b .readVersions) d first p in
+          let g = next-tells (b .readVersions) (h .days - d) (d + 1) last q in
+          let n : 0 < slotsPerDay h = omega (arith, w .day-low) in
+          let m : i < last * slotsPerDay h = div-lt-iff-lt-mul n .0 (omega (arith, g .low)) in
+          let k : first ≤ last = omega (arith, f .low, g .low) in
+          in-span first last (le-div-iff-mul-le n .0 (f .low)) (rw (span-end h b first last k) m) k (omega (arith, g .low, g .high))
+      go (some first) none p q = unscaled (slotCount h)
+      go none (some last) p q = unscaled (last * slotsPerDay h)
+      go none none p q = unscaled (slotCount h)
+
+  -- in a scaled span
+  module _ (first last : ℕ) (l : start h b first last ≤ i) where
+    abbrev o : Outcome
+    o = filled h b first last i
+
+    -- P of the next slot
+    passed : P h b first last (suc i) ≡ P h b first last i + e h b first last i
+    unfolding P C
+    passed = rw add-one at (running h b first last i l)
+
+    weight : isS (o .quality) ≡ true → e h b first last i ≡ weightOf (allZero h b first last) (o .value)
+    unfolding e weightOf
+    weight q = rw q
+
+    weightless : isS (o .quality) ≡ false → e h b first last i ≡ 0
+    unfolding e
+    weightless q = rw q
+
+    new-value : isS (o .quality) ≡ true → scaledBy (o .value) (scalingAt h b first last i) .value ≡ newValue h b first last i
+    unfolding scaledBy newValue
+    new-value q = rw (← weight q, ← running h b first last i l)
+
+    scaling-on : isS (o .quality) ≡ true → scaledBy (o .value) (scalingAt h b first last i) .next ≡ scalingAt h b first last (suc i)
+    unfolding scaledBy
+    scaling-on q = rw (← weight q, passed)
+
+    scaling-kept : isS (o .quality) ≡ false → scalingAt h b first last i ≡ scalingAt h b first last (suc i)
+    scaling-kept q = rw (passed, weightless q, add-zero)
+
+  fit-outcome : {before after : Stretch} {x : Outcome} → Slot h b i before x after → fitOutcome (filledAt h (b .slots) (b .holidays) i) before ≡ x
+  unfolding fitOutcome
+  fit-outcome (unscaled until) = refl
+  fit-outcome (scaled first last l m j k) = go (isS (filled h b first last i .quality)) refl
+    where
+      go : (q : Bool) → isS (filled h b first last i .quality) ≡ q → fitOutcome (filled h b first last i) (within h b first last i) ≡ newly h b first last i
+      go true q = rw (q, new-value first last l q)
+      go false q = rw q
+
+  fit-next : {before after : Stretch} {x : Outcome} → Slot h b i before x after → fitNext (filledAt h (b .slots) (b .holidays) i) before ≡ after
+  unfolding fitNext
+  fit-next (unscaled until) = refl
+  fit-next (scaled first last l m j k) = go (isS (filled h b first last i .quality)) refl
+    where
+      go : (q : Bool) → isS (filled h b first last i .quality) ≡ q → fitNext (filled h b first last i) (within h b first last i) ≡ within h b first last (suc i)
+      go true q = rw (q, scaling-on first last l q)
+      go false q = rw (q, scaling-kept first last l q)
+
+  module _ (first last : ℕ) where
+    e-small : (j : ℕ) → e h b first last j ≤ 35000
+    unfolding e
+    e-small j = cond-small (isS (filled h b first last j .quality)) _ _ (go (allZero h b first last))
+      where
+        go : (z : Bool) → cond z 1 (filled h b first last j .value) ≤ 35000
+        go true = lit≤ tt
+        go false = filled-small h w (b .slots) (b .holidays) j
+
+    -- E fits, and with it the running sums
+    shape-high : first ≤ last → last ≤ h .days → E h b first last ≤ 4032000000
+    unfolding E start slotsIn
+    shape-high l m =
+        omega (arith, sum-small (e h b first last) 35000 e-small (start h b first last) (slotsIn h b first last), slots-within h first last l m, count-high h w)
+
+    room : start h b first last ≤ i → i < start h b first last + slotsIn h b first last → isS (filled h b first last i .quality) ≡ true
+        → P h b first last i + weightOf (allZero h b first last) (filled h b first last i .value) ≤ E h b first last
+    unfolding C E
+    room l m q =
+        rw (← weight first last l q, ← running h b first last i l)
+        (sum-grows (e h b first last) (start h b first last) {j = i + 1 - start h b first last} {k = slotsIn h b first last} (omega arith))
+
+  scales : {before after : Stretch} {x : Outcome} → Slot h b i before x after → before .scaled ≡ true → isS (filledAt h (b .slots) (b .holidays) i .quality) ≡ true
+      → Scales (filledAt h (b .slots) (b .holidays) i .value) (before .by)
+  unfolding T
+  scales (unscaled until) t q = absurd (false≢true t)
+  scales (scaled first last l m j k) t q =
+      record {
+        t-low = omega (arith, advance-low h b first last);
+        room = room first last l m q;
+        whole-high = shape-high first last j k;
+        whole-low = shape-positive h b first last (any-some (λ j. isS (filled h b first last j .quality)) (start h b first last) (slotsIn h b first last) i l m q);
+      }
+
+  -- slot i itself
+  pub step-outcome : fitOutcome (filledAt h (b .slots) (b .holidays) i) (stretchAt h b i) ≡ outcomeAt h b i
+  step-outcome = fit-outcome slot
+
+  pub step-next : fitNext (filledAt h (b .slots) (b .holidays) i) (stretchAt h b i) ≡ carriedAt h b (i + 1)
+  step-next = fit-next slot ∙ ap (carriedAt h b) (sym (add-one i))
+
+  pub step-scales : stretchAt h b i .scaled ≡ true → isS (filledAt h (b .slots) (b .holidays) i .quality) ≡ true → Scales (filledAt h (b .slots) (b .holidays) i .value) (stretchAt h b i .by)
+  step-scales = scales slot

@@ -1,0 +1,69 @@
+-- The sums of a stretch of slots, slot by slot, and that they fit.
+use mathlib.Core.Bool.{Bool, true, false, cond, or-false, or-true}
+use mathlib.Core.List.{List}
+use mathlib.Core.Path.{_≡_, refl, sym, ap, _∙_}
+use Prim.Native.Nat.{ℕ, zero, suc, _+_, _*_, _≤_, zero-le}
+use native.Mathlib.Nat.{add-zero, add-le-add, suc-mul}
+use native.Mathlib.Numerals.{add-one}
+use lib.Dec.{lit≤}
+use Rattle.rules.specs.declared.Head.{Head}
+use Rattle.rules.specs.declared.Outcome.{Outcome}
+use Rattle.rules.specs.declared.Quality.{Quality}
+use Rattle.rules.specs.declared.Quality.the-variants.{A, S, N}
+use Rattle.rules.specs.declared.spans.Summary.{Summary}
+use Rattle.rules.specs.Lists.{sum, any}
+use Rattle.rules.specs.Opening.{Slots}
+use Rattle.rules.specs.Filling.{filledAt}
+use Rattle.rules.specs.Spans.{isA, isS}
+use Rattle.rules.specs.Inner.Summaries.{summaryOf, addedTo}
+use Rattle.rules.proofs.Bounds.{Bounded}
+use Rattle.rules.proofs.Small.{filled-small}
+
+-- a sum of small terms
+pub sum-small : (f : ℕ → ℕ) (m : ℕ) → ((i : ℕ) → f i ≤ m) → (a k : ℕ) → sum f a k ≤ k * m
+unfolding sum
+sum-small f m p a zero = zero-le
+sum-small f m p a (suc k) = rw (suc-mul k m) (add-le-add (sum-small f m p a k) (p (a + k)))
+
+pub cond-small : (t : Bool) (x m : ℕ) → x ≤ m → cond t x 0 ≤ m
+cond-small true x m p = p
+cond-small false x m p = zero-le
+
+module _ (h : Head) (s : Slots) (holidays : List ℕ) (a k : ℕ) where
+  pub summary-next : summaryOf h s holidays a (k + 1) ≡ addedTo (summaryOf h s holidays a k) (filledAt h s holidays (a + k))
+  unfolding summaryOf addedTo sum any
+  summary-next = rw add-one
+
+  pub count-small : summaryOf h s holidays a k .count ≤ k * 1
+  unfolding summaryOf
+  count-small = sum-small _ 1 (λ i. cond-small (isS (filledAt h s holidays i .quality)) 1 1 (lit≤ tt)) a k
+
+  module _ (b : Bounded h) where
+    pub actual-small : summaryOf h s holidays a k .actual ≤ k * 35000
+    unfolding summaryOf
+    actual-small = sum-small _ 35000 (λ i. cond-small (isA (filledAt h s holidays i .quality)) _ _ (filled-small h b s holidays i)) a k
+
+    pub substituted-small : summaryOf h s holidays a k .substituted ≤ k * 35000
+    unfolding summaryOf
+    substituted-small = sum-small _ 35000 (λ i. cond-small (isS (filledAt h s holidays i .quality)) _ _ (filled-small h b s holidays i)) a k
+
+-- `spans::add` goes by the slot's quality
+module _ (m : Summary) (o : Outcome) where
+  with : Quality → Outcome
+  with q = record { value = o .value; quality = q; method = o .method }
+
+  added : (q : Quality) → o .quality ≡ q → addedTo m (with q) ≡ addedTo m o
+  unfolding with
+  added q e = ap (λ (x : Quality). addedTo m (with x)) (sym e)
+
+  pub added-actual : o .quality ≡ A → record { actual = m .actual + o .value; substituted = m .substituted; count = m .count; hole = m .hole; filled = m .filled } ≡ addedTo m o
+  unfolding addedTo with
+  added-actual e = simp (add-zero, or-false) refl ∙ added A e
+
+  pub added-substituted : o .quality ≡ S → record { actual = m .actual; substituted = m .substituted + o .value; count = m .count + 1; hole = m .hole; filled = true } ≡ addedTo m o
+  unfolding addedTo with
+  added-substituted e = simp (add-zero, or-false, or-true) refl ∙ added S e
+
+  pub added-none : o .quality ≡ N → record { actual = m .actual; substituted = m .substituted; count = m .count; hole = true; filled = m .filled } ≡ addedTo m o
+  unfolding addedTo with
+  added-none e = simp (add-zero, or-false, or-true) refl ∙ added N e

@@ -1,0 +1,103 @@
+-- `filling::find_references`. The loop's invariant is `Searching`; its measure is the weeks left.
+use mathlib.Core.Path.{sym, _∙_}
+use native.Mathlib.Omega.{arith}
+use borrow.Author.Needs.{needs}
+use Rattle.rules.specs.Inner.Lent.{slots}
+use Rattle.rules.specs.Filling.{slotsPerWeek}
+use Rattle.rules.proofs.Bounds.{bounded, count-high}
+use Rattle.rules.proofs.References.{Searching, search-starts, search-spent, search-out, search-passed, search-found, search-ended}
+use Rattle.rules.proofs.filling.find_references.Statement.{statement}
+use Rattle.rules.proofs.filling.find_references.Tie as tie
+
+abbrev Inv-weeks : tie.InvT-weeks
+Inv-weeks head values versions statuses holidays slot week found₀ count₀ at₀ weeks₀ found count at weeks =
+    Searching head (slots values versions statuses) holidays slot week found count at weeks
+
+abbrev μ-weeks : tie.MeasureT-weeks
+μ-weeks head values versions statuses holidays slot week found₀ count₀ at₀ weeks₀ found count at weeks =
+    weeks
+
+slots-per-day-requires : tie.Need-slots-per-day-requires Inv-weeks μ-weeks
+slots-per-day-requires c κs = search needs
+
+mul-week : tie.Need-mul-week Inv-weeks μ-weeks
+mul-week c =
+    let h = c .before .before .before .before .before .args .head in
+    rw (c .slots-per-day .ensures) (omega (arith, bounded h (c .before .before .before .before .before .pre .0 .fitted .head)))
+
+weeks-holds : tie.Need-weeks-holds Inv-weeks μ-weeks
+unfolding slotsPerWeek
+weeks-holds c = search-starts _ _ _ _ _ (rw (c .slots-per-day .ensures))
+
+sub-weeks : tie.Need-sub-weeks Inv-weeks μ-weeks
+sub-weeks c = omega arith
+
+is-reference-requires : tie.Need-is-reference-requires Inv-weeks μ-weeks
+is-reference-requires c κs = (c .before .before .before .before .before .before .before .before .pre .0, omega arith)
+
+mul-found : tie.Need-mul-found Inv-weeks μ-weeks
+mul-found c =
+    let a = c .before .before .before .before .before .before .before .before .before .before in
+    omega (arith, count-high (a .args .head) (bounded (a .args .head) (a .pre .0 .fitted .head)), a .pre .1, c .before .before .before .before .weeks .inv .near)
+
+shared-slice-read-found : tie.Need-shared-slice-read-found Inv-weeks μ-weeks
+shared-slice-read-found c = omega arith
+
+mul-found-2 : tie.Need-mul-found-2 Inv-weeks μ-weeks
+mul-found-2 c = omega arith
+
+array-write-found : tie.Need-array-write-found Inv-weeks μ-weeks
+array-write-found c = omega arith
+
+add-count : tie.Need-add-count Inv-weeks μ-weeks
+add-count c = omega arith
+
+weeks-less : tie.Need-weeks-less Inv-weeks μ-weeks
+weeks-less c = omega arith
+
+weeks-again : tie.Need-weeks-again Inv-weeks μ-weeks
+weeks-again c =
+    search-found _ _ _ _ _ (c .before .before .before .before .before .before .weeks .inv) (c .before .before .before .before .before .weeks-test .left) (c .before .before .before .before .if1 .left) (sym (c .before .before .before .is-reference .ensures) ∙ c .before .before .if2 .taken) (c .if3 .left)
+
+weeks-less-2 : tie.Need-weeks-less-2 Inv-weeks μ-weeks
+weeks-less-2 c = omega arith
+
+weeks-again-2 : tie.Need-weeks-again-2 Inv-weeks μ-weeks
+weeks-again-2 c =
+    search-passed _ _ _ _ _ (c .before .before .before .before .weeks .inv) (c .before .before .before .weeks-test .left) (c .before .before .if1 .left) (sym (c .before .is-reference .ensures) ∙ c .if2 .left)
+
+returns : tie.Need-returns Inv-weeks μ-weeks
+returns c = (omega arith, search-spent _ _ _ _ _ (c .before .weeks .inv) (c .weeks-test .taken))
+
+returns-2 : tie.Need-returns-2 Inv-weeks μ-weeks
+returns-2 c = (omega arith, search-out _ _ _ _ _ (c .before .before .weeks .inv) (c .if1 .taken))
+
+returns-3 : tie.Need-returns-3 Inv-weeks μ-weeks
+returns-3 c = (
+  omega arith,
+  search-ended _ _ _ _ _ (c .before .before .before .before .before .before .weeks .inv) (c .before .before .before .before .before .weeks-test .left) (c .before .before .before .before .if1 .left) (sym (c .before .before .before .is-reference .ensures) ∙ c .before .before .if2 .taken) (c .if3 .taken),
+)
+
+pub find-references-spec : {M : Type 1} → statement M
+find-references-spec =
+    tie.close
+    (tie.spec
+    Inv-weeks
+    μ-weeks
+    slots-per-day-requires
+    mul-week
+    weeks-holds
+    sub-weeks
+    is-reference-requires
+    mul-found
+    shared-slice-read-found
+    mul-found-2
+    array-write-found
+    add-count
+    weeks-less
+    weeks-again
+    weeks-less-2
+    weeks-again-2
+    returns
+    returns-2
+    returns-3)

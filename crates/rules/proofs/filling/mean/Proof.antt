@@ -1,0 +1,86 @@
+-- `filling::mean`. The loop's sum is the total of the values passed.
+use mathlib.Core.Path.{_≡_}
+use Prim.Native.Nat.{_≤_, _<_, _*_, _-_}
+use native.Mathlib.Nat.{div-lt-iff-lt-mul}
+use mir.Val.{Fits}
+use mir.Syntax.{w32}
+use native.Mathlib.Omega.{arith}
+use borrow.Author.Needs.{needs}
+use lib.ListN.{length, take, getD}
+use lib.Seq.{length-take-le}
+use Rattle.rules.specs.Filling.{total, meanOf}
+use Rattle.rules.proofs.References.{total-next}
+use Rattle.rules.proofs.filling.mean.Statement.{statement}
+use Rattle.rules.proofs.filling.mean.Tie as tie
+
+abbrev Inv-loop : tie.InvT-loop
+Inv-loop values count sum₀ i₀ sum i = (i ≤ count) × (sum ≡ total (take i values)) × (sum ≤ i * 4294967295)
+
+abbrev μ-loop : tie.MeasureT-loop
+μ-loop values count sum₀ i₀ sum i = count - i
+
+loop-holds : tie.Need-loop-holds Inv-loop μ-loop
+unfolding total
+loop-holds c = search needs
+
+mul-sum : tie.Need-mul-sum Inv-loop μ-loop
+mul-sum c = omega arith
+
+array-read-sum : tie.Need-array-read-sum Inv-loop μ-loop
+array-read-sum c = search needs
+
+cast-sum : tie.Need-cast-sum Inv-loop μ-loop
+cast-sum c = search needs
+
+add-sum : tie.Need-add-sum Inv-loop μ-loop
+add-sum c =
+    let e : Fits w32 (getD (c .before .before .before .args .found .values) (c .before .loop .i) 0) = search needs in
+    omega arith
+
+add-i : tie.Need-add-i Inv-loop μ-loop
+add-i c = search needs
+
+loop-less : tie.Need-loop-less Inv-loop μ-loop
+loop-less c = omega arith
+
+loop-again : tie.Need-loop-again Inv-loop μ-loop
+loop-again c =
+    let e : Fits w32 (getD (c .before .before .before .args .found .values) (c .before .loop .i) 0) = search needs in
+    (omega arith, total-next (c .before .before .before .args .found .values) (c .before .loop .i) _ (c .before .loop .inv .1), omega arith)
+
+div-result : tie.Need-div-result Inv-loop μ-loop
+div-result c = omega arith
+
+cast-result : tie.Need-cast-result Inv-loop μ-loop
+cast-result c =
+    let n = c .before .before .before .args .found .count in
+    let p : 0 < n = omega arith in
+    let e : c .before .loop .i ≡ n = omega arith in
+    record { fits = div-lt-iff-lt-mul p .1 (omega arith) }
+
+returns : tie.Need-returns Inv-loop μ-loop
+unfolding meanOf
+returns c =
+    let v = c .before .before .before .args .found .values in
+    let n = c .before .before .before .args .found .count in
+    let l : length v ≡ 4 = search needs in
+    let e : c .before .loop .i ≡ n = omega arith in
+    rw (length-take-le n v (omega arith), c .before .loop .inv .1, e)
+
+pub mean-spec : {M : Type 1} → statement M
+mean-spec =
+    tie.close
+    (tie.spec
+    Inv-loop
+    μ-loop
+    loop-holds
+    mul-sum
+    array-read-sum
+    cast-sum
+    add-sum
+    add-i
+    loop-less
+    loop-again
+    div-result
+    cast-result
+    returns)

@@ -1,0 +1,77 @@
+-- `fills::outage_after`. From slot j on the answer is that from the start.
+use mathlib.Core.Path.{_≡_, refl, sym, _∙_}
+use Prim.Native.Nat.{_≤_, _-_}
+use native.Mathlib.Omega.{arith}
+use borrow.Author.Needs.{needs}
+use lib.ListN.{length}
+use Rattle.rules.specs.Filling.{outageAfter}
+use Rattle.rules.proofs.Outages.{gap, delivered, after-end, after-gap, after-delivered}
+use Rattle.rules.proofs.fills.outage_after.Statement.{statement}
+use Rattle.rules.proofs.fills.outage_after.Tie as tie
+
+abbrev Inv-loop : tie.InvT-loop
+Inv-loop versions statuses start j₀ j =
+    (j ≤ length versions) × (outageAfter versions statuses start (length versions - start) ≡ outageAfter versions statuses j (length versions - j))
+
+abbrev μ-loop : tie.MeasureT-loop
+μ-loop versions statuses start j₀ j = length versions - j
+
+loop-holds : tie.Need-loop-holds Inv-loop μ-loop
+loop-holds c = (omega arith, refl)
+
+mul-if1 : tie.Need-mul-if1 Inv-loop μ-loop
+mul-if1 c = search needs
+
+shared-slice-read-if1 : tie.Need-shared-slice-read-if1 Inv-loop μ-loop
+shared-slice-read-if1 c = omega arith
+
+shared-slice-read-outage-bit : tie.Need-shared-slice-read-outage-bit Inv-loop μ-loop
+shared-slice-read-outage-bit c = omega arith
+
+outage-bit-requires : tie.Need-outage-bit-requires Inv-loop μ-loop
+outage-bit-requires c κs = search needs
+
+returns : tie.Need-returns Inv-loop μ-loop
+returns c =
+    let a = c .before .before .before .before .before .before .before .before .args in
+    let j = c .before .before .before .before .before .loop .j in
+    c .outage-bit .ensures
+    ∙ sym (after-delivered (a .versions .now) (a .statuses .now) (length (a .versions .now)) j (c .before .before .before .before .loop-test .taken) (delivered (a .versions .now) (a .statuses .now) j (c .before .before .if1 .taken)))
+    ∙ sym (c .before .before .before .before .before .loop .inv .1)
+
+add-j : tie.Need-add-j Inv-loop μ-loop
+add-j c = omega arith
+
+loop-less : tie.Need-loop-less Inv-loop μ-loop
+loop-less c = omega arith
+
+loop-again : tie.Need-loop-again Inv-loop μ-loop
+loop-again c =
+    let a = c .before .before .before .before .before .before .args in
+    let j = c .before .before .before .loop .j in (
+      omega arith,
+      c .before .before .before .loop .inv .1
+          ∙ after-gap (a .versions .now) (a .statuses .now) (length (a .versions .now)) j (c .before .before .loop-test .taken) (gap (a .versions .now) (a .statuses .now) j (c .if1 .left)),
+    )
+
+returns-2 : tie.Need-returns-2 Inv-loop μ-loop
+returns-2 c =
+    let a = c .before .before .before .before .args in
+    sym (c .before .loop .inv .1 ∙ after-end (a .versions .now) (a .statuses .now) (length (a .versions .now)) (c .before .loop .j) (c .loop-test .left))
+
+pub outage-after-spec : {M : Type 1} → statement M
+outage-after-spec =
+    tie.close
+    (tie.spec
+    Inv-loop
+    μ-loop
+    loop-holds
+    mul-if1
+    shared-slice-read-if1
+    shared-slice-read-outage-bit
+    outage-bit-requires
+    returns
+    add-j
+    loop-less
+    loop-again
+    returns-2)

@@ -1,0 +1,18 @@
+-- `pass::first` knows nothing before slot 0.
+use Rattle.rules.specs.Filling.{outageBefore}
+use Rattle.rules.specs.Inner.Fills.{afterAt, fillsAt}
+use Rattle.rules.specs.Inner.Stretches.{carriedAt}
+use Rattle.rules.specs.Inner.Passes.{passAt}
+use borrow.Author.Needs.{needs}
+use Rattle.rules.proofs.pass.first.Statement.{statement}
+use Rattle.rules.proofs.pass.first.Tie as tie
+
+unscaled-to-requires : tie.Need-unscaled-to-requires
+unscaled-to-requires c κs = search needs
+
+returns : tie.Need-returns
+unfolding passAt fillsAt carriedAt outageBefore afterAt
+returns c = λ h b. rw (c .unscaled-to .ensures)
+
+pub first-spec : {M : Type 1} → statement M
+first-spec = tie.close (tie.spec unscaled-to-requires returns)

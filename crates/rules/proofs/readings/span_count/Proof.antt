@@ -1,0 +1,70 @@
+-- `readings::span_count`. After d boundaries the count is that of the boundaries passed that have a reading.
+use borrow.Author.Needs.{needs}
+use mathlib.Core.Logic.{⊎-elim}
+use mathlib.Core.Path.{_≡_, sym, ap}
+use Prim.Native.Nat.{_-_, _≤_, zero-le}
+use native.Mathlib.Omega.{arith}
+use lib.ListN.{length}
+use Rattle.rules.specs.Inner.Stretches.{readCount}
+use Rattle.rules.proofs.Counts.{count-none, count-read, count-unread}
+use Rattle.rules.proofs.readings.span_count.Statement.{statement}
+use Rattle.rules.proofs.readings.span_count.Tie as tie
+
+abbrev Inv-loop : tie.InvT-loop
+Inv-loop reads count₀ d₀ count d = (d ≤ length reads) × (count ≤ d) × (count ≡ readCount reads d)
+
+abbrev μ-loop : tie.MeasureT-loop
+μ-loop reads count₀ d₀ count d = length reads - d
+
+loop-holds : tie.Need-loop-holds Inv-loop μ-loop
+loop-holds c = (zero-le, zero-le, sym (count-none (c .args .reads .now)))
+
+mul-if1 : tie.Need-mul-if1 Inv-loop μ-loop
+mul-if1 c = search needs
+
+shared-slice-read-if1 : tie.Need-shared-slice-read-if1 Inv-loop μ-loop
+shared-slice-read-if1 c = omega arith
+
+add-count : tie.Need-add-count Inv-loop μ-loop
+add-count c = omega arith
+
+add-d : tie.Need-add-d Inv-loop μ-loop
+add-d c = omega arith
+
+loop-less : tie.Need-loop-less Inv-loop μ-loop
+loop-less c = omega arith
+
+loop-again : tie.Need-loop-again Inv-loop μ-loop
+loop-again c = let r = c .before .before .before .before .args .reads .now in
+    let d = c .before .before .before .loop .d in
+    ⊎-elim (λ w. (omega arith, omega arith, omega (arith, count-read r d (w .0 .taken), c .before .before .before .loop .inv .2))) (λ w. (omega arith, omega arith, omega (arith, count-unread r d (w .0 .left), c .before .before .before .loop .inv .2))) (c .if1 .came)
+
+returns : tie.Need-returns Inv-loop μ-loop
+returns c = let r = c .before .before .before .args .reads .now in
+    let e : c .before .before .loop .d ≡ length r = omega arith in
+    omega (arith, c .before .before .loop .inv .2, ap (readCount r) e)
+
+sub-result : tie.Need-sub-result Inv-loop μ-loop
+sub-result c = omega arith
+
+returns-2 : tie.Need-returns-2 Inv-loop μ-loop
+returns-2 c = let r = c .before .before .before .args .reads .now in
+    let e : c .before .before .loop .d ≡ length r = omega arith in
+    omega (arith, c .before .before .loop .inv .2, ap (readCount r) e)
+
+pub span-count-spec : {M : Type 1} → statement M
+span-count-spec =
+    tie.close
+    (tie.spec
+    Inv-loop
+    μ-loop
+    loop-holds
+    mul-if1
+    shared-slice-read-if1
+    add-count
+    add-d
+    loop-less
+    loop-again
+    returns
+    sub-result
+    returns-2)

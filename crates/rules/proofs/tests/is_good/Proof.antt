@@ -1,0 +1,47 @@
+-- `tests::is_good` is the specification's `goodAt`.
+use borrow.Author.Needs.{needs}
+use Rattle.rules.specs.Tests.{goodAt, causeAt}
+use Rattle.rules.proofs.tests.is_good.Statement.{statement}
+use Rattle.rules.proofs.tests.is_good.Tie as tie
+
+limit-requires : tie.Need-limit-requires
+limit-requires c κs = search needs
+
+mul-cause-of : tie.Need-mul-cause-of
+mul-cause-of c = search needs
+
+shared-slice-read-cause-of : tie.Need-shared-slice-read-cause-of
+shared-slice-read-cause-of c = search needs
+
+mul-cause-of-2 : tie.Need-mul-cause-of-2
+mul-cause-of-2 c = search needs
+
+shared-slice-read-cause-of-2 : tie.Need-shared-slice-read-cause-of-2
+shared-slice-read-cause-of-2 c = search needs
+
+shared-slice-read-cause-of-3 : tie.Need-shared-slice-read-cause-of-3
+shared-slice-read-cause-of-3 c = search needs
+
+cause-of-requires : tie.Need-cause-of-requires
+cause-of-requires c κs = search needs
+
+is-nothing-requires : tie.Need-is-nothing-requires
+is-nothing-requires c κs = search needs
+
+returns : tie.Need-returns
+unfolding goodAt causeAt
+returns c = cc
+
+pub is-good-spec : {M : Type 1} → statement M
+is-good-spec =
+    tie.close
+    (tie.spec
+    limit-requires
+    mul-cause-of
+    shared-slice-read-cause-of
+    mul-cause-of-2
+    shared-slice-read-cause-of-2
+    shared-slice-read-cause-of-3
+    cause-of-requires
+    is-nothing-requires
+    returns)

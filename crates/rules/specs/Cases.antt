@@ -1,0 +1,65 @@
+-- 01's starred cases, as one table of tests. `proofs/Cases.antt` computes that every one passes.
+use mathlib.Core.Bool.{Bool, not, _&&_}
+use mathlib.Core.List.{List, [], _∷_}
+use Prim.Native.Nat.{ℕ}
+use lib.Dec.{eqb}
+use lib.ListN.{replicate}
+use Rattle.calendar.specs.Calendar.{dayNumber}
+use Rattle.rules.specs.declared.Head.{Head}
+use Rattle.rules.specs.Opening.{Cells, headOk}
+use Rattle.rules.specs.Tests.{goodAt}
+use Rattle.rules.specs.Filling.{linearValue, isReference, meanOf}
+use Rattle.rules.specs.Spans.{advance, outcomeAt}
+
+-- a head of interval 30, kind 1 and tolerance 0
+abbrev pub headOn : ℕ → ℕ → ℕ → ℕ → Head
+headOn year month day days =
+    record { year = year; month = month; day = day; days = days; interval = 30; kind = 1; tolerance = 0 }
+
+-- a delivery of this value with status 0 is good
+abbrev pub passes : ℕ → ℕ → ℕ → Bool
+passes kind interval value =
+    goodAt (record { year = 2024; month = 5; day = 1; days = 1; interval = interval; kind = kind; tolerance = 0 })
+    (record { values = value ∷ []; versions = 1 ∷ []; statuses = 0 ∷ [] }) 0
+
+-- a delivery of this value with this status is a reference
+abbrev pub refers : ℕ → ℕ → Bool
+refers value status =
+    isReference (headOn 2024 5 1 1) (record { values = value ∷ []; versions = 1 ∷ []; statuses = status ∷ [] }) (0 ∷ []) 0
+
+-- a day that begins with four deliveries of e and a gap between each two, and one of `rest` among zeros; the dial goes from 0 to 110
+abbrev pub day : ℕ → ℕ → Cells
+day e rest = record {
+  slots = record {
+    values = e ∷ 0 ∷ e ∷ 0 ∷ e ∷ 0 ∷ e ∷ rest ∷ replicate 40 0;
+    versions = 1 ∷ 0 ∷ 1 ∷ 0 ∷ 1 ∷ 0 ∷ replicate 42 1;
+    statuses = replicate 48 0;
+  };
+  holidays = 0 ∷ [];
+  readings = 0 ∷ 110 ∷ [];
+  readVersions = 1 ∷ 1 ∷ [];
+}
+
+-- the gaps get 3, 3 and 4
+abbrev pub scaled : Cells → Bool
+scaled b =
+    let value : ℕ → ℕ = λ i. outcomeAt (headOn 2024 5 1 1) b i .value in
+    eqb (value 1) 3 && eqb (value 3) 3 && eqb (value 5) 4
+
+unfoldable pub cases : List Bool
+cases =
+    passes 1 30 20000 ∷ not (passes 1 30 20001)
+    ∷ passes 1 5 3333 ∷ not (passes 1 5 3334)
+    ∷ passes 2 30 30000 ∷ not (passes 2 30 40000)
+    ∷ eqb (linearValue (record { values = 7 ∷ 0 ∷ 10 ∷ []; versions = []; statuses = [] }) 1) 8
+    ∷ refers 1045 0 ∷ not (refers 1078 4) ∷ not (refers 0 2)
+    ∷ eqb (meanOf (1045 ∷ 1089 ∷ [])) 1067
+    ∷ eqb (meanOf (2310 ∷ 1995 ∷ 2079 ∷ [])) 2128
+    ∷ eqb (advance 99999990 15) 25
+    ∷ scaled (day 1 96)
+    ∷ scaled (day 0 100)
+    ∷ eqb (dayNumber 2000 2 29) 59
+    ∷ not (headOk (headOn 2001 2 29 1))
+    ∷ headOk (headOn 2099 12 31 1)
+    ∷ not (headOk (headOn 2099 12 31 2))
+    ∷ []

@@ -1,0 +1,67 @@
+-- What one scan of a span's slots finds, and the scaling that follows from it.
+use mathlib.Core.Bool.{Bool, cond, _||_}
+use mathlib.Core.List.{List}
+use Prim.Native.Nat.{ℕ, _+_, _-_, _≤_, _<_}
+use lib.Dec.{eqb}
+use Rattle.rules.specs.declared.Head.{Head}
+use Rattle.rules.specs.declared.Outcome.{Outcome}
+use Rattle.rules.specs.declared.spans.Summary.{Summary}
+use Rattle.rules.specs.declared.spans.Scaling.{Scaling}
+use Rattle.rules.specs.declared.spans.Scaled.{Scaled}
+use Rattle.rules.specs.Lists.{sum, any}
+use Rattle.rules.specs.Opening.{Slots}
+use Rattle.rules.specs.Filling.{filledAt}
+use Rattle.rules.specs.Spans.{isS, isN, actualIn, substitutedIn, share}
+
+-- 1 for an S slot
+abbrev pub oneIn : Outcome → ℕ
+oneIn o = cond (isS (o .quality)) 1 0
+
+-- k slots from slot a
+unfoldable pub summaryOf : Head → Slots → List ℕ → ℕ → ℕ → Summary
+summaryOf h s holidays a k = record {
+  actual = sum (λ i. actualIn (filledAt h s holidays i)) a k;
+  substituted = sum (λ i. substitutedIn (filledAt h s holidays i)) a k;
+  count = sum (λ i. oneIn (filledAt h s holidays i)) a k;
+  hole = any (λ i. isN (filledAt h s holidays i .quality)) a k;
+  filled = any (λ i. isS (filledAt h s holidays i .quality)) a k;
+}
+
+-- one slot more
+unfoldable pub addedTo : Summary → Outcome → Summary
+addedTo m o = record {
+  actual = m .actual + actualIn o;
+  substituted = m .substituted + substitutedIn o;
+  count = m .count + oneIn o;
+  hole = m .hole || isN (o .quality);
+  filled = m .filled || isS (o .quality);
+}
+
+-- e of an S slot with this value
+unfoldable pub weightOf : Bool → ℕ → ℕ
+weightOf ones value = cond ones 1 value
+
+-- T, E and a P of 0 where the advance is r
+unfoldable pub scalingOf : Summary → ℕ → Scaling
+scalingOf m r = record {
+  t = r - m .actual;
+  whole = cond (eqb (m .substituted) 0) (m .count) (m .substituted);
+  ones = eqb (m .substituted) 0;
+  passed = 0;
+}
+
+-- an S slot with this value
+unfoldable pub scaledBy : ℕ → Scaling → Scaled
+scaledBy value by =
+    let c = by .passed + weightOf (by .ones) value in
+    record {
+      value = share (by .t) c (by .whole) - share (by .t) (by .passed) (by .whole);
+      next = record { t = by .t; whole = by .whole; ones = by .ones; passed = c };
+    }
+
+-- an S slot with this value can be scaled without a wrap
+pub record Scales (value : ℕ) (by : Scaling) : Type 0 where
+  pub t-low : by .t < 100000000
+  pub room : by .passed + weightOf (by .ones) value ≤ by .whole
+  pub whole-high : by .whole ≤ 4032000000
+  pub whole-low : 0 < by .whole

@@ -1,0 +1,7 @@
+pub mod Lists
+pub mod Opening
+pub mod Tests
+pub mod Filling
+pub mod Spans
+pub mod Inner
+pub mod Cases

@@ -1,0 +1,61 @@
+-- The head of a book, its slots and its cells (01, Opening).
+use mathlib.Core.Bool.{Bool, cond, _||_}
+use mathlib.Core.List.{List, [], _∷_}
+use Prim.Native.Nat.{ℕ, _+_, _*_, _/_}
+use lib.Dec.{leb, eqb}
+use Rattle.calendar.specs.Calendar.{dayNumber, isDate}
+use Rattle.rules.specs.declared.Head.{Head}
+use Rattle.rules.specs.Lists.{every}
+
+-- the day number of the first day
+unfoldable pub firstDay : Head → ℕ
+firstDay h = dayNumber (h .year) (h .month) (h .day)
+
+unfoldable pub intervalOk : ℕ → Bool
+intervalOk interval = eqb interval 5 || (eqb interval 15 || eqb interval 30)
+
+-- the last day is not after 2099-12-31, day 36,524
+abbrev pub dayTests : Head → List Bool
+dayTests h =
+    isDate (h .year) (h .month) (h .day)
+    ∷ leb 1 (h .days)
+    ∷ leb (h .days) 400
+    ∷ leb (firstDay h + h .days) 36525
+    ∷ []
+
+abbrev pub headTests : Head → List Bool
+headTests h =
+    intervalOk (h .interval)
+    ∷ every (dayTests h)
+    ∷ leb 1 (h .kind)
+    ∷ leb (h .kind) 2
+    ∷ leb (h .tolerance) 1000000
+    ∷ []
+
+unfoldable pub headOk : Head → Bool
+headOk h = every (headTests h)
+
+-- n: slots a day
+unfoldable pub slotsPerDay : Head → ℕ
+slotsPerDay h = 1440 / h .interval
+
+-- N = n × D: slots of the book
+unfoldable pub slotCount : Head → ℕ
+slotCount h = slotsPerDay h * h .days
+
+-- the demand limit in W: kind 1 is single phase, kind 2 three phase (000, 4.1a)
+unfoldable pub limitOf : Head → ℕ
+limitOf h = cond (eqb (h .kind) 1) 40000 70000
+
+-- the three lent lists of slots
+pub record Slots : Type 0 where
+  pub values : List ℕ
+  pub versions : List ℕ
+  pub statuses : List ℕ
+
+-- the six lent lists
+pub record Cells : Type 0 where
+  pub slots : Slots
+  pub holidays : List ℕ
+  pub readings : List ℕ
+  pub readVersions : List ℕ

@@ -1,0 +1,168 @@
+-- Spans, scaling to the dial, and outcomes (01, Spans).
+use mathlib.Core.Bool.{Bool, true, false, cond, not, _&&_, _||_}
+use mathlib.Core.List.{List, [], _∷_, _++_}
+use mathlib.Core.Option.{Option, none, some}
+use Prim.Native.Nat.{ℕ, zero, suc, _+_, _-_, _*_, _/_, _%_}
+use lib.Dec.{leb, eqb}
+use lib.ListN.{getD}
+use Rattle.rules.specs.declared.Head.{Head}
+use Rattle.rules.specs.declared.Outcome.{Outcome}
+use Rattle.rules.specs.declared.Quality.{Quality}
+use Rattle.rules.specs.declared.Quality.the-variants.{A, S, N}
+use Rattle.rules.specs.declared.Span.{Span}
+use Rattle.rules.specs.Lists.{sum, any}
+use Rattle.rules.specs.Opening.{Cells, slotsPerDay, slotCount}
+use Rattle.rules.specs.Filling.{filledAt}
+
+abbrev pub isA : Quality → Bool
+isA A = true
+isA S = false
+isA N = false
+
+abbrev pub isS : Quality → Bool
+isS A = false
+isS S = true
+isS N = false
+
+abbrev pub isN : Quality → Bool
+isN A = false
+isN S = false
+isN N = true
+
+-- the value of an A slot, and of an S slot
+abbrev pub actualIn : Outcome → ℕ
+actualIn o = cond (isA (o .quality)) (o .value) 0
+
+abbrev pub substitutedIn : Outcome → ℕ
+substitutedIn o = cond (isS (o .quality)) (o .value) 0
+
+-- the method of a scaled slot, 2 or 3 plus 16
+abbrev pub isScaled : ℕ → Bool
+isScaled method = eqb method 18 || eqb method 19
+
+-- a boundary whose register version isn't 0
+unfoldable pub isRead : List ℕ → ℕ → Bool
+isRead readVersions d = not (eqb (getD readVersions d 0) 0)
+
+-- the last such boundary up to d
+unfoldable pub lastRead : List ℕ → ℕ → Option ℕ
+lastRead readVersions zero = cond (isRead readVersions zero) (some zero) none
+lastRead readVersions (suc d) = cond (isRead readVersions (suc d)) (some (suc d)) (lastRead readVersions d)
+
+-- the first such boundary among the k from d
+unfoldable pub nextRead : List ℕ → ℕ → ℕ → Option ℕ
+nextRead readVersions d zero = none
+nextRead readVersions d (suc k) = cond (isRead readVersions d) (some d) (nextRead readVersions (suc d) k)
+
+-- (later reading − earlier reading) mod 100,000,000, for readings of an eight-digit dial
+unfoldable pub advance : ℕ → ℕ → ℕ
+advance earlier later = (later + 100000000 - earlier) % 100000000
+
+-- |r − v|
+unfoldable pub apart : ℕ → ℕ → ℕ
+apart r v = (r - v) + (v - r)
+
+-- 2 (open) if a slot is N; else, if a slot is S, 1 (scaled) when R ≥ V and 3 (disagrees) when R < V; else 0 when |R − V| ≤ t and 3 otherwise
+unfoldable pub stateBy : Bool → Bool → ℕ → ℕ → ℕ → ℕ
+stateBy hasN hasS r v t = cond hasN 2 (cond hasS (cond (leb v r) 1 3) (cond (leb (apart r v) t) 0 3))
+
+-- floor(T × C / E)
+unfoldable pub share : ℕ → ℕ → ℕ → ℕ
+share t c e = t * c / e
+
+-- the span between the boundaries first and last
+module _ (h : Head) (b : Cells) (first last : ℕ) where
+  -- its slots, before scaling
+  abbrev pub filled : ℕ → Outcome
+  filled i = filledAt h (b .slots) (b .holidays) i
+
+  unfoldable pub start : ℕ
+  start = first * slotsPerDay h
+
+  unfoldable pub slotsIn : ℕ
+  slotsIn = (last - first) * slotsPerDay h
+
+  unfoldable pub R : ℕ
+  R = advance (getD (b .readings) first 0) (getD (b .readings) last 0)
+
+  -- V, the sum of its A slots
+  unfoldable pub actual : ℕ
+  actual = sum (λ i. actualIn (filled i)) start slotsIn
+
+  unfoldable pub stateOf : ℕ
+  stateOf =
+      stateBy (any (λ i. isN (filled i .quality)) start slotsIn) (any (λ i. isS (filled i .quality)) start slotsIn)
+      R actual (h .tolerance)
+
+  unfoldable pub T : ℕ
+  T = R - actual
+
+  -- the S values sum to 0
+  unfoldable pub allZero : Bool
+  allZero = eqb (sum (λ i. substitutedIn (filled i)) start slotsIn) 0
+
+  -- e of slot i, which counts as 1 when all are 0; a slot that is not S has none
+  unfoldable pub e : ℕ → ℕ
+  e i = cond (isS (filled i .quality)) (cond allZero 1 (filled i .value)) 0
+
+  unfoldable pub E : ℕ
+  E = sum e start slotsIn
+
+  -- the running sum of e up to and with slot i, and the sum before it
+  unfoldable pub C : ℕ → ℕ
+  C i = sum e start (i + 1 - start)
+
+  unfoldable pub P : ℕ → ℕ
+  P i = sum e start (i - start)
+
+  unfoldable pub newValue : ℕ → ℕ
+  newValue i = share T (C i) E - share T (P i) E
+
+  -- the outcome of slot i of this span
+  unfoldable pub inSpan : ℕ → Outcome
+  inSpan i =
+      cond (isS (filled i .quality) && eqb stateOf 1)
+      (record { value = newValue i; quality = S; method = filled i .method + 16 })
+      (filled i)
+
+  -- a span's outcome is its two boundaries, R and state
+  unfoldable pub spanOf : Span
+  spanOf = record { first = first; last = last; advance = R; state = stateOf }
+
+-- a slot before the first or after the last boundary with a reading lies in no span
+unfoldable pub between : Head → Cells → Option ℕ → Option ℕ → ℕ → Outcome
+between h b (some first) (some last) i = inSpan h b first last i
+between h b (some first) none i = filledAt h (b .slots) (b .holidays) i
+between h b none last i = filledAt h (b .slots) (b .holidays) i
+
+-- a slot's outcome
+unfoldable pub outcomeAt : Head → Cells → ℕ → Outcome
+outcomeAt h b i =
+    let d = i / slotsPerDay h in
+    between h b (lastRead (b .readVersions) d) (nextRead (b .readVersions) (d + 1) (h .days - d)) i
+
+-- f a, f (a + 1), .. , k of them
+unfoldable pub upTo : {X : Type 0} → (ℕ → X) → ℕ → ℕ → List X
+upTo f a zero = []
+upTo f a (suc k) = f a ∷ upTo f (suc a) k
+
+unfoldable pub outcomes : Head → Cells → List Outcome
+outcomes h b = upTo (outcomeAt h b) 0 (slotCount h)
+
+-- the span from boundary d to the next, if there is one
+unfoldable pub spanTo : Head → Cells → ℕ → Option ℕ → List Span
+spanTo h b d none = []
+spanTo h b d (some last) = spanOf h b d last ∷ []
+
+unfoldable pub spanFrom : Head → Cells → ℕ → List Span
+spanFrom h b d =
+    cond (isRead (b .readVersions) d) (spanTo h b d (nextRead (b .readVersions) (d + 1) (h .days - d))) []
+
+-- the spans that begin at one of the k boundaries from d
+unfoldable pub spansFrom : Head → Cells → ℕ → ℕ → List Span
+spansFrom h b d zero = []
+spansFrom h b d (suc k) = spanFrom h b d ++ spansFrom h b (suc d) k
+
+-- the spans in order
+unfoldable pub spans : Head → Cells → List Span
+spans h b = spansFrom h b 0 (h .days)

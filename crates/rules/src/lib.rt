@@ -1,0 +1,42 @@
+// The rules of document 01: opening bounds, tests of a slot, filling, spans.
+pub mod filling;
+pub mod fills;
+pub mod opening;
+pub mod pass;
+pub mod readings;
+pub mod spans;
+pub mod stretch;
+pub mod tests;
+
+// The five figures of a book's opening, which every later call is given; the first day is three of these fields.
+pub struct Head {
+    pub year: u32,
+    pub month: u32,
+    pub day: u32,
+    pub days: u32,
+    pub interval: u32,
+    pub kind: u32,
+    pub tolerance: u32,
+}
+
+// Actual, substituted, none.
+pub enum Quality {
+    A,
+    S,
+    N,
+}
+
+// What is published of a slot.
+pub struct Outcome {
+    pub value: u32,
+    pub quality: Quality,
+    pub method: u8,
+}
+
+// What is published of a span: its two boundaries, R and its state.
+pub struct Span {
+    pub first: u32,
+    pub last: u32,
+    pub advance: u32,
+    pub state: u8,
+}

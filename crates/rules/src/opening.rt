@@ -1,0 +1,84 @@
+// The bounds of a head and the figures that follow from it (01, Opening).
+use crate::Head;
+ghost use mathlib.Core.Path.{_≡_};
+ghost use mathlib.Core.Bool.{true};
+ghost use Rattle.rules.specs.Lists.{every};
+ghost use Rattle.rules.specs.Opening.{intervalOk, dayTests, headOk, firstDay, limitOf, slotsPerDay, slotCount};
+
+fn is_interval(interval: u32) -> bool
+    ensures { λ r. ⌜ r ≡ intervalOk interval ⌝ }
+{
+    if interval == 5 {
+        return true;
+    }
+    if interval == 15 {
+        return true;
+    }
+    interval == 30
+}
+
+// The first day is a date, and the last one not after 2099-12-31.
+fn are_days(head: Head) -> bool
+    ensures { λ r. ⌜ r ≡ every (dayTests head) ⌝ }
+{
+    if !calendar::is_date(head.year, head.month, head.day) {
+        return false;
+    }
+    if head.days < 1 {
+        return false;
+    }
+    if 400 < head.days {
+        return false;
+    }
+    calendar::day_number(head.year, head.month, head.day) + head.days <= 36525
+}
+
+// The head is within its bounds.
+pub fn head_ok(head: Head) -> bool
+    ensures { λ r. ⌜ r ≡ headOk head ⌝ }
+{
+    if !is_interval(head.interval) {
+        return false;
+    }
+    if !are_days(head) {
+        return false;
+    }
+    if head.kind < 1 {
+        return false;
+    }
+    if 2 < head.kind {
+        return false;
+    }
+    head.tolerance <= 1000000
+}
+
+// The day number of the first day.
+pub fn first_day(head: Head) -> u32
+    requires { ⌜ headOk head ≡ true ⌝ }
+    ensures { λ r. ⌜ r ≡ firstDay head ⌝ }
+{
+    calendar::day_number(head.year, head.month, head.day)
+}
+
+// The demand limit in W.
+pub fn limit(head: Head) -> u32
+    ensures { λ r. ⌜ r ≡ limitOf head ⌝ }
+{
+    if head.kind == 1 { 40000 } else { 70000 }
+}
+
+// Slots a day.
+pub fn slots_per_day(head: Head) -> usize
+    requires { ⌜ headOk head ≡ true ⌝ }
+    ensures { λ r. ⌜ r ≡ slotsPerDay head ⌝ }
+{
+    (1440 / head.interval) as usize
+}
+
+// Slots of the book.
+pub fn slot_count(head: Head) -> usize
+    requires { ⌜ headOk head ≡ true ⌝ }
+    ensures { λ r. ⌜ r ≡ slotCount head ⌝ }
+{
+    slots_per_day(head) * (head.days as usize)
+}

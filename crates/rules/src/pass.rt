@@ -1,0 +1,87 @@
+// The pass over the slots from slot 0 upward: the outcome of each, and the span that begins at it.
+use crate::Head;
+use crate::Outcome;
+use crate::fills;
+use crate::fills::Fills;
+use crate::stretch;
+use crate::stretch::Begins;
+use crate::stretch::Stretch;
+ghost use mathlib.Core.Path.{_≡_};
+ghost use Prim.Native.Nat.{_<_};
+ghost use Rattle.rules.specs.declared.Head.{Head};
+ghost use Rattle.rules.specs.Opening.{Cells, slotCount};
+ghost use Rattle.rules.specs.Inner.Lent.{lentCells, Whole};
+ghost use Rattle.rules.specs.Inner.Passes.{passAt, SteppedAt};
+
+// What is known before a slot: of its runs of gaps, and of the stretch of the slot before it.
+pub struct Pass {
+    pub fills: Fills,
+    pub stretch: Stretch,
+}
+
+pub struct Stepped {
+    pub outcome: Outcome,
+    pub begins: Begins,
+    pub next: Pass,
+}
+
+// A pass before slot 0.
+pub fn first() -> Pass
+    ensures { λ r. ⌜ ((h : Head) (b : Cells) → r ≡ passAt h b 0) ⌝ }
+{
+    let fills = Fills {
+        at: 0,
+        before: false,
+        after: false,
+    };
+    Pass {
+        fills: fills,
+        stretch: stretch::unscaled_to(0),
+    }
+}
+
+// One slot of the pass.
+pub fn step(
+    head: Head,
+    values: &[u32],
+    versions: &[u32],
+    statuses: &[u8],
+    holidays: &[u8],
+    readings: &[u32],
+    reads: &[u32],
+    pass: Pass,
+) -> Stepped
+    requires { ⌜ Whole head (lentCells values versions statuses holidays readings reads) × (pass .fills .at < slotCount head) × (pass ≡ passAt head (lentCells values versions statuses holidays readings reads) (pass .fills .at)) ⌝ }
+    ensures { λ r. ⌜ SteppedAt head (lentCells (values .entry) (versions .entry) (statuses .entry) (holidays .entry) (readings .entry) (reads .entry)) (pass .fills .at) r ⌝ }
+{
+    let fills = pass.fills;
+    let carried = pass.stretch;
+    let entered = stretch::enter(
+        head,
+        values,
+        versions,
+        statuses,
+        holidays,
+        readings,
+        reads,
+        fills,
+        carried,
+    );
+    let begins = entered.begins;
+    let here = entered.stretch;
+    let filled = fills::fill(head, values, versions, statuses, holidays, fills);
+    let slot = filled.outcome;
+    let fitting = stretch::fit(slot, here);
+    let outcome = fitting.outcome;
+    let on = filled.next;
+    let carry = fitting.next;
+    let next = Pass {
+        fills: on,
+        stretch: carry,
+    };
+    Stepped {
+        outcome: outcome,
+        begins: begins,
+        next: next,
+    }
+}

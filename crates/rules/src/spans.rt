@@ -1,0 +1,214 @@
+// The sums, the advance, the state and the scaling of a span (01, Spans).
+use crate::Head;
+use crate::Outcome;
+use crate::Quality;
+use crate::fills;
+use crate::fills::Fills;
+ghost use mathlib.Core.Path.{_≡_};
+ghost use lib.Dec.{leb};
+ghost use Prim.Native.Nat.{_+_, _-_, _<_, _≤_};
+ghost use Rattle.rules.specs.Opening.{slotCount};
+ghost use Rattle.rules.specs.Spans.{isS, advance, apart, stateBy, share};
+ghost use Rattle.rules.specs.Inner.Lent.{lentSlots, Lent};
+ghost use Rattle.rules.specs.Inner.Fills.{fillsAt};
+ghost use Rattle.rules.specs.Inner.Summaries.{summaryOf, addedTo, weightOf, scalingOf, scaledBy, Scales};
+
+// V, the sum and the number of the S values, whether a slot is N, whether one is S.
+pub struct Summary {
+    pub actual: u64,
+    pub substituted: u64,
+    pub count: u64,
+    pub hole: bool,
+    pub filled: bool,
+}
+
+// T, E, whether each e counts as 1, and P.
+pub struct Scaling {
+    pub t: u64,
+    pub whole: u64,
+    pub ones: bool,
+    pub passed: u64,
+}
+
+// A slot's new value, and the scaling one slot on.
+pub struct Scaled {
+    pub value: u32,
+    pub next: Scaling,
+}
+
+// One slot more.
+fn add(sum: Summary, slot: Outcome) -> Summary
+    requires { ⌜ (sum .actual ≤ 4032000000) × (sum .substituted ≤ 4032000000) × (sum .count ≤ 115200) ⌝ }
+    ensures { λ r. ⌜ r ≡ addedTo sum slot ⌝ }
+{
+    let quality = slot.quality;
+    match quality {
+        Quality::A => Summary {
+            actual: sum.actual + (slot.value as u64),
+            substituted: sum.substituted,
+            count: sum.count,
+            hole: sum.hole,
+            filled: sum.filled,
+        },
+        Quality::S => Summary {
+            actual: sum.actual,
+            substituted: sum.substituted + (slot.value as u64),
+            count: sum.count + 1,
+            hole: sum.hole,
+            filled: true,
+        },
+        Quality::N => Summary {
+            actual: sum.actual,
+            substituted: sum.substituted,
+            count: sum.count,
+            hole: true,
+            filled: sum.filled,
+        },
+    }
+}
+
+// The sums of `count` slots from the slot of `first`.
+pub fn summarise(
+    head: Head,
+    values: &[u32],
+    versions: &[u32],
+    statuses: &[u8],
+    holidays: &[u8],
+    first: Fills,
+    count: usize,
+) -> Summary
+    requires { ⌜ Lent head (lentSlots values versions statuses) (now holidays) × (first .at + count ≤ slotCount head) × (first ≡ fillsAt head (lentSlots values versions statuses) (first .at)) ⌝ }
+    ensures { λ r. ⌜ r ≡ summaryOf head (lentSlots (values .entry) (versions .entry) (statuses .entry)) (now (holidays .entry)) (first .at) count ⌝ }
+{
+    let mut sum = Summary {
+        actual: 0,
+        substituted: 0,
+        count: 0,
+        hole: false,
+        filled: false,
+    };
+    let mut here = first;
+    let mut k = 0;
+    while k < count {
+        let filled = fills::fill(head, values, versions, statuses, holidays, here);
+        let slot = filled.outcome;
+        let next = filled.next;
+        sum = add(sum, slot);
+        here = next;
+        k += 1;
+    }
+    sum
+}
+
+// R, for a dial of eight digits.
+pub fn advanced(earlier: u32, later: u32) -> u32
+    requires { ⌜ earlier < 100000000 ⌝ }
+    ensures { λ r. ⌜ r ≡ advance earlier later ⌝ }
+{
+    (((later as u64) + 100000000 - (earlier as u64)) % 100000000) as u32
+}
+
+fn is_near(r: u64, v: u64, tolerance: u64) -> bool
+    ensures { λ b. ⌜ b ≡ leb (apart r v) tolerance ⌝ }
+{
+    if v <= r {
+        return r - v <= tolerance;
+    }
+    v - r <= tolerance
+}
+
+// 0 agrees, 1 scaled, 2 open, 3 disagrees.
+pub fn state_of(sum: Summary, r: u64, tolerance: u64) -> u8
+    ensures { λ s. ⌜ s ≡ stateBy (sum .hole) (sum .filled) r (sum .actual) tolerance ⌝ }
+{
+    if sum.hole {
+        return 2;
+    }
+    if sum.filled {
+        if sum.actual <= r {
+            return 1;
+        }
+        return 3;
+    }
+    if is_near(r, sum.actual, tolerance) {
+        return 0;
+    }
+    3
+}
+
+// floor(t × c / e).
+fn share_of(t: u64, c: u64, e: u64) -> u64
+    requires { ⌜ (t < 100000000) × (c ≤ 4032000000) × (0 < e) ⌝ }
+    ensures { λ r. ⌜ r ≡ share t c e ⌝ }
+{
+    t * c / e
+}
+
+// The new value of a slot before which the running sum is `p`, and with which it is `c`.
+fn new_value(t: u64, p: u64, c: u64, e: u64) -> u32
+    requires { ⌜ (t < 100000000) × (p ≤ c) × (c ≤ e) × (e ≤ 4032000000) × (0 < e) ⌝ }
+    ensures { λ r. ⌜ r ≡ share t c e - share t p e ⌝ }
+{
+    (share_of(t, c, e) - share_of(t, p, e)) as u32
+}
+
+pub fn is_substituted(quality: Quality) -> bool
+    ensures { λ r. ⌜ r ≡ isS quality ⌝ }
+{
+    match quality {
+        Quality::A => false,
+        Quality::S => true,
+        Quality::N => false,
+    }
+}
+
+// e of an S slot.
+fn weight(slot: Outcome, ones: bool) -> u64
+    ensures { λ r. ⌜ r ≡ weightOf ones (slot .value) ⌝ }
+{
+    if ones {
+        return 1;
+    }
+    slot.value as u64
+}
+
+// The scaling at the first slot of a span.
+pub fn scaling_of(sum: Summary, r: u64) -> Scaling
+    requires { ⌜ sum .actual ≤ r ⌝ }
+    ensures { λ m. ⌜ m ≡ scalingOf sum r ⌝ }
+{
+    if sum.substituted == 0 {
+        return Scaling {
+            t: r - sum.actual,
+            whole: sum.count,
+            ones: true,
+            passed: 0,
+        };
+    }
+    Scaling {
+        t: r - sum.actual,
+        whole: sum.substituted,
+        ones: false,
+        passed: 0,
+    }
+}
+
+// An S slot of a scaled span.
+pub fn scale(slot: Outcome, by: Scaling) -> Scaled
+    requires { ⌜ Scales (slot .value) by ⌝ }
+    ensures { λ r. ⌜ r ≡ scaledBy (slot .value) by ⌝ }
+{
+    let e = weight(slot, by.ones);
+    let passed = by.passed + e;
+    let value = new_value(by.t, by.passed, passed, by.whole);
+    let next = Scaling {
+        t: by.t,
+        whole: by.whole,
+        ones: by.ones,
+        passed: passed,
+    };
+    Scaled {
+        value: value,
+        next: next,
+    }
+}

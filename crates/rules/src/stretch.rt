@@ -1,0 +1,242 @@
+// The span that a slot lies in, or the stretch outside spans (01, Spans).
+use crate::Head;
+use crate::Outcome;
+use crate::Quality;
+use crate::Span;
+use crate::fills::Fills;
+use crate::opening;
+use crate::readings;
+use crate::readings::Next;
+use crate::spans;
+use crate::spans::Scaling;
+use crate::spans::Summary;
+ghost use mathlib.Core.Bool.{true};
+ghost use mathlib.Core.List.{[]};
+ghost use mathlib.Core.Path.{_≡_};
+ghost use Prim.Native.Nat.{_≤_};
+ghost use Rattle.rules.specs.Spans.{isS, spanOf};
+ghost use Rattle.rules.specs.Inner.Lent.{lentSlots, lentCells, cells, Lent, Dialled, Whole};
+ghost use Rattle.rules.specs.Inner.Summaries.{Scales};
+ghost use Rattle.rules.specs.Inner.Stretches.{unscaledTo, spanStretch, stretchBy, beginsWith, stretchFrom, beginsAt, stretchAt, fitOutcome, fitNext, Starts, Before};
+
+// Where the stretch ends, whether it is a scaled span, and how it is scaled.
+pub struct Stretch {
+    pub until: usize,
+    pub scaled: bool,
+    pub by: Scaling,
+}
+
+pub enum Begins {
+    Span(Span),
+    Nothing,
+}
+
+// A span's outcome, and the span before its first slot.
+pub struct Met {
+    pub span: Span,
+    pub stretch: Stretch,
+}
+
+// The span that begins at a slot, and the stretch that the slot lies in.
+pub struct Entered {
+    pub begins: Begins,
+    pub stretch: Stretch,
+}
+
+// A slot's outcome, and the stretch one slot on.
+pub struct Fitting {
+    pub outcome: Outcome,
+    pub next: Stretch,
+}
+
+// Nothing is scaled up to slot `until`.
+pub fn unscaled_to(until: usize) -> Stretch
+    ensures { λ r. ⌜ r ≡ unscaledTo until ⌝ }
+{
+    let by = Scaling {
+        t: 0,
+        whole: 0,
+        ones: false,
+        passed: 0,
+    };
+    Stretch {
+        until: until,
+        scaled: false,
+        by: by,
+    }
+}
+
+fn stretch_by(until: usize, state: u8, sum: Summary, r: u64) -> Stretch
+    requires { ⌜ (state ≡ 1 → sum .actual ≤ r) ⌝ }
+    ensures { λ s. ⌜ s ≡ stretchBy until state sum r ⌝ }
+{
+    if state != 1 {
+        return unscaled_to(until);
+    }
+    Stretch {
+        until: until,
+        scaled: true,
+        by: spans::scaling_of(sum, r),
+    }
+}
+
+// The span between two boundaries, where the pass stands at its first slot.
+fn meet(
+    head: Head,
+    values: &[u32],
+    versions: &[u32],
+    statuses: &[u8],
+    holidays: &[u8],
+    readings: &[u32],
+    fills: Fills,
+    first: usize,
+    last: usize,
+) -> Met
+    requires { ⌜ Lent head (lentSlots values versions statuses) (now holidays) × Dialled head (now readings) × Starts head (lentSlots values versions statuses) fills first last ⌝ }
+    ensures { λ r. ⌜ (r .span ≡ spanOf head (cells (lentSlots (values .entry) (versions .entry) (statuses .entry)) (now (holidays .entry)) (now (readings .entry)) []) first last) × (r .stretch ≡ spanStretch head (cells (lentSlots (values .entry) (versions .entry) (statuses .entry)) (now (holidays .entry)) (now (readings .entry)) []) first last (fills .at)) ⌝ }
+{
+    let day = opening::slots_per_day(head);
+    let sum = spans::summarise(
+        head,
+        values,
+        versions,
+        statuses,
+        holidays,
+        fills,
+        (last - first) * day,
+    );
+    let advance = spans::advanced(readings[first], readings[last]);
+    let state = spans::state_of(sum, advance as u64, head.tolerance as u64);
+    let span = Span {
+        first: first as u32,
+        last: last as u32,
+        advance: advance,
+        state: state,
+    };
+    Met {
+        span: span,
+        stretch: stretch_by(last * day, state, sum, advance as u64),
+    }
+}
+
+// The stretch that begins at boundary `day`, where a pass stands, and ends at boundary `last`.
+fn reach(
+    head: Head,
+    values: &[u32],
+    versions: &[u32],
+    statuses: &[u8],
+    holidays: &[u8],
+    readings: &[u32],
+    reads: &[u32],
+    fills: Fills,
+    day: usize,
+    last: usize,
+) -> Entered
+    requires { ⌜ Whole head (lentCells values versions statuses holidays readings reads) × Starts head (lentSlots values versions statuses) fills day last ⌝ }
+    ensures { λ r. ⌜ (r .begins ≡ beginsWith head (lentCells (values .entry) (versions .entry) (statuses .entry) (holidays .entry) (readings .entry) (reads .entry)) day last) × (r .stretch ≡ stretchFrom head (lentCells (values .entry) (versions .entry) (statuses .entry) (holidays .entry) (readings .entry) (reads .entry)) day last (fills .at)) ⌝ }
+{
+    if reads[day] == 0 {
+        return Entered {
+            begins: Begins::Nothing,
+            stretch: unscaled_to(last * opening::slots_per_day(head)),
+        };
+    }
+    let met = meet(
+        head,
+        values,
+        versions,
+        statuses,
+        holidays,
+        readings,
+        fills,
+        day,
+        last,
+    );
+    let span = met.span;
+    let stretch = met.stretch;
+    Entered {
+        begins: Begins::Span(span),
+        stretch: stretch,
+    }
+}
+
+// The stretch that a pass's slot lies in. `carried` is that of the slot before.
+pub fn enter(
+    head: Head,
+    values: &[u32],
+    versions: &[u32],
+    statuses: &[u8],
+    holidays: &[u8],
+    readings: &[u32],
+    reads: &[u32],
+    fills: Fills,
+    carried: Stretch,
+) -> Entered
+    requires { ⌜ Whole head (lentCells values versions statuses holidays readings reads) × Before head (lentCells values versions statuses holidays readings reads) fills carried ⌝ }
+    ensures { λ r. ⌜ (r .begins ≡ beginsAt head (lentCells (values .entry) (versions .entry) (statuses .entry) (holidays .entry) (readings .entry) (reads .entry)) (fills .at)) × (r .stretch ≡ stretchAt head (lentCells (values .entry) (versions .entry) (statuses .entry) (holidays .entry) (readings .entry) (reads .entry)) (fills .at)) ⌝ }
+{
+    let at = fills.at;
+    if at != carried.until {
+        return Entered {
+            begins: Begins::Nothing,
+            stretch: carried,
+        };
+    }
+    let day = at / opening::slots_per_day(head);
+    let next = readings::next_read(reads, day + 1);
+    match next {
+        Next::At(last) => reach(
+            head,
+            values,
+            versions,
+            statuses,
+            holidays,
+            readings,
+            reads,
+            fills,
+            day,
+            last,
+        ),
+        Next::Nowhere => Entered {
+            begins: Begins::Nothing,
+            stretch: unscaled_to(opening::slot_count(head)),
+        },
+    }
+}
+
+// A slot's outcome in the stretch that it lies in, and the stretch one slot on.
+pub fn fit(slot: Outcome, here: Stretch) -> Fitting
+    requires { ⌜ (slot .method ≤ 3) × (here .scaled ≡ true → isS (slot .quality) ≡ true → Scales (slot .value) (here .by)) ⌝ }
+    ensures { λ r. ⌜ (r .outcome ≡ fitOutcome slot here) × (r .next ≡ fitNext slot here) ⌝ }
+{
+    if !here.scaled {
+        return Fitting {
+            outcome: slot,
+            next: here,
+        };
+    }
+    let quality = slot.quality;
+    if !spans::is_substituted(quality) {
+        return Fitting {
+            outcome: slot,
+            next: here,
+        };
+    }
+    let by = here.by;
+    let scaled = spans::scale(slot, by);
+    let outcome = Outcome {
+        value: scaled.value,
+        quality: Quality::S,
+        method: slot.method + 16,
+    };
+    let rest = scaled.next;
+    let next = Stretch {
+        until: here.until,
+        scaled: true,
+        by: rest,
+    };
+    Fitting {
+        outcome: outcome,
+        next: next,
+    }
+}
