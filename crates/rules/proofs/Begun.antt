@@ -3,10 +3,11 @@ use mathlib.Core.Bool.{Bool, true, false, cond}
 use mathlib.Core.List.{List, [], _++_, append-assoc, append-nil}
 use mathlib.Core.Option.{Option, none, some}
 use mathlib.Core.Path.{_≡_, refl, sym, ap, _∙_}
-use Prim.Native.Nat.{ℕ, zero, suc, _+_, _-_, _*_, _%_, _<_}
+use Prim.Native.Nat.{ℕ, zero, suc, _+_, _-_, _*_, _%_, _≤_, _<_}
 use native.Mathlib.Nat.{add-zero, add-suc, zero-add, zero-mul, suc-mul, mul-comm, mul-div-cancel, mul-mod-left, mul-add-mod-self-right, mod-eq-of-lt}
 use native.Mathlib.Omega.{arith}
 use borrow.Author.Tests.{ne-eqb}
+use lib.ListN.{length, length-append}
 use Rattle.rules.specs.declared.Head.{Head}
 use Rattle.rules.specs.declared.Span.{Span}
 use Rattle.rules.specs.declared.stretch.Begins.the-variants.{Nothing}
@@ -76,3 +77,12 @@ module _ (h : Head) (b : Cells) where
     pub begun-all : begunBefore h b (slotCount h) ≡ spans h b
     unfolding spans
     begun-all = rw (count-product, mul-comm) (begun-days (h .days))
+
+    -- no more of them begin than there are
+    pub begun-room : (i : ℕ) → i < slotCount h → length (begunBefore h b i) + length (listOf (beginsAt h b i)) ≤ length (spans h b)
+    unfolding begunBefore
+    begun-room i l =
+        let (rest, e) = begun-first (suc i) (slotCount h - suc i) in
+        let k : suc i + (slotCount h - suc i) ≡ slotCount h = omega arith in
+        let f : begunBefore h b (suc i) ++ rest ≡ spans h b = e ∙ ap (begunBefore h b) k ∙ begun-all in
+        omega (arith, length-append (begunBefore h b i) (listOf (beginsAt h b i)), length-append (begunBefore h b (suc i)) rest, ap length f)

@@ -1,0 +1,89 @@
+-- The kept calls: each was accepted when it came, so its arguments broke no rule.
+use mathlib.Core.Path.{_≡_, refl}
+use mathlib.Core.Bool.{Bool, true, false, cond, not, true≢false, false≢true}
+use mathlib.Core.List.{List, [], _∷_, List·Memᴰ, List·Memᴰ·head, List·Memᴰ·tail}
+use Prim.Native.Nat.{ℕ, zero, suc, _≤_, _<_}
+use native.Mathlib.Omega.{arith}
+use lib.Dec.{eqb}
+use borrow.Author.Tests.{leb-false, ltb-false}
+use Rattle.rules.specs.declared.Head.{Head}
+use Rattle.rules.specs.Opening.{headOk, slotCount}
+use Rattle.book.specs.Answers.{Answer, isAccepted, Rule, unless}
+use Rattle.book.specs.Answers.Rule.{rule}
+use Rattle.book.specs.Arguments.{Call, argumentRules}
+use Rattle.book.specs.Arguments.Call.{delivery, holiday, register}
+use Rattle.book.specs.Plain.{againstKept, plainAnswer, keep, keptOf}
+
+-- whether rule k of a list is broken
+abbrev pub broken : List Rule → ℕ → Bool
+broken [] k = false
+broken (rule n t ∷ rs) zero = t
+broken (rule n t ∷ rs) (suc k) = broken rs k
+
+abbrev pub Unbroken : List Rule → Type 0
+Unbroken rs = (k : ℕ) → broken rs k ≡ false
+
+unbroken-next : (n : ℕ) (rs : List Rule) → Unbroken rs → Unbroken (rule n false ∷ rs)
+unbroken-next n rs u zero = refl
+unbroken-next n rs u (suc k) = u k
+
+-- an accepted answer is the one that follows the rules, and none of them is broken
+pub unless-accepted : (rs : List Rule) (a : Answer) → isAccepted (unless rs a) ≡ true → (unless rs a ≡ a) × Unbroken rs
+unless-accepted [] a ok = (refl, λ k. refl)
+unless-accepted (rule n true ∷ rs) a ok = absurd (false≢true ok)
+unless-accepted (rule n false ∷ rs) a ok = let r = unless-accepted rs a ok in (r .0, unbroken-next n rs (r .1))
+
+-- answers that are equal where no rule is broken are equal behind the rules
+pub unless-same : (rs : List Rule) (a b : Answer) → (Unbroken rs → a ≡ b) → unless rs a ≡ unless rs b
+unless-same [] a b same = same (λ k. refl)
+unless-same (rule n true ∷ rs) a b same = refl
+unless-same (rule n false ∷ rs) a b same = unless-same rs a b (λ u. same (unbroken-next n rs u))
+
+-- what a call names exists, and its numbers are in bounds
+abbrev pub Sound : Head → Call → Type 0
+Sound h (delivery slot version value status) = (slot < slotCount h) × (0 < version) × (status ≤ 7)
+Sound h (holiday day) = day < h .days
+Sound h (register boundary version reading) = (boundary ≤ h .days) × (0 < version) × (reading ≤ 99999999)
+
+positive : (n : ℕ) → eqb n 0 ≡ false → 0 < n
+positive zero e = absurd (true≢false e)
+positive (suc n) e = omega arith
+
+pub sound : (h : Head) (c : Call) → Unbroken (rule 1 (not (headOk h)) ∷ argumentRules h c) → Sound h c
+unfolding argumentRules
+sound h (delivery slot version value status) u =
+    (leb-false _ _ (u 1), positive version (u 2), ltb-false _ _ (u 3))
+sound h (holiday day) u = leb-false _ _ (u 1)
+sound h (register boundary version reading) u =
+    (ltb-false _ _ (u 1), positive version (u 2), ltb-false _ _ (u 3))
+
+-- a list of kept calls, the newest first
+abbrev pub Kept : Head → List Call → Type 0
+Kept h [] = Unit
+Kept h (c ∷ kept) = (isAccepted (plainAnswer h kept c) ≡ true) × Kept h kept
+
+-- an accepted call is accepted against the kept calls, and sound
+pub accepted : (h : Head) (kept : List Call) (c : Call) → isAccepted (plainAnswer h kept c) ≡ true
+    → (plainAnswer h kept c ≡ againstKept kept c) × Sound h c
+unfolding plainAnswer
+accepted h kept c ok =
+    let r = unless-accepted (rule 1 (not (headOk h)) ∷ argumentRules h c) (againstKept kept c) ok in
+    (r .0, sound h c (r .1))
+
+-- one call more, and a whole list more
+pub keep-kept : (h : Head) (kept : List Call) (c : Call) → Kept h kept → Kept h (keep h kept c)
+unfolding keep
+keep-kept h kept c ok = go (isAccepted (plainAnswer h kept c)) refl
+  where
+    go : (t : Bool) → isAccepted (plainAnswer h kept c) ≡ t → Kept h (cond t (c ∷ kept) kept)
+    go true e = (e, ok)
+    go false e = ok
+
+pub keptOf-kept : (h : Head) (kept cs : List Call) → Kept h kept → Kept h (keptOf h kept cs)
+unfolding keptOf
+keptOf-kept h kept [] ok = ok
+keptOf-kept h kept (c ∷ cs) ok = keptOf-kept h (keep h kept c) cs (keep-kept h kept c ok)
+
+pub kept-sound : (h : Head) (kept : List Call) (c : Call) → Kept h kept → List·Memᴰ c kept → Sound h c
+kept-sound h (d ∷ kept) c ok (List·Memᴰ·head e) = rw e (accepted h kept d (ok .0) .1)
+kept-sound h (d ∷ kept) c ok (List·Memᴰ·tail m) = kept-sound h kept c (ok .1) m

@@ -1,0 +1,12 @@
+pub mod Tables
+pub mod Said
+pub mod Kept
+pub mod Members
+pub mod Clean
+pub mod Next
+pub mod Agreement
+pub mod Order
+pub mod Soundness
+pub mod Cleared
+pub mod Fits
+pub mod Looked

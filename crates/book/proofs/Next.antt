@@ -1,0 +1,137 @@
+-- One more accepted call changes the book of the kept calls as filing it changes the cells.
+use mathlib.Core.Path.{_≡_, refl, sym}
+use mathlib.Core.Bool.{Bool, true, false, cond, _&&_, true≢false}
+use mathlib.Core.List.{List, _∷_}
+use Prim.Native.Nat.{ℕ, suc}
+use lib.Dec.{eqb}
+use borrow.Author.Tests.{eqb-true, eq-eqb, ne-eqb}
+use Rattle.rules.specs.declared.Head.{Head}
+use Rattle.rules.specs.Opening.{slotCount, Cells}
+use Rattle.rules.proofs.Logic.{and-parts}
+use Rattle.book.specs.Answers.{Answer, isAccepted, isStored, byVersion}
+use Rattle.book.specs.Answers.Answer.{done, stored, late, repeat, refused}
+use Rattle.book.specs.Arguments.{Call}
+use Rattle.book.specs.Arguments.Call.{delivery, holiday, register}
+use Rattle.book.specs.Filling.{storedIn, deliverAfter, holidayAfter, registerAfter, answer, after}
+use Rattle.book.specs.Plain.{Measured, deliveries, reads, named, slotVersion, slotContent, readVersion, readContent, againstKept, tabulate, bookOf}
+use Rattle.book.proofs.Tables.{tabulate-filed}
+use Rattle.book.proofs.Said.{said-filed}
+
+-- the cells after a call with this answer
+unfoldable pub filedIn : Answer → Cells → Call → Cells
+filedIn a b (delivery slot version value status) = record {
+  slots = record {
+    values = storedIn a (b .slots .values) slot value;
+    versions = storedIn a (b .slots .versions) slot version;
+    statuses = storedIn a (b .slots .statuses) slot status;
+  };
+  holidays = b .holidays;
+  readings = b .readings;
+  readVersions = b .readVersions;
+}
+filedIn a b (holiday day) = record {
+  slots = b .slots;
+  holidays = storedIn a (b .holidays) day 1;
+  readings = b .readings;
+  readVersions = b .readVersions;
+}
+filedIn a b (register boundary version reading) = record {
+  slots = b .slots;
+  holidays = b .holidays;
+  readings = storedIn a (b .readings) boundary reading;
+  readVersions = storedIn a (b .readVersions) boundary version;
+}
+
+pub after-filed : (h : Head) (b : Cells) (c : Call) → after h b c ≡ filedIn (answer h b c) b c
+unfolding after answer deliverAfter holidayAfter registerAfter filedIn
+after-filed h b (delivery slot version value status) = refl
+after-filed h b (holiday day) = refl
+after-filed h b (register boundary version reading) = refl
+
+not-stored : (a : Answer) → isAccepted a ≡ false → isStored a ≡ false
+not-stored done e = refl
+not-stored (refused n) e = refl
+not-stored stored e = absurd (true≢false e)
+not-stored late e = absurd (true≢false e)
+not-stored repeat e = absurd (true≢false e)
+
+-- a call that is not accepted changes nothing
+pub filed-refused : (a : Answer) (b : Cells) (c : Call) → isAccepted a ≡ false → filedIn a b c ≡ b
+unfolding filedIn
+filed-refused a b (delivery slot version value status) e = rw (not-stored a e)
+filed-refused a b (holiday day) e = rw (not-stored a e)
+filed-refused a b (register boundary version reading) e = rw (not-stored a e)
+
+-- equal tests of the content mean equal content
+pub same-measured : (m : Measured) (value status : ℕ) → (eqb (m .value) value && eqb (m .status) status) ≡ true
+    → _≡_ {A = Measured} (record { value = value; status = status }) m
+same-measured m value status e =
+    let parts = and-parts (eqb (m .value) value) (eqb (m .status) status) e in
+    λ t. record { value = sym (eqb-true (m .value) value (parts .0)) t; status = sym (eqb-true (m .status) status (parts .1)) t }
+
+-- the lists of slots, when one accepted delivery more is kept
+module _ (h : Head) (kept : List Call) (slot version value status : ℕ) where
+  sameSlot : Bool
+  sameSlot = eqb (slotContent kept slot .value) value && eqb (slotContent kept slot .status) status
+
+  slots-next : isAccepted (byVersion (slotVersion kept slot) version sameSlot) ≡ true → (m : ℕ → Measured → ℕ)
+      → tabulate (λ i. m (slotVersion (delivery slot version value status ∷ kept) i) (slotContent (delivery slot version value status ∷ kept) i)) (slotCount h)
+      ≡ storedIn (byVersion (slotVersion kept slot) version sameSlot) (tabulate (λ i. m (slotVersion kept i) (slotContent kept i)) (slotCount h))
+      slot (m version (record { value = value; status = status }))
+  unfolding deliveries sameSlot
+  slots-next ok m =
+      said-filed (record { value = 0; status = 0 }) (λ i. deliveries i kept) (λ i. deliveries i (delivery slot version value status ∷ kept)) slot
+      (record { version = version; content = record { value = value; status = status } }) sameSlot
+      (same-measured (slotContent kept slot) value status) ok (rw (eq-eqb slot slot refl)) (λ i ne. rw (ne-eqb slot i ne)) m (slotCount h)
+
+-- the list of holidays, when one holiday more is kept
+days-next : (h : Head) (kept : List Call) (day : ℕ)
+    → tabulate (λ d. cond (named d (holiday day ∷ kept)) 1 0) (h .days)
+    ≡ storedIn (cond (named day kept) repeat stored) (tabulate (λ d. cond (named d kept) 1 0) (h .days)) day 1
+unfolding named
+days-next h kept day =
+    tabulate-filed (λ d. cond (named d kept) 1 0) (λ d. cond (named d (holiday day ∷ kept)) 1 0) (h .days) day 1
+    (λ d ne. rw (ne-eqb day d ne)) (cond (named day kept) repeat stored) (rw (eq-eqb day day refl) (here (named day kept)))
+  where
+    here : (t : Bool) → _≡_ {A = ℕ} 1 (cond (isStored (cond t repeat stored)) 1 (cond t 1 0))
+    here true = refl
+    here false = refl
+
+-- the lists of boundaries, when one accepted register read more is kept
+reads-next : (h : Head) (kept : List Call) (boundary version reading : ℕ)
+    → isAccepted (byVersion (readVersion kept boundary) version (eqb (readContent kept boundary) reading)) ≡ true → (m : ℕ → ℕ → ℕ)
+    → tabulate (λ d. m (readVersion (register boundary version reading ∷ kept) d) (readContent (register boundary version reading ∷ kept) d)) (suc (h .days))
+    ≡ storedIn (byVersion (readVersion kept boundary) version (eqb (readContent kept boundary) reading))
+    (tabulate (λ d. m (readVersion kept d) (readContent kept d)) (suc (h .days))) boundary (m version reading)
+unfolding reads
+reads-next h kept boundary version reading ok m =
+    said-filed 0 (λ d. reads d kept) (λ d. reads d (register boundary version reading ∷ kept)) boundary
+    (record { version = version; content = reading }) (eqb (readContent kept boundary) reading)
+    (λ e. sym (eqb-true _ _ e)) ok (rw (eq-eqb boundary boundary refl)) (λ d ne. rw (ne-eqb boundary d ne)) m (suc (h .days))
+
+-- the book of one more accepted call is the book before with the call filed in it
+pub book-next : (h : Head) (kept : List Call) (c : Call) → isAccepted (againstKept kept c) ≡ true
+    → bookOf h (c ∷ kept) ≡ filedIn (againstKept kept c) (bookOf h kept) c
+unfolding bookOf filedIn againstKept deliveries reads named sameSlot
+book-next h kept (delivery slot version value status) ok =
+    let column = slots-next h kept slot version value status ok in
+    λ t. record {
+      slots = record { values = column (λ v a. a .value) t; versions = column (λ v a. v) t; statuses = column (λ v a. a .status) t };
+      holidays = bookOf h kept .holidays;
+      readings = bookOf h kept .readings;
+      readVersions = bookOf h kept .readVersions;
+    }
+book-next h kept (holiday day) ok = λ t. record {
+  slots = bookOf h kept .slots;
+  holidays = days-next h kept day t;
+  readings = bookOf h kept .readings;
+  readVersions = bookOf h kept .readVersions;
+}
+book-next h kept (register boundary version reading) ok =
+    let column = reads-next h kept boundary version reading ok in
+    λ t. record {
+      slots = bookOf h kept .slots;
+      holidays = bookOf h kept .holidays;
+      readings = column (λ v a. a) t;
+      readVersions = column (λ v a. v) t;
+    }

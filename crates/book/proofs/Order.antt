@@ -1,0 +1,107 @@
+-- The order of the accepted calls does not matter: the book depends on which calls were accepted alone.
+use mathlib.Core.Path.{_≡_, refl, sym, ap, _∙_}
+use mathlib.Core.Bool.{Bool, true, false, cond, _&&_}
+use mathlib.Core.List.{List, [], _∷_, List·Memᴰ, List·Memᴰ·not-nil}
+use Prim.Native.Nat.{ℕ, suc, _<_}
+use lib.Dec.{eqb}
+use borrow.Author.Tests.{eqb-true}
+use Rattle.rules.specs.declared.Head.{Head}
+use Rattle.rules.specs.Opening.{slotCount}
+use Rattle.book.specs.Answers.{isAccepted}
+use Rattle.book.specs.Arguments.{Call}
+use Rattle.book.specs.Arguments.Call.{delivery, holiday, register}
+use Rattle.book.specs.Plain.{Said, Measured, deliveries, reads, named, highest, slotVersion, slotContent, readVersion, readContent, againstKept, plainAnswer, keptOf, bookOf}
+use Rattle.book.proofs.Tables.{tabulate-same}
+use Rattle.book.proofs.Said.{latest, AllFair, fair-next, ruled, ruled-same, same-said}
+use Rattle.book.proofs.Kept.{Kept, accepted, keptOf-kept}
+use Rattle.book.proofs.Members.{deliveries-from, deliveries-of, reads-from, reads-of, named-from, named-of}
+use Rattle.book.proofs.Next.{same-measured}
+
+-- where an accepted call may be in front: with the content before, where it has the highest version before
+fair-if : {A : Type 0} (zeros : A) (t : Bool) (s : Said A) (ss : List (Said A))
+    → (t ≡ true → (0 < s .version) × (s .version ≡ highest ss → s .content ≡ latest zeros ss))
+    → AllFair zeros ss → AllFair zeros (cond t (s ∷ ss) ss)
+fair-if zeros true s ss here fair = fair-next zeros s ss (here refl .0) (here refl .1) fair
+fair-if zeros false s ss here fair = fair
+
+-- a kept delivery has the content before, where it has the highest version before; so has a register read
+delivery-fair : (h : Head) (kept : List Call) (slot version value status : ℕ) → isAccepted (plainAnswer h kept (delivery slot version value status)) ≡ true
+    → (0 < version) × (version ≡ slotVersion kept slot → _≡_ {A = Measured} (record { value = value; status = status }) (slotContent kept slot))
+unfolding againstKept
+delivery-fair h kept slot version value status ok =
+    let (same, fine) = accepted h kept (delivery slot version value status) ok in
+    let test = eqb (slotContent kept slot .value) value && eqb (slotContent kept slot .status) status in
+    (fine .1, λ e. same-measured (slotContent kept slot) value status (ruled-same (ruled (slotVersion kept slot) version test) (ap isAccepted (sym same) ∙ ok) e))
+
+read-fair : (h : Head) (kept : List Call) (boundary version reading : ℕ) → isAccepted (plainAnswer h kept (register boundary version reading)) ≡ true
+    → (0 < version) × (version ≡ readVersion kept boundary → reading ≡ readContent kept boundary)
+unfolding againstKept
+read-fair h kept boundary version reading ok =
+    let (same, fine) = accepted h kept (register boundary version reading) ok in
+    let test = eqb (readContent kept boundary) reading in
+    (fine .1, λ e. sym (eqb-true _ _ (ruled-same (ruled (readVersion kept boundary) version test) (ap isAccepted (sym same) ∙ ok) e)))
+
+-- what the kept calls say of a slot is fair
+fair-deliveries : (h : Head) (i : ℕ) (kept : List Call) → Kept h kept → AllFair (record { value = 0; status = 0 }) (deliveries i kept)
+unfolding deliveries
+fair-deliveries h i [] ok = λ s m. absurd (List·Memᴰ·not-nil m)
+fair-deliveries h i (delivery slot version value status ∷ kept) ok =
+    fair-if (record { value = 0; status = 0 }) (eqb slot i) (record { version = version; content = record { value = value; status = status } })
+    (deliveries i kept) (λ e. rw (sym (eqb-true slot i e)) (delivery-fair h kept slot version value status (ok .0)))
+    (fair-deliveries h i kept (ok .1))
+fair-deliveries h i (holiday day ∷ kept) ok = fair-deliveries h i kept (ok .1)
+fair-deliveries h i (register boundary version reading ∷ kept) ok = fair-deliveries h i kept (ok .1)
+
+-- and of a boundary
+fair-reads : (h : Head) (d : ℕ) (kept : List Call) → Kept h kept → AllFair 0 (reads d kept)
+unfolding reads
+fair-reads h d [] ok = λ s m. absurd (List·Memᴰ·not-nil m)
+fair-reads h d (delivery slot version value status ∷ kept) ok = fair-reads h d kept (ok .1)
+fair-reads h d (holiday day ∷ kept) ok = fair-reads h d kept (ok .1)
+fair-reads h d (register boundary version reading ∷ kept) ok =
+    fair-if 0 (eqb boundary d) (record { version = version; content = reading })
+    (reads d kept) (λ e. rw (sym (eqb-true boundary d e)) (read-fair h kept boundary version reading (ok .0)))
+    (fair-reads h d kept (ok .1))
+
+same-tests : (s t : Bool) → (s ≡ true → t ≡ true) → (t ≡ true → s ≡ true) → s ≡ t
+same-tests true t sub sup = sym (sub refl)
+same-tests false true sub sup = sup refl
+same-tests false false sub sup = refl
+
+-- every call of one list is in the other
+abbrev pub Within : List Call → List Call → Type 0
+Within kept other = (c : Call) → List·Memᴰ c kept → List·Memᴰ c other
+
+module _ (h : Head) (kept other : List Call) (ok : Kept h kept) (ok′ : Kept h other) (sub : Within kept other) (sup : Within other kept) where
+  same-slot : (i : ℕ) → (slotVersion kept i ≡ slotVersion other i) × (slotContent kept i ≡ slotContent other i)
+  same-slot i =
+      same-said (record { value = 0; status = 0 }) (deliveries i kept) (deliveries i other) (fair-deliveries h i kept ok) (fair-deliveries h i other ok′)
+      (λ s m. deliveries-of i other s (sub _ (deliveries-from i kept s m))) (λ s m. deliveries-of i kept s (sup _ (deliveries-from i other s m)))
+
+  same-day : (d : ℕ) → named d kept ≡ named d other
+  same-day d = same-tests (named d kept) (named d other) (λ e. named-of d other (sub _ (named-from d kept e))) (λ e. named-of d kept (sup _ (named-from d other e)))
+
+  same-read : (d : ℕ) → (readVersion kept d ≡ readVersion other d) × (readContent kept d ≡ readContent other d)
+  same-read d =
+      same-said 0 (reads d kept) (reads d other) (fair-reads h d kept ok) (fair-reads h d other ok′)
+      (λ s m. reads-of d other s (sub _ (reads-from d kept s m))) (λ s m. reads-of d kept s (sup _ (reads-from d other s m)))
+
+  -- the book depends on which calls were kept alone
+  same-book : bookOf h kept ≡ bookOf h other
+  unfolding bookOf
+  same-book = λ t. record {
+    slots = record {
+      values = tabulate-same _ _ (slotCount h) (λ i. ap (λ (a : Measured). a .value) (same-slot i .1)) t;
+      versions = tabulate-same _ _ (slotCount h) (λ i. same-slot i .0) t;
+      statuses = tabulate-same _ _ (slotCount h) (λ i. ap (λ (a : Measured). a .status) (same-slot i .1)) t;
+    };
+    holidays = tabulate-same _ _ (h .days) (λ d. ap (λ (t : Bool). cond t 1 0) (same-day d)) t;
+    readings = tabulate-same _ _ (suc (h .days)) (λ d. same-read d .1) t;
+    readVersions = tabulate-same _ _ (suc (h .days)) (λ d. same-read d .0) t;
+  }
+
+-- two lists of calls with the same accepted calls amount to the same book, whatever their order and repetition
+pub order-does-not-matter : (h : Head) (cs ds : List Call)
+    → Within (keptOf h [] cs) (keptOf h [] ds) → Within (keptOf h [] ds) (keptOf h [] cs)
+    → bookOf h (keptOf h [] cs) ≡ bookOf h (keptOf h [] ds)
+order-does-not-matter h cs ds = same-book h (keptOf h [] cs) (keptOf h [] ds) (keptOf-kept h [] cs tt) (keptOf-kept h [] ds tt)

@@ -1,0 +1,142 @@
+-- The highest version among what the kept calls say of a place, and the content that goes with it.
+use mathlib.Core.Path.{_≡_, refl, sym, _∙_}
+use mathlib.Core.Bool.{Bool, true, false, cond, false≢true}
+use mathlib.Core.List.{List, [], _∷_, List·Memᴰ, List·Memᴰ·head, List·Memᴰ·tail}
+use mathlib.Core.Logic.{⊎-elim}
+use Prim.Native.Nat.{ℕ, max, _≤_, _<_, zero-le}
+use native.Mathlib.Nat.{le-antisymm, le-of-lt, max-eq-left, max-eq-right}
+use native.Mathlib.Omega.{arith}
+use lib.Dec.{ltb}
+use borrow.Author.Tests.{ltb-true, ltb-false, eq-eqb, ne-eqb}
+use Rattle.rules.proofs.Logic.{either}
+use Rattle.book.specs.Answers.{Answer, isAccepted, isStored, byVersion}
+use Rattle.book.specs.Answers.Answer.{stored, late, repeat, refused}
+use Rattle.book.specs.Filling.{storedIn}
+use Rattle.book.specs.Plain.{Said, highest, contentWith, tabulate}
+use Rattle.book.proofs.Tables.{tabulate-filed}
+
+-- the content of the call with the highest version
+abbrev pub latest : {A : Type 0} → A → List (Said A) → A
+latest zeros ss = contentWith zeros (highest ss) ss
+
+-- what the version rule knows with each answer
+pub data Ruled (before version : ℕ) (same : Bool) : Answer → Type 0 where
+  above : before < version → Ruled before version same stored
+  below : version < before → Ruled before version same late
+  equal : version ≡ before → same ≡ true → Ruled before version same repeat
+  conflict : Ruled before version same (refused 10)
+
+pub ruled : (before version : ℕ) (same : Bool) → Ruled before version same (byVersion before version same)
+unfolding byVersion
+ruled before version same = go (ltb before version) (ltb version before) same refl refl refl
+  where
+    go : (a b s : Bool) → ltb before version ≡ a → ltb version before ≡ b → same ≡ s
+        → Ruled before version same (cond a stored (cond b late (cond s repeat (refused 10))))
+    go true b s e d q = above (ltb-true _ _ e)
+    go false true s e d q = below (ltb-true _ _ d)
+    go false false true e d q = equal (le-antisymm (ltb-false _ _ e) (ltb-false _ _ d)) q
+    go false false false e d q = conflict
+
+-- an accepted call with the version before has the content before
+pub ruled-same : {before version : ℕ} {same : Bool} {a : Answer} → Ruled before version same a → isAccepted a ≡ true → version ≡ before → same ≡ true
+ruled-same (above lt) ok e = absurd (omega arith)
+ruled-same (below lt) ok e = absurd (omega arith)
+ruled-same (equal d q) ok e = q
+ruled-same conflict ok e = absurd (false≢true ok)
+
+module _ {A : Type 0} (zeros : A) where
+  -- one more call, with no lower version than the others, or with a lower one
+  newest : (s : Said A) (ss : List (Said A)) (Q : ℕ → A → Type 0) → highest ss ≤ s .version
+      → Q (s .version) (s .content) → Q (highest (s ∷ ss)) (latest zeros (s ∷ ss))
+  unfolding highest contentWith
+  newest s ss Q le q =
+      let e : max (s .version) (highest ss) ≡ s .version = max-eq-left le in
+      rw (e, eq-eqb (s .version) (s .version) refl) q
+
+  older : (s : Said A) (ss : List (Said A)) (Q : ℕ → A → Type 0) → s .version < highest ss
+      → Q (highest ss) (latest zeros ss) → Q (highest (s ∷ ss)) (latest zeros (s ∷ ss))
+  unfolding highest contentWith
+  older s ss Q lt q =
+      let e : max (s .version) (highest ss) ≡ highest ss = max-eq-right (le-of-lt lt) in
+      rw (e, ne-eqb (s .version) (highest ss) (λ d. omega arith)) q
+
+  -- what holds of zeros and of each call holds of the highest version with its content
+  pub from : (ss : List (Said A)) (Q : ℕ → A → Type 0) → Q 0 zeros
+      → ((s : Said A) → List·Memᴰ s ss → Q (s .version) (s .content)) → Q (highest ss) (latest zeros ss)
+  unfolding highest contentWith
+  from [] Q none some = none
+  from (s ∷ ss) Q none some =
+      let rest = from ss Q none (λ t m. some t (List·Memᴰ·tail m)) in
+      ⊎-elim (λ e. older s ss Q (ltb-true _ _ e) rest) (λ e. newest s ss Q (ltb-false _ _ e) (some s (List·Memᴰ·head refl)))
+      (either (ltb (s .version) (highest ss)))
+
+  -- an accepted call leaves what the answer says: its version and content, or those before
+  pub step : (s : Said A) (ss : List (Said A)) (same : Bool) → (same ≡ true → s .content ≡ latest zeros ss)
+      → (a : Answer) → Ruled (highest ss) (s .version) same a → isAccepted a ≡ true
+      → (m : ℕ → A → ℕ) → m (highest (s ∷ ss)) (latest zeros (s ∷ ss)) ≡ cond (isStored a) (m (s .version) (s .content)) (m (highest ss) (latest zeros ss))
+  step s ss same alike stored (above lt) ok m =
+      newest s ss (λ v a. m v a ≡ m (s .version) (s .content)) (le-of-lt lt) refl
+  step s ss same alike late (below lt) ok m = older s ss (λ v a. m v a ≡ m (highest ss) (latest zeros ss)) lt refl
+  step s ss same alike repeat (equal e q) ok m =
+      newest s ss (λ v a. m v a ≡ m (highest ss) (latest zeros ss)) (omega arith) (rw (e, alike q))
+  step s ss same alike (refused n) r ok m = absurd (false≢true ok)
+
+  -- a table of what is said of each place, when one accepted call more is for place j
+  pub said-filed : (of next : ℕ → List (Said A)) (j : ℕ) (s : Said A) (same : Bool) → (same ≡ true → s .content ≡ latest zeros (of j))
+      → isAccepted (byVersion (highest (of j)) (s .version) same) ≡ true
+      → next j ≡ s ∷ of j → ((i : ℕ) → (j ≡ i → ⊥) → next i ≡ of i) → (m : ℕ → A → ℕ) (n : ℕ)
+      → tabulate (λ i. m (highest (next i)) (latest zeros (next i))) n
+      ≡ storedIn (byVersion (highest (of j)) (s .version) same) (tabulate (λ i. m (highest (of i)) (latest zeros (of i))) n) j (m (s .version) (s .content))
+  said-filed of next j s same alike ok here there m n =
+      let a = byVersion (highest (of j)) (s .version) same in
+      tabulate-filed (λ i. m (highest (of i)) (latest zeros (of i))) (λ i. m (highest (next i)) (latest zeros (next i))) n j
+      (m (s .version) (s .content)) (λ i ne. rw (there i ne)) a
+      (rw here (step s (of j) same alike a (ruled (highest (of j)) (s .version) same) ok m))
+
+  -- of a call among calls with this highest version and its content
+  pub record Fair (version : ℕ) (content : A) (s : Said A) : Type 0 where
+    pub positive : 0 < s .version
+    pub bounded : s .version ≤ version
+    pub agreed : s .version ≡ version → s .content ≡ content
+
+  abbrev pub AllFair : List (Said A) → Type 0
+  AllFair ss = (s : Said A) → List·Memᴰ s ss → Fair (highest ss) (latest zeros ss) s
+
+  -- one more call, with the content of the others where it has their highest version
+  pub fair-next : (t : Said A) (ss : List (Said A)) → 0 < t .version → (t .version ≡ highest ss → t .content ≡ latest zeros ss)
+      → AllFair ss → AllFair (t ∷ ss)
+  fair-next t ss pos alike fair s (List·Memᴰ·head e) =
+      rw e
+      (⊎-elim
+      (λ d. let lt = ltb-true _ _ d in older t ss (λ v a. Fair v a t) lt (record { positive = pos; bounded = le-of-lt lt; agreed = alike }))
+      (λ d. newest t ss (λ v a. Fair v a t) (ltb-false _ _ d) (record { positive = pos; bounded = omega arith; agreed = λ q. refl }))
+      (either (ltb (t .version) (highest ss))))
+  fair-next t ss pos alike fair s (List·Memᴰ·tail m) =
+      let f = fair s m in
+      ⊎-elim (λ d. older t ss (λ v a. Fair v a s) (ltb-true _ _ d) f)
+      (λ d.
+      let le = ltb-false _ _ d in
+      newest t ss (λ v a. Fair v a s) le
+      (record {
+        positive = f .positive;
+        bounded = omega arith;
+        agreed = λ q. f .agreed (omega arith) ∙ sym (alike (omega arith));
+      }))
+      (either (ltb (t .version) (highest ss)))
+
+  -- lists with the same calls have the same highest version and content
+  pub same-said : (ss ts : List (Said A)) → AllFair ss → AllFair ts
+      → ((s : Said A) → List·Memᴰ s ss → List·Memᴰ s ts) → ((s : Said A) → List·Memᴰ s ts → List·Memᴰ s ss)
+      → (highest ss ≡ highest ts) × (latest zeros ss ≡ latest zeros ts)
+  same-said ss ts fair-s fair-t sub sup =
+      let e = le-antisymm up down in
+      (e, from ss (λ v a. v ≡ highest ts → a ≡ latest zeros ts) none (λ s m. fair-t s (sub s m) .agreed) e)
+    where
+      up : highest ss ≤ highest ts
+      up = from ss (λ v a. v ≤ highest ts) zero-le (λ s m. fair-t s (sub s m) .bounded)
+
+      down : highest ts ≤ highest ss
+      down = from ts (λ v a. v ≤ highest ss) zero-le (λ s m. fair-s s (sup s m) .bounded)
+
+      none : 0 ≡ highest ts → zeros ≡ latest zeros ts
+      none = from ts (λ v a. 0 ≡ v → zeros ≡ a) (λ z. refl) (λ s m z. let pos = fair-t s m .positive in absurd (omega arith))

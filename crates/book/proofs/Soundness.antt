@@ -1,0 +1,46 @@
+-- After any list of calls from an opening the lists have their lengths, and no cell is one that 11 speaks of.
+use mathlib.Core.Path.{_≡_}
+use mathlib.Core.Bool.{true, false}
+use mathlib.Core.List.{List, []}
+use Prim.Native.Nat.{suc, _<_}
+use native.Mathlib.Omega.{arith}
+use Rattle.rules.specs.declared.Head.{Head}
+use Rattle.rules.specs.Opening.{slotCount}
+use Rattle.rules.specs.Lists.{any}
+use Rattle.rules.proofs.Sums.{any-none}
+use Rattle.book.specs.Arguments.{Call}
+use Rattle.book.specs.Cells.{readsOf, slotFaultAt, dayFaultAt, readFaultAt, cellsFit, cellsOk}
+use Rattle.book.specs.Opening.{opened}
+use Rattle.book.specs.Filling.{afterAll}
+use Rattle.book.specs.Plain.{keptOf, bookOf}
+use Rattle.book.proofs.Tables.{getD-tabulate}
+use Rattle.book.proofs.Kept.{Kept, keptOf-kept}
+use Rattle.book.proofs.Clean.{slot-clean, day-clean, read-clean}
+use Rattle.book.proofs.Agreement.{book-fits, cells-agree}
+
+module _ (h : Head) (kept : List Call) (ok : Kept h kept) where
+  slots-clean : any (slotFaultAt (bookOf h kept .slots)) 0 (slotCount h) ≡ false
+  unfolding bookOf
+  slots-clean =
+      any-none (slotFaultAt (bookOf h kept .slots)) 0 (slotCount h)
+      (λ i l m. let lt : i < slotCount h = omega arith in simp getD-tabulate (slot-clean h kept ok i))
+
+  days-clean : any (dayFaultAt (bookOf h kept .holidays)) 0 (h .days) ≡ false
+  unfolding bookOf
+  days-clean =
+      any-none (dayFaultAt (bookOf h kept .holidays)) 0 (h .days)
+      (λ i l m. let lt : i < h .days = omega arith in simp getD-tabulate (day-clean h kept ok i))
+
+  reads-clean : any (readFaultAt (readsOf (bookOf h kept))) 0 (suc (h .days)) ≡ false
+  unfolding bookOf
+  reads-clean =
+      any-none (readFaultAt (readsOf (bookOf h kept))) 0 (suc (h .days))
+      (λ i l m. let lt : i < suc (h .days) = omega arith in simp getD-tabulate (read-clean h kept ok i))
+
+  book-ok : cellsOk h (bookOf h kept) ≡ true
+  unfolding cellsOk
+  book-ok = rw (slots-clean, days-clean, reads-clean)
+
+pub cells-sound : (h : Head) (cs : List Call)
+    → (cellsFit h (afterAll h (opened h) cs) ≡ true) × (cellsOk h (afterAll h (opened h) cs) ≡ true)
+cells-sound h cs = rw (cells-agree h cs) (book-fits h (keptOf h [] cs), book-ok h (keptOf h [] cs) (keptOf-kept h [] cs tt))

@@ -1,0 +1,32 @@
+-- `filing::against_slot`: 11, else the version rule with the content compared by `is_same`.
+use mathlib.Core.Path.{sym, _∙_}
+use Rattle.book.specs.Filling.{againstSlot}
+use borrow.Author.Needs.{needs}
+use Rattle.book.proofs.filing.against_slot.Statement.{statement}
+use Rattle.book.proofs.filing.against_slot.Tie as tie
+
+slot-fault-requires : tie.Need-slot-fault-requires
+slot-fault-requires c κs = search needs
+
+returns : tie.Need-returns
+unfolding againstSlot
+returns c = simp (sym (c .before .slot-fault .ensures) ∙ c .if1 .taken)
+
+is-same-requires : tie.Need-is-same-requires
+is-same-requires c κs = search needs
+
+by-version-requires : tie.Need-by-version-requires
+by-version-requires c κs = search needs
+
+returns-2 : tie.Need-returns-2
+unfolding againstSlot
+returns-2 c =
+    rw (
+      sym (c .before .before .before .slot-fault .ensures) ∙ c .before .before .if1 .left,
+      sym (c .before .is-same .ensures),
+    )
+    (c .by-version .ensures)
+
+pub against-slot-spec : {M : Type 1} → statement M
+against-slot-spec =
+    tie.close (tie.spec slot-fault-requires returns is-same-requires by-version-requires returns-2)

@@ -1,0 +1,41 @@
+-- `lengths::cells_fit` asks for all three kinds of lists.
+use mathlib.Core.Path.{sym, _∙_}
+use mathlib.Core.Bool.{and-true}
+use borrow.Author.Tests.{not-true, not-false}
+use borrow.Author.Needs.{needs}
+use Rattle.book.proofs.lengths.cells_fit.Statement.{statement}
+use Rattle.book.proofs.lengths.cells_fit.Tie as tie
+
+slots-fit-requires : tie.Need-slots-fit-requires
+slots-fit-requires c κs = search needs
+
+returns : tie.Need-returns
+returns c = rw (sym (c .before .slots-fit .ensures) ∙ not-true _ (c .if1 .taken))
+
+days-fit-requires : tie.Need-days-fit-requires
+days-fit-requires c κs = search needs
+
+returns-2 : tie.Need-returns-2
+returns-2 c =
+    rw (
+      sym (c .before .before .before .slots-fit .ensures) ∙ not-false _ (c .before .before .if1 .left),
+      sym (c .before .days-fit .ensures) ∙ not-true _ (c .if2 .taken),
+    )
+
+reads-fit-requires : tie.Need-reads-fit-requires
+reads-fit-requires c κs = search needs
+
+returns-3 : tie.Need-returns-3
+returns-3 c =
+    let b = c .before .before .before .before in
+    rw (
+      sym (b .slots-fit .ensures) ∙ not-false _ (c .before .before .before .if1 .left),
+      sym (c .before .before .days-fit .ensures) ∙ not-false _ (c .before .if2 .left),
+      and-true,
+    )
+    (c .reads-fit .ensures)
+
+pub cells-fit-spec : {M : Type 1} → statement M
+cells-fit-spec =
+    tie.close
+    (tie.spec slots-fit-requires returns days-fit-requires returns-2 reads-fit-requires returns-3)

@@ -1,0 +1,25 @@
+-- `lengths::reads_fit`: D + 1 long.
+use mathlib.Core.Bool.{and-true}
+use native.Mathlib.Numerals.{add-one}
+use borrow.Author.Tests.{eq-eqb, ne-eqb}
+use Rattle.book.specs.Cells.{allLong}
+use borrow.Author.Needs.{needs}
+use Rattle.book.proofs.lengths.reads_fit.Statement.{statement}
+use Rattle.book.proofs.lengths.reads_fit.Tie as tie
+
+cast-n : tie.Need-cast-n
+cast-n c = search needs
+
+add-n : tie.Need-add-n
+add-n c = search needs
+
+returns : tie.Need-returns
+unfolding allLong
+returns c = simp (ne-eqb _ _ (rw add-one at (c .if1 .taken)))
+
+returns-2 : tie.Need-returns-2
+unfolding allLong
+returns-2 c = rw (eq-eqb _ _ (rw add-one at (c .if1 .left)), add-one, and-true)
+
+pub reads-fit-spec : {M : Type 1} → statement M
+reads-fit-spec = tie.close (tie.spec cast-n add-n returns returns-2)

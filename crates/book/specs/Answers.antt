@@ -1,0 +1,57 @@
+-- What a call answers (01, The three calls that fill it; Numbers of a refusal).
+use mathlib.Core.Bool.{Bool, true, false, cond}
+use mathlib.Core.List.{List, [], _∷_}
+use Prim.Native.Nat.{ℕ}
+use lib.Dec.{ltb}
+use Rattle.book.specs.declared.Opened.{Opened}
+use Rattle.book.specs.declared.Opened.the-variants as opened
+use Rattle.book.specs.declared.Filed.{Filed}
+use Rattle.book.specs.declared.Filed.the-variants as filed
+
+-- a refusal gives the number only
+pub data Answer : Type 0 where
+  done : Answer
+  stored : Answer
+  late : Answer
+  repeat : Answer
+  refused : ℕ → Answer
+
+-- 01's answer for each case of the two enums
+abbrev pub openedMeant : Opened → Answer
+openedMeant opened.Done = done
+openedMeant (opened.Refused n) = refused n
+
+abbrev pub filedMeant : Filed → Answer
+filedMeant filed.Stored = stored
+filedMeant filed.Late = late
+filedMeant filed.Repeat = repeat
+filedMeant (filed.Refused n) = refused n
+
+-- "Stored, late and repeat are the accepted calls."
+abbrev pub isAccepted : Answer → Bool
+isAccepted done = false
+isAccepted stored = true
+isAccepted late = true
+isAccepted repeat = true
+isAccepted (refused n) = false
+
+abbrev pub isStored : Answer → Bool
+isStored done = false
+isStored stored = true
+isStored late = false
+isStored repeat = false
+isStored (refused n) = false
+
+-- a rule from the input: its number, and whether it is broken
+pub data Rule : Type 0 where
+  rule : ℕ → Bool → Rule
+
+-- "The lowest applying number is given": the rules stand in the order of their numbers
+abbrev pub unless : List Rule → Answer → Answer
+unless [] a = a
+unless (rule n broken ∷ rules) a = cond broken (refused n) (unless rules a)
+
+-- the version before, the call's, and whether the contents are equal: higher stored, lower late, equal repeat or 10
+unfoldable pub byVersion : ℕ → ℕ → Bool → Answer
+byVersion before version same =
+    cond (ltb before version) stored (cond (ltb version before) late (cond same repeat (refused 10)))

@@ -1,0 +1,24 @@
+-- The three calls that fill a book, and the rules that their arguments can break (01, Numbers of a refusal, from the input).
+use mathlib.Core.List.{List, [], _∷_}
+use Prim.Native.Nat.{ℕ}
+use lib.Dec.{leb, ltb, eqb}
+use Rattle.rules.specs.declared.Head.{Head}
+use Rattle.rules.specs.Opening.{slotCount}
+use Rattle.book.specs.Answers.{Rule}
+use Rattle.book.specs.Answers.Rule.{rule}
+
+pub data Call : Type 0 where
+  -- slot, version, value, status
+  delivery : ℕ → ℕ → ℕ → ℕ → Call
+  -- day
+  holiday : ℕ → Call
+  -- boundary, version, reading
+  register : ℕ → ℕ → ℕ → Call
+
+-- 3 slot ≥ N, day ≥ D or boundary > D; 4 version 0; 5 status over 7; 6 reading over 99,999,999
+unfoldable pub argumentRules : Head → Call → List Rule
+argumentRules h (delivery slot version value status) =
+    rule 3 (leb (slotCount h) slot) ∷ rule 4 (eqb version 0) ∷ rule 5 (ltb 7 status) ∷ []
+argumentRules h (holiday day) = rule 3 (leb (h .days) day) ∷ []
+argumentRules h (register boundary version reading) =
+    rule 3 (ltb (h .days) boundary) ∷ rule 4 (eqb version 0) ∷ rule 6 (ltb 99999999 reading) ∷ []

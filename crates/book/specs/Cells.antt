@@ -1,0 +1,69 @@
+-- The lent lists: their lengths (01, Opening; 2), and the cells that no calls could leave (11).
+use mathlib.Core.Bool.{Bool, true, not, _&&_, _||_}
+use mathlib.Core.List.{List, [], _∷_}
+use Prim.Native.Nat.{ℕ, suc}
+use lib.Dec.{ltb, eqb}
+use lib.ListN.{length, getD}
+use Rattle.rules.specs.declared.Head.{Head}
+use Rattle.rules.specs.Lists.{every, any}
+use Rattle.rules.specs.Opening.{slotCount, Slots, Cells}
+
+-- the two lent lists of boundaries
+pub record Reads : Type 0 where
+  pub readings : List ℕ
+  pub readVersions : List ℕ
+
+abbrev pub readsOf : Cells → Reads
+readsOf b = record { readings = b .readings; readVersions = b .readVersions }
+
+-- each of these lengths is n
+unfoldable pub allLong : ℕ → List ℕ → Bool
+allLong n [] = true
+allLong n (l ∷ ls) = eqb l n && allLong n ls
+
+-- N, D and D + 1 long
+unfoldable pub slotsFit : Head → Slots → Bool
+slotsFit h s = allLong (slotCount h) (length (s .values) ∷ length (s .versions) ∷ length (s .statuses) ∷ [])
+
+unfoldable pub daysFit : Head → List ℕ → Bool
+daysFit h holidays = allLong (h .days) (length holidays ∷ [])
+
+unfoldable pub readsFit : Head → Reads → Bool
+readsFit h r = allLong (suc (h .days)) (length (r .readings) ∷ length (r .readVersions) ∷ [])
+
+abbrev pub cellsFits : Head → Cells → List Bool
+cellsFits h b = slotsFit h (b .slots) ∷ daysFit h (b .holidays) ∷ readsFit h (readsOf b) ∷ []
+
+unfoldable pub cellsFit : Head → Cells → Bool
+cellsFit h b = every (cellsFits h b)
+
+-- status over 7, or version 0 beside a non-zero value or status
+unfoldable pub slotFault : ℕ → ℕ → ℕ → Bool
+slotFault version value status = ltb 7 status || (eqb version 0 && (not (eqb value 0) || not (eqb status 0)))
+
+-- holiday over 1
+unfoldable pub dayFault : ℕ → Bool
+dayFault cell = ltb 1 cell
+
+-- reading over 99,999,999, or version 0 beside a non-zero reading
+unfoldable pub readFault : ℕ → ℕ → Bool
+readFault version reading = ltb 99999999 reading || (eqb version 0 && not (eqb reading 0))
+
+-- the same of a place in the lists
+abbrev pub slotFaultAt : Slots → ℕ → Bool
+slotFaultAt s i = slotFault (getD (s .versions) i 0) (getD (s .values) i 0) (getD (s .statuses) i 0)
+
+abbrev pub dayFaultAt : List ℕ → ℕ → Bool
+dayFaultAt holidays day = dayFault (getD holidays day 0)
+
+abbrev pub readFaultAt : Reads → ℕ → Bool
+readFaultAt r boundary = readFault (getD (r .readVersions) boundary 0) (getD (r .readings) boundary 0)
+
+-- no slot, day or boundary has a cell that no calls could leave
+unfoldable pub cellsOk : Head → Cells → Bool
+cellsOk h b =
+    every
+    (not (any (slotFaultAt (b .slots)) 0 (slotCount h))
+    ∷ not (any (dayFaultAt (b .holidays)) 0 (h .days))
+    ∷ not (any (readFaultAt (readsOf b)) 0 (suc (h .days)))
+    ∷ [])

@@ -1,0 +1,103 @@
+-- What the three calls answer, and what they leave in the lists they are lent (01, The three calls that fill it).
+use mathlib.Core.Bool.{Bool, not, cond, _&&_}
+use mathlib.Core.List.{List, [], _∷_}
+use Prim.Native.Nat.{ℕ}
+use lib.Dec.{eqb}
+use lib.ListN.{getD, set}
+use Rattle.rules.specs.declared.Head.{Head}
+use Rattle.rules.specs.Opening.{headOk, Slots, Cells}
+use Rattle.book.specs.Answers.{Answer, isStored, Rule, unless, byVersion}
+use Rattle.book.specs.Answers.Answer.{stored, repeat, refused}
+use Rattle.book.specs.Answers.Rule.{rule}
+use Rattle.book.specs.Arguments.{Call, argumentRules}
+use Rattle.book.specs.Arguments.Call.{delivery, holiday, register}
+use Rattle.book.specs.Cells.{Reads, readsOf, slotsFit, daysFit, readsFit, slotFault, dayFault, readFault}
+
+-- the rules from the input, where the lists that the call is lent fit or do not
+abbrev pub inputRules : Head → Bool → Call → List Rule
+inputRules h fit c = rule 1 (not (headOk h)) ∷ rule 2 (not fit) ∷ argumentRules h c
+
+-- a call against its own cell, which stands first: 11 goes before 10
+unfoldable pub againstSlot : ℕ → ℕ → ℕ → ℕ → ℕ → ℕ → Answer
+againstSlot oldVersion oldValue oldStatus version value status =
+    cond (slotFault oldVersion oldValue oldStatus) (refused 11)
+    (byVersion oldVersion version (eqb oldValue value && eqb oldStatus status))
+
+-- "A holiday is stored the first time, then repeat."
+unfoldable pub againstDay : ℕ → Answer
+againstDay cell = cond (dayFault cell) (refused 11) (cond (eqb cell 0) stored repeat)
+
+unfoldable pub againstBoundary : ℕ → ℕ → ℕ → ℕ → Answer
+againstBoundary oldVersion oldReading version reading =
+    cond (readFault oldVersion oldReading) (refused 11) (byVersion oldVersion version (eqb oldReading reading))
+
+-- a stored call writes one place of a list; with any other answer nothing changes
+abbrev pub storedIn : Answer → List ℕ → ℕ → ℕ → List ℕ
+storedIn a cells i x = cond (isStored a) (set cells i x) cells
+
+-- a delivery
+unfoldable pub deliverAnswer : Head → Slots → ℕ → ℕ → ℕ → ℕ → Answer
+deliverAnswer h s slot version value status =
+    unless (inputRules h (slotsFit h s) (delivery slot version value status))
+    (againstSlot (getD (s .versions) slot 0) (getD (s .values) slot 0) (getD (s .statuses) slot 0) version value status)
+
+unfoldable pub deliverAfter : Head → Slots → ℕ → ℕ → ℕ → ℕ → Slots
+deliverAfter h s slot version value status = record {
+  values = storedIn (deliverAnswer h s slot version value status) (s .values) slot value;
+  versions = storedIn (deliverAnswer h s slot version value status) (s .versions) slot version;
+  statuses = storedIn (deliverAnswer h s slot version value status) (s .statuses) slot status;
+}
+
+-- a holiday
+unfoldable pub holidayAnswer : Head → List ℕ → ℕ → Answer
+holidayAnswer h holidays day = unless (inputRules h (daysFit h holidays) (holiday day)) (againstDay (getD holidays day 0))
+
+unfoldable pub holidayAfter : Head → List ℕ → ℕ → List ℕ
+holidayAfter h holidays day = storedIn (holidayAnswer h holidays day) holidays day 1
+
+-- a register read
+unfoldable pub registerAnswer : Head → Reads → ℕ → ℕ → ℕ → Answer
+registerAnswer h r boundary version reading =
+    unless (inputRules h (readsFit h r) (register boundary version reading))
+    (againstBoundary (getD (r .readVersions) boundary 0) (getD (r .readings) boundary 0) version reading)
+
+unfoldable pub registerAfter : Head → Reads → ℕ → ℕ → ℕ → Reads
+registerAfter h r boundary version reading = record {
+  readings = storedIn (registerAnswer h r boundary version reading) (r .readings) boundary reading;
+  readVersions = storedIn (registerAnswer h r boundary version reading) (r .readVersions) boundary version;
+}
+
+-- any of the three, over all cells
+unfoldable pub answer : Head → Cells → Call → Answer
+answer h b (delivery slot version value status) = deliverAnswer h (b .slots) slot version value status
+answer h b (holiday day) = holidayAnswer h (b .holidays) day
+answer h b (register boundary version reading) = registerAnswer h (readsOf b) boundary version reading
+
+unfoldable pub after : Head → Cells → Call → Cells
+after h b (delivery slot version value status) = record {
+  slots = deliverAfter h (b .slots) slot version value status;
+  holidays = b .holidays;
+  readings = b .readings;
+  readVersions = b .readVersions;
+}
+after h b (holiday day) = record {
+  slots = b .slots;
+  holidays = holidayAfter h (b .holidays) day;
+  readings = b .readings;
+  readVersions = b .readVersions;
+}
+after h b (register boundary version reading) = record {
+  slots = b .slots;
+  holidays = b .holidays;
+  readings = registerAfter h (readsOf b) boundary version reading .readings;
+  readVersions = registerAfter h (readsOf b) boundary version reading .readVersions;
+}
+
+-- a list of calls, each given the lists as the call before left them
+unfoldable pub answers : Head → Cells → List Call → List Answer
+answers h b [] = []
+answers h b (c ∷ cs) = answer h b c ∷ answers h (after h b c) cs
+
+unfoldable pub afterAll : Head → Cells → List Call → Cells
+afterAll h b [] = b
+afterAll h b (c ∷ cs) = afterAll h (after h b c) cs

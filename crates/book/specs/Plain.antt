@@ -1,0 +1,112 @@
+-- What a list of calls amounts to, from the head and the calls' arguments alone (01, The plain book).
+use mathlib.Core.Bool.{Bool, false, not, cond, _&&_, _||_}
+use mathlib.Core.List.{List, [], _∷_}
+use Prim.Native.Nat.{ℕ, zero, suc, max}
+use lib.Dec.{eqb}
+use Rattle.rules.specs.declared.Head.{Head}
+use Rattle.rules.specs.Opening.{headOk, slotCount, Cells}
+use Rattle.book.specs.Answers.{Answer, isAccepted, unless, byVersion}
+use Rattle.book.specs.Answers.Answer.{stored, repeat}
+use Rattle.book.specs.Answers.Rule.{rule}
+use Rattle.book.specs.Arguments.{Call, argumentRules}
+use Rattle.book.specs.Arguments.Call.{delivery, holiday, register}
+
+-- what a kept delivery or register read says: its version and its content
+pub record Said (A : Type 0) : Type 0 where
+  pub version : ℕ
+  pub content : A
+
+-- a delivery's content; a register read's is the reading
+pub record Measured : Type 0 where
+  pub value : ℕ
+  pub status : ℕ
+
+-- the kept deliveries for a slot
+unfoldable pub deliveries : ℕ → List Call → List (Said Measured)
+deliveries i [] = []
+deliveries i (delivery slot version value status ∷ kept) =
+    cond (eqb slot i) (record { version = version; content = record { value = value; status = status } } ∷ deliveries i kept)
+    (deliveries i kept)
+deliveries i (holiday day ∷ kept) = deliveries i kept
+deliveries i (register boundary version reading ∷ kept) = deliveries i kept
+
+-- the kept register reads for a boundary
+unfoldable pub reads : ℕ → List Call → List (Said ℕ)
+reads d [] = []
+reads d (delivery slot version value status ∷ kept) = reads d kept
+reads d (holiday day ∷ kept) = reads d kept
+reads d (register boundary version reading ∷ kept) =
+    cond (eqb boundary d) (record { version = version; content = reading } ∷ reads d kept) (reads d kept)
+
+-- a kept holiday call names the day
+unfoldable pub named : ℕ → List Call → Bool
+named d [] = false
+named d (delivery slot version value status ∷ kept) = named d kept
+named d (holiday day ∷ kept) = eqb day d || named d kept
+named d (register boundary version reading ∷ kept) = named d kept
+
+-- h: the highest version among them, 0 if there are none
+unfoldable pub highest : {A : Type 0} → List (Said A) → ℕ
+highest [] = 0
+highest (s ∷ ss) = max (s .version) (highest ss)
+
+-- the content of the kept call with this version, zeros if there is none
+unfoldable pub contentWith : {A : Type 0} → A → ℕ → List (Said A) → A
+contentWith zeros version [] = zeros
+contentWith zeros version (s ∷ ss) = cond (eqb (s .version) version) (s .content) (contentWith zeros version ss)
+
+-- the version and content of a slot's, or a boundary's, kept call with the highest version
+abbrev pub slotVersion : List Call → ℕ → ℕ
+slotVersion kept i = highest (deliveries i kept)
+
+abbrev pub slotContent : List Call → ℕ → Measured
+slotContent kept i = contentWith (record { value = 0; status = 0 }) (slotVersion kept i) (deliveries i kept)
+
+abbrev pub readVersion : List Call → ℕ → ℕ
+readVersion kept d = highest (reads d kept)
+
+abbrev pub readContent : List Call → ℕ → ℕ
+readContent kept d = contentWith 0 (readVersion kept d) (reads d kept)
+
+-- a call that breaks no rule from the input
+unfoldable pub againstKept : List Call → Call → Answer
+againstKept kept (delivery slot version value status) =
+    byVersion (slotVersion kept slot) version
+    (eqb (slotContent kept slot .value) value && eqb (slotContent kept slot .status) status)
+againstKept kept (holiday day) = cond (named day kept) repeat stored
+againstKept kept (register boundary version reading) =
+    byVersion (readVersion kept boundary) version (eqb (readContent kept boundary) reading)
+
+unfoldable pub plainAnswer : Head → List Call → Call → Answer
+plainAnswer h kept c = unless (rule 1 (not (headOk h)) ∷ argumentRules h c) (againstKept kept c)
+
+-- "A refused call isn't kept, every other is": the newest stands first
+unfoldable pub keep : Head → List Call → Call → List Call
+keep h kept c = cond (isAccepted (plainAnswer h kept c)) (c ∷ kept) kept
+
+-- a list of calls: its answers, and the calls kept at its end
+unfoldable pub plainAnswers : Head → List Call → List Call → List Answer
+plainAnswers h kept [] = []
+plainAnswers h kept (c ∷ cs) = plainAnswer h kept c ∷ plainAnswers h (keep h kept c) cs
+
+unfoldable pub keptOf : Head → List Call → List Call → List Call
+keptOf h kept [] = kept
+keptOf h kept (c ∷ cs) = keptOf h (keep h kept c) cs
+
+-- f 0, f 1, .. , n of them
+unfoldable pub tabulate : (ℕ → ℕ) → ℕ → List ℕ
+tabulate f zero = []
+tabulate f (suc n) = f 0 ∷ tabulate (λ i. f (suc i)) n
+
+-- "At the end a slot or boundary has the version and content of its kept call with the highest version .."
+unfoldable pub bookOf : Head → List Call → Cells
+bookOf h kept = record {
+  slots = record {
+    values = tabulate (λ i. slotContent kept i .value) (slotCount h);
+    versions = tabulate (slotVersion kept) (slotCount h);
+    statuses = tabulate (λ i. slotContent kept i .status) (slotCount h);
+  };
+  holidays = tabulate (λ d. cond (named d kept) 1 0) (h .days);
+  readings = tabulate (readContent kept) (suc (h .days));
+  readVersions = tabulate (readVersion kept) (suc (h .days));
+}

@@ -1,0 +1,67 @@
+// A call against its own cell: 11 goes before 10 (01, Numbers of a refusal).
+use crate::Filed;
+use crate::cells;
+use crate::versions;
+ghost use mathlib.Core.Bool.{_&&_};
+ghost use mathlib.Core.Path.{_≡_};
+ghost use lib.Dec.{eqb};
+ghost use Rattle.book.specs.Answers.{filedMeant, isStored};
+ghost use Rattle.book.specs.Filling.{againstSlot, againstDay, againstBoundary};
+
+pub fn is_stored(found: Filed) -> bool
+    ensures { λ r. ⌜ r ≡ isStored (filedMeant found) ⌝ }
+{
+    match found {
+        Filed::Stored => true,
+        Filed::Late => false,
+        Filed::Repeat => false,
+        Filed::Refused(_) => false,
+    }
+}
+
+fn is_same(old_value: u32, old_status: u8, value: u32, status: u8) -> bool
+    ensures { λ r. ⌜ r ≡ (eqb «old_value» value && eqb «old_status» status) ⌝ }
+{
+    if old_value != value {
+        return false;
+    }
+    old_status == status
+}
+
+pub fn against_slot(
+    old_version: u32,
+    old_value: u32,
+    old_status: u8,
+    version: u32,
+    value: u32,
+    status: u8,
+) -> Filed
+    ensures { λ r. ⌜ filedMeant r ≡ againstSlot «old_version» «old_value» «old_status» version value status ⌝ }
+{
+    if cells::slot_fault(old_version, old_value, old_status) {
+        return Filed::Refused(11);
+    }
+    let same = is_same(old_value, old_status, value, status);
+    versions::by_version(old_version, version, same)
+}
+
+pub fn against_day(cell: u8) -> Filed
+    ensures { λ r. ⌜ filedMeant r ≡ againstDay cell ⌝ }
+{
+    if cells::day_fault(cell) {
+        return Filed::Refused(11);
+    }
+    if cell == 0 {
+        return Filed::Stored;
+    }
+    Filed::Repeat
+}
+
+pub fn against_boundary(old_version: u32, old_reading: u32, version: u32, reading: u32) -> Filed
+    ensures { λ r. ⌜ filedMeant r ≡ againstBoundary «old_version» «old_reading» version reading ⌝ }
+{
+    if cells::read_fault(old_version, old_reading) {
+        return Filed::Refused(11);
+    }
+    versions::by_version(old_version, version, old_reading == reading)
+}

@@ -1,0 +1,182 @@
+// The calls that open and fill a book (01, Opening; The three calls that fill it).
+pub mod cells;
+mod filing;
+pub mod lengths;
+pub mod sound;
+mod versions;
+mod zeros;
+
+use rules::Head;
+use rules::opening;
+ghost use mathlib.Core.Path.{_≡_};
+ghost use Rattle.rules.specs.Inner.Lent.{lentSlots, lentCells};
+ghost use Rattle.book.specs.Answers.{openedMeant, filedMeant};
+ghost use Rattle.book.specs.Opening.{openAnswer, openAfter};
+ghost use Rattle.book.specs.Filling.{deliverAnswer, deliverAfter, holidayAnswer, holidayAfter, registerAnswer, registerAfter};
+ghost use Rattle.book.specs.Inner.Lent.{lentReads};
+
+// What opening answers.
+pub enum Opened {
+    Done,
+    Refused(u8),
+}
+
+// What a filling call answers.
+pub enum Filed {
+    Stored,
+    Late,
+    Repeat,
+    Refused(u8),
+}
+
+pub fn open(
+    head: Head,
+    values: &mut [u32],
+    versions: &mut [u32],
+    statuses: &mut [u8],
+    holidays: &mut [u8],
+    readings: &mut [u32],
+    read_versions: &mut [u32],
+) -> Opened
+    ensures { λ r. ⌜
+        (let cells =
+        lentCells (values .entry) (versions .entry) (statuses .entry) (holidays .entry) (readings .entry)
+        («read_versions» .entry) in
+        (openedMeant r ≡ openAnswer head cells)
+        × (now (values .exit) ≡ openAfter head cells .slots .values)
+        × (now (versions .exit) ≡ openAfter head cells .slots .versions)
+        × (now (statuses .exit) ≡ openAfter head cells .slots .statuses)
+        × (now (holidays .exit) ≡ openAfter head cells .holidays)
+        × (now (readings .exit) ≡ openAfter head cells .readings)
+        × (now («read_versions» .exit) ≡ openAfter head cells .readVersions))
+        ⌝ }
+{
+    if !opening::head_ok(head) {
+        return Opened::Refused(1);
+    }
+    let fit = lengths::cells_fit(
+        head,
+        values.len(),
+        versions.len(),
+        statuses.len(),
+        holidays.len(),
+        readings.len(),
+        read_versions.len(),
+    );
+    if !fit {
+        return Opened::Refused(2);
+    }
+    zeros::clear_words(values);
+    zeros::clear_words(versions);
+    zeros::clear_bytes(statuses);
+    zeros::clear_bytes(holidays);
+    zeros::clear_words(readings);
+    zeros::clear_words(read_versions);
+    Opened::Done
+}
+
+pub fn deliver(
+    head: Head,
+    values: &mut [u32],
+    versions: &mut [u32],
+    statuses: &mut [u8],
+    slot: u32,
+    version: u32,
+    value: u32,
+    status: u8,
+) -> Filed
+    ensures { λ r. ⌜
+        (let slots = lentSlots (values .entry) (versions .entry) (statuses .entry) in
+        (filedMeant r ≡ deliverAnswer head slots slot version value status)
+        × (now (values .exit) ≡ deliverAfter head slots slot version value status .values)
+        × (now (versions .exit) ≡ deliverAfter head slots slot version value status .versions)
+        × (now (statuses .exit) ≡ deliverAfter head slots slot version value status .statuses))
+        ⌝ }
+{
+    if !opening::head_ok(head) {
+        return Filed::Refused(1);
+    }
+    if !lengths::slots_fit(head, values.len(), versions.len(), statuses.len()) {
+        return Filed::Refused(2);
+    }
+    let at = slot as usize;
+    if opening::slot_count(head) <= at {
+        return Filed::Refused(3);
+    }
+    if version == 0 {
+        return Filed::Refused(4);
+    }
+    if 7 < status {
+        return Filed::Refused(5);
+    }
+    let old_status = statuses[at];
+    let found = filing::against_slot(versions[at], values[at], old_status, version, value, status);
+    if filing::is_stored(found) {
+        values[at] = value;
+        versions[at] = version;
+        statuses[at] = status;
+    }
+    found
+}
+
+pub fn holiday(head: Head, holidays: &mut [u8], day: u32) -> Filed
+    ensures { λ r. ⌜
+        (filedMeant r ≡ holidayAnswer head (now (holidays .entry)) day)
+        × (now (holidays .exit) ≡ holidayAfter head (now (holidays .entry)) day)
+        ⌝ }
+{
+    if !opening::head_ok(head) {
+        return Filed::Refused(1);
+    }
+    if !lengths::days_fit(head, holidays.len()) {
+        return Filed::Refused(2);
+    }
+    if head.days <= day {
+        return Filed::Refused(3);
+    }
+    let at = day as usize;
+    let found = filing::against_day(holidays[at]);
+    if filing::is_stored(found) {
+        holidays[at] = 1;
+    }
+    found
+}
+
+pub fn register(
+    head: Head,
+    readings: &mut [u32],
+    read_versions: &mut [u32],
+    boundary: u32,
+    version: u32,
+    reading: u32,
+) -> Filed
+    ensures { λ r. ⌜
+        (let reads = lentReads (readings .entry) («read_versions» .entry) in
+        (filedMeant r ≡ registerAnswer head reads boundary version reading)
+        × (now (readings .exit) ≡ registerAfter head reads boundary version reading .readings)
+        × (now («read_versions» .exit) ≡ registerAfter head reads boundary version reading .readVersions))
+        ⌝ }
+{
+    if !opening::head_ok(head) {
+        return Filed::Refused(1);
+    }
+    if !lengths::reads_fit(head, readings.len(), read_versions.len()) {
+        return Filed::Refused(2);
+    }
+    if head.days < boundary {
+        return Filed::Refused(3);
+    }
+    if version == 0 {
+        return Filed::Refused(4);
+    }
+    if 99999999 < reading {
+        return Filed::Refused(6);
+    }
+    let at = boundary as usize;
+    let found = filing::against_boundary(read_versions[at], readings[at], version, reading);
+    if filing::is_stored(found) {
+        readings[at] = reading;
+        read_versions[at] = version;
+    }
+    found
+}
