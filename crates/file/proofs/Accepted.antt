@@ -1,0 +1,150 @@
+-- The file of a well-formed content is accepted, with the content's figures and tables.
+use mathlib.Core.Path.{_≡_, refl, sym, ap, _∙_}
+use mathlib.Core.Bool.{Bool, true, false, cond}
+use Prim.Native.Nat.{ℕ, _+_, _-_, _*_, _/_, _^_, _≤_, _<_}
+use native.Mathlib.Nat.{zero-add}
+use native.Mathlib.Omega.{arith}
+use borrow.Author.Tests.{le-leb, eq-eqb}
+use lib.Dec.{lit<, leb, eqb}
+use lib.ListN.{length, length-append}
+use lib.Seq.{take-at}
+use Rattle.rules.specs.declared.Outcome.{Outcome}
+use Rattle.rules.specs.declared.Quality.{Quality}
+use Rattle.rules.specs.declared.Quality.the-variants.{A, S, N}
+use Rattle.rules.specs.Lists.{sum}
+use Rattle.rules.specs.Spans.{isA, isS, isN}
+use Rattle.rules.proofs.Sums.{sum-cong}
+use Rattle.file.specs.declared.Verdict.the-variants.{Accepted}
+use Rattle.file.specs.Layout.{Content, letter, total, one, row, trailerRow, figuresOf, tablesOf, fileOf}
+use Rattle.file.specs.Reader.{figures, slotCount, countOf, tablesAt, trailerOk, tablesOk, figuresOk, readFile, partOf, tablesPart}
+use Rattle.file.specs.Contents.{Fitting, WellFormed, slot, noSlot, recordsOf}
+use Rattle.file.proofs.Rows.{length-row}
+use Rattle.file.proofs.Lists.{upTo-list, total-sum, total-le}
+use Rattle.file.proofs.Head.{slots-le}
+use Rattle.file.proofs.Fitting.{fitting}
+use Rattle.file.proofs.Content.{slot-back, span-back, first-back, days-back, interval-back, layout-back, spans-back, distance-back, trailer-field, length-file}
+use Rattle.file.proofs.Agree.{Agree, count-agree, sum-agree, tables-agree}
+use Rattle.file.proofs.Answers.{accepted-with}
+
+one-le : (b : Bool) → cond b 1 0 ≤ 1
+one-le true = omega arith
+one-le false = omega arith
+
+-- a figure of a content, as a sum over its slots
+total-slots : (f : Content) (g : Outcome → ℕ) → total g (f .slots) ≡ sum (λ i. g (slot f i)) 0 (length (f .slots))
+total-slots f g =
+    ap (total g) (sym (upTo-list (f .slots) noSlot (slot f) 0 (λ i l. ap (slot f) (zero-add i)))) ∙ total-sum g (slot f) 0 (length (f .slots))
+
+-- a quality's test, and that of its letter
+pub record Tests (q : Quality) (p : Quality → Bool) : Type 0 where
+  pub same : (r : Quality) → eqb (letter r) (letter q) ≡ p r
+
+pub testsA : Tests A isA
+testsA = record { same = go }
+  where
+    go : (r : Quality) → eqb (letter r) 65 ≡ isA r
+    go A = refl
+    go S = refl
+    go N = refl
+
+pub testsS : Tests S isS
+testsS = record { same = go }
+  where
+    go : (r : Quality) → eqb (letter r) 83 ≡ isS r
+    go A = refl
+    go S = refl
+    go N = refl
+
+pub testsN : Tests N isN
+testsN = record { same = go }
+  where
+    go : (r : Quality) → eqb (letter r) 78 ≡ isN r
+    go A = refl
+    go S = refl
+    go N = refl
+
+-- the counts and the sum of a content's own records
+pub count-own : (f : Content) → length (f .slots) ≡ 1440 / f .interval * f .days → (q : Quality) (p : Quality → Bool) → Tests q p
+    → countOf (recordsOf f) q ≡ total (one p) (f .slots)
+count-own f e q p s =
+    rw (← e) (sum-cong _ _ 0 (length (f .slots)) (λ i _ _. ap (λ (b : Bool). cond b 1 0) (s .same (slot f i .quality))) ∙ sym (total-slots f (one p)))
+
+pub sum-own : (f : Content) → length (f .slots) ≡ 1440 / f .interval * f .days
+    → sum (λ i. slot f i .value) 0 (1440 / f .interval * f .days) ≡ total (λ o. o .value) (f .slots)
+sum-own f e = rw (← e) (sym (total-slots f (λ o. o .value)))
+
+module _ (f : Content) (w : WellFormed f) where
+  fits : Fitting f
+  fits = fitting f w
+
+  few : length (f .slots) ≤ 115200
+  few = rw (w .slots) (slots-le (f .first) (f .days) (f .interval) (w .head))
+
+  count-lt : (p : Quality → Bool) → total (one p) (f .slots) < 256 ^ 4
+  count-lt p = omega (arith, few, total-le (one p) 1 noSlot (f .slots) (λ i l. one-le (p (slot f i .quality))))
+
+  sum-lt : total (λ o. o .value) (f .slots) < 256 ^ 8
+  sum-lt = omega (arith, few, total-le (λ o. o .value) (2 ^ 32) noSlot (f .slots) (λ i l. omega (arith, w .values i l)))
+
+  figures-back : figures (fileOf f) ≡ figuresOf f
+  unfolding figures figuresOf
+  figures-back =
+      λ k. record {
+        first = first-back f fits k;
+        days = days-back f fits k;
+        interval = interval-back f fits k;
+        spans = spans-back f fits k;
+        actual = trailer-field f 5 (lit< tt) (count-lt isA) k;
+        substituted = trailer-field f 6 (lit< tt) (count-lt isS) k;
+        none = trailer-field f 7 (lit< tt) (count-lt isN) k;
+        sum = trailer-field f 8 (lit< tt) sum-lt k;
+      }
+
+  base : 6 * slotCount (figuresOf f) ≡ 6 * length (f .slots)
+  unfolding figuresOf
+  base = rw (w .slots)
+
+  agree : Agree (tablesAt (fileOf f) (figuresOf f)) (recordsOf f)
+  unfolding figuresOf
+  agree = record {
+    perDay = refl;
+    days = refl;
+    spans = refl;
+    slot = λ i l. slot-back f fits i (rw (w .slots) l);
+    span = λ j l. span-back f fits _ base j l;
+  }
+
+  trailer-right : trailerOk (fileOf f) (figuresOf f) ≡ true
+  unfolding trailerOk figuresOf
+  trailer-right =
+      let long : leb 32 (length (fileOf f)) ≡ true = le-leb 32 (length (fileOf f)) (omega (arith, length-file f)) in
+      let whole : eqb (length (fileOf f)) (6 * (1440 / f .interval * f .days) + 10 * length (f .spans) + 32) ≡ true =
+      eq-eqb (length (fileOf f)) (6 * (1440 / f .interval * f .days) + 10 * length (f .spans) + 32) (omega (arith, length-file f, base)) in
+      rw (long, w .head, eq-eqb _ _ (layout-back f fits), eq-eqb _ _ (distance-back f fits), whole)
+
+  tables-right : tablesOk (fileOf f) (figuresOf f) ≡ true
+  unfolding tablesOk
+  tables-right = tables-agree (tablesAt (fileOf f) (figuresOf f)) (recordsOf f) agree (w .tables)
+
+  figures-right : figuresOk (fileOf f) (figuresOf f) ≡ true
+  unfolding figuresOk figuresOf
+  figures-right =
+      let own = count-agree (tablesAt (fileOf f) (figuresOf f)) (recordsOf f) agree in
+      rw (
+        eq-eqb _ _ (own A ∙ count-own f (w .slots) A isA testsA),
+        eq-eqb _ _ (own S ∙ count-own f (w .slots) S isS testsS),
+        eq-eqb _ _ (own N ∙ count-own f (w .slots) N isN testsN),
+        eq-eqb _ _ (sum-agree (tablesAt (fileOf f) (figuresOf f)) (recordsOf f) agree ∙ sum-own f (w .slots)),
+      )
+
+  -- with the content's figures
+  pub accepted : readFile (fileOf f) ≡ Accepted (figuresOf f)
+  accepted = accepted-with (fileOf f) (figuresOf f) (sym figures-back) trailer-right tables-right figures-right
+
+  -- and with its tables
+  pub tables-back : tablesPart (fileOf f) ≡ tablesOf f
+  unfolding tablesPart fileOf
+  tables-back =
+      let end : length (fileOf f) - 32 ≡ length (tablesOf f) =
+      omega (arith, length-append (tablesOf f) (row (trailerRow (figuresOf f))), length-row (trailerRow (figuresOf f))) in
+      ap (λ v. partOf v (fileOf f)) accepted ∙ take-at (tablesOf f) (row (trailerRow (figuresOf f))) (length (fileOf f) - 32) (sym end)

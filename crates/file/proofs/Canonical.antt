@@ -1,0 +1,231 @@
+-- Bytes that the reader accepts are the file of the content that their figures and tables hold.
+use mathlib.Core.Path.{_≡_, refl, sym, ap, ap₂, _∙_}
+use mathlib.Core.List.{List, [], _∷_, _++_}
+use mathlib.Core.Logic.{_↔_}
+use Prim.Native.Nat.{ℕ, _+_, _*_, _≤_, _<_}
+use native.Mathlib.Nat.{zero-add}
+use native.Mathlib.Omega.{arith}
+use borrow.Author.Tests.{eqb-true}
+use lib.ListN.{length, take, drop, take-append-drop, length-drop}
+use lib.Seq.{take-add, take-all}
+use Rattle.rules.specs.declared.Quality.{Quality}
+use Rattle.rules.specs.declared.Quality.the-variants.{A, S, N}
+use Rattle.rules.specs.Lists.{sum}
+use Rattle.rules.specs.Spans.{isA, isS, isN, upTo}
+use Rattle.rules.proofs.Logic.{passed}
+use Rattle.file.specs.declared.Figures.{Figures}
+use Rattle.file.specs.declared.Verdict.{Verdict}
+use Rattle.file.specs.declared.Verdict.the-variants.{Accepted}
+use Rattle.file.specs.Layout.{Content, letter, total, one, row, table, slotRow, spanRow, trailerRow, figuresOf, tablesOf, fileOf}
+use Rattle.file.specs.Reader.{num, byte, slotAt, spanAt, trailerAt, figures, slotCount, tablesAt, countOf, trailerTests, tableTests, figureTests, spanTests, spanOk, trailerOk, tablesOk, figuresOk, readFile, partOf, tablesPart}
+use Rattle.file.specs.Contents.{Bytes, WellFormed, slot, span, noSlot, noSpan, slotRecord, spanRecord, recordsOf, qualityOf, outcomeOf, spanOf, contentOf}
+use Rattle.file.proofs.Numbers.{num-one, num-lt, num-take, byte-take}
+use Rattle.file.proofs.Rows.{reads, row-reads, table-reads}
+use Rattle.file.proofs.Lists.{length-upTo, getD-upTo, upTo-cong}
+use Rattle.file.proofs.Stretches.{all-at}
+use Rattle.file.proofs.Records.{record-tells}
+use Rattle.file.proofs.Agree.{Agree, count-agree, sum-agree, tables-agree}
+use Rattle.file.proofs.Answers.{Passed, ready, tests-passed}
+use Rattle.file.proofs.Accepted.{Tests, testsA, testsS, testsN, count-own, sum-own, accepted}
+
+module _ (bs : List ℕ) (b : Bytes bs) (p : Passed bs (figures bs)) where
+  abbrev g : Figures
+  g = figures bs
+
+  abbrev n : ℕ
+  n = slotCount (figures bs)
+
+  abbrev m : ℕ
+  m = figures bs .spans
+
+  abbrev t : ℕ
+  t = trailerAt bs
+
+  abbrev f : Content
+  f = contentOf (figures bs) bs
+
+  long : length bs ≡ 6 * n + 10 * m + 32
+  long = ready bs g (p .trailer) .long
+
+  -- the records are those of outcomes and spans
+  slot-right : (i : ℕ) → i < n → slotRecord (outcomeOf (slotAt bs i)) ≡ slotAt bs i
+  unfolding tablesOk
+  slot-right i l =
+      let e = record-tells (slotAt bs i) (all-at _ n (passed (tableTests (tablesAt bs g)) (p .tables) 0) i l) .0 in
+      λ k. record { value = slotAt bs i .value; letter = e k; method = slotAt bs i .method }
+
+  span-right : (j : ℕ) → j < m → spanRecord (spanOf (spanAt bs (6 * n) j)) ≡ spanAt bs (6 * n) j
+  unfolding tablesOk spanOk
+  span-right j l =
+      let r = spanAt bs (6 * n) j in
+      let e : r .blank ≡ 0 = eqb-true _ _ (passed (spanTests (tablesAt bs g) j) (all-at _ m (passed (tableTests (tablesAt bs g)) (p .tables) 1) j l) 5) in
+      λ k. record { first = r .first; last = r .last; advance = r .advance; state = r .state; blank = sym e k }
+
+  slot-is : (i : ℕ) → i < n → slot f i ≡ outcomeOf (slotAt bs i)
+  unfolding contentOf
+  slot-is i l = getD-upTo _ noSlot 0 n i l ∙ ap (λ (x : ℕ). outcomeOf (slotAt bs x)) (zero-add i)
+
+  span-is : (j : ℕ) → j < m → span f j ≡ spanOf (spanAt bs (6 * n) j)
+  unfolding contentOf
+  span-is j l = getD-upTo _ noSpan 0 m j l ∙ ap (λ (x : ℕ). spanOf (spanAt bs (6 * n) x)) (zero-add j)
+
+  agree : Agree (recordsOf f) (tablesAt bs g)
+  unfolding contentOf
+  agree = record {
+    perDay = refl;
+    days = refl;
+    spans = length-upTo _ 0 m;
+    slot = λ i l. ap slotRecord (slot-is i l) ∙ slot-right i l;
+    span = λ j l. ap spanRecord (span-is j l) ∙ span-right j l;
+  }
+
+  -- the figures are the content's
+  count-right : (q : Quality) (h : Quality → _) → Tests q h → total (one h) (f .slots) ≡ countOf (tablesAt bs g) q
+  unfolding contentOf
+  count-right q h s = sym (count-own f (length-upTo _ 0 n) q h s) ∙ count-agree (recordsOf f) (tablesAt bs g) agree q
+
+  figures-right : figuresOf f ≡ g
+  unfolding figuresOf figuresOk contentOf
+  figures-right =
+      let test = passed (figureTests (tablesAt bs g) g) (p .figures) in
+      let actual : total (one isA) (f .slots) ≡ g .actual = count-right A isA testsA ∙ eqb-true _ _ (test 0) in
+      let substituted : total (one isS) (f .slots) ≡ g .substituted = count-right S isS testsS ∙ eqb-true _ _ (test 1) in
+      let none : total (one isN) (f .slots) ≡ g .none = count-right N isN testsN ∙ eqb-true _ _ (test 2) in
+      let value : total (λ o. o .value) (f .slots) ≡ g .sum =
+      sym (sum-own f (length-upTo _ 0 n)) ∙ sum-agree (recordsOf f) (tablesAt bs g) agree ∙ eqb-true _ _ (test 3) in
+      λ k. record {
+        first = g .first;
+        days = g .days;
+        interval = g .interval;
+        spans = length-upTo (λ j. spanOf (spanAt bs (6 * n) j)) 0 m k;
+        actual = actual k;
+        substituted = substituted k;
+        none = none k;
+        sum = value k;
+      }
+
+  -- the three parts of the file
+  slot-row : (i : ℕ) → i < n → slotRow (outcomeOf (slotAt bs i)) ≡ reads (4 ∷ 1 ∷ 1 ∷ []) bs (6 * i)
+  unfolding slotAt
+  slot-row i l =
+      let q : letter (qualityOf (byte bs (6 * i + 4))) ≡ num 1 bs (6 * i + 4) = ap (λ r. r .letter) (slot-right i l) ∙ sym (num-one bs (6 * i + 4)) in
+      let h : byte bs (6 * i + 5) ≡ num 1 bs (6 * i + 4 + 1) = sym (num-one bs (6 * i + 5)) ∙ ap (num 1 bs) (omega arith) in
+      λ k. (4, num 4 bs (6 * i)) ∷ (1, q k) ∷ (1, h k) ∷ []
+
+  span-row : (j : ℕ) → j < m → spanRow (spanOf (spanAt bs (6 * n) j)) ≡ reads (2 ∷ 2 ∷ 4 ∷ 1 ∷ 1 ∷ []) bs (6 * n + 10 * j)
+  unfolding spanAt
+  span-row j l =
+      let o : ℕ = 6 * n + 10 * j in
+      let r : num 4 bs (o + 4) ≡ num 4 bs (o + 2 + 2) = ap (num 4 bs) (omega arith) in
+      let s : byte bs (o + 8) ≡ num 1 bs (o + 2 + 2 + 4) = sym (num-one bs (o + 8)) ∙ ap (num 1 bs) (omega arith) in
+      let z : 0 ≡ num 1 bs (o + 2 + 2 + 4 + 1) = ap (λ x. x .blank) (span-right j l) ∙ sym (num-one bs (o + 9)) ∙ ap (num 1 bs) (omega arith) in
+      λ k. (2, num 2 bs o) ∷ (2, num 2 bs (o + 2)) ∷ (4, r k) ∷ (1, s k) ∷ (1, z k) ∷ []
+
+  slots-part : table slotRow (f .slots) ≡ take (6 * n) (drop 0 bs)
+  unfolding contentOf
+  slots-part =
+      table-reads slotRow 6 _ bs 0 n
+      (λ i l. ap row (slot-row i l) ∙ row-reads bs b (4 ∷ 1 ∷ 1 ∷ []) (6 * i) (omega (arith, long)) ∙ rw zero-add)
+
+  spans-part : table spanRow (f .spans) ≡ take (10 * m) (drop (6 * n) bs)
+  unfolding contentOf
+  spans-part =
+      table-reads spanRow 10 _ bs (6 * n) m
+      (λ j l. ap row (span-row j l) ∙ row-reads bs b (2 ∷ 2 ∷ 4 ∷ 1 ∷ 1 ∷ []) (6 * n + 10 * j) (omega (arith, long)))
+
+  trailer-row : trailerRow g ≡ reads (2 ∷ 2 ∷ 1 ∷ 1 ∷ 2 ∷ 4 ∷ 4 ∷ 4 ∷ 8 ∷ 4 ∷ []) bs t
+  unfolding figures trailerOk
+  trailer-row =
+      let test = passed (trailerTests bs g) (p .trailer) in
+      let p2 : byte bs (t + 4) ≡ num 1 bs (t + 2 + 2) = sym (num-one bs (t + 4)) ∙ ap (num 1 bs) (omega arith) in
+      let p3 : 1 ≡ num 1 bs (t + 2 + 2 + 1) = sym (eqb-true _ _ (test 2)) ∙ sym (num-one bs (t + 5)) ∙ ap (num 1 bs) (omega arith) in
+      let p4 : num 2 bs (t + 6) ≡ num 2 bs (t + 2 + 2 + 1 + 1) = ap (num 2 bs) (omega arith) in
+      let p5 : num 4 bs (t + 8) ≡ num 4 bs (t + 2 + 2 + 1 + 1 + 2) = ap (num 4 bs) (omega arith) in
+      let p6 : num 4 bs (t + 12) ≡ num 4 bs (t + 2 + 2 + 1 + 1 + 2 + 4) = ap (num 4 bs) (omega arith) in
+      let p7 : num 4 bs (t + 16) ≡ num 4 bs (t + 2 + 2 + 1 + 1 + 2 + 4 + 4) = ap (num 4 bs) (omega arith) in
+      let p8 : num 8 bs (t + 20) ≡ num 8 bs (t + 2 + 2 + 1 + 1 + 2 + 4 + 4 + 4) = ap (num 8 bs) (omega arith) in
+      let p9 : 10 * num 2 bs (t + 6) ≡ num 4 bs (t + 2 + 2 + 1 + 1 + 2 + 4 + 4 + 4 + 8) = sym (eqb-true _ _ (test 3)) ∙ ap (num 4 bs) (omega arith) in
+      λ k.
+      (2, num 2 bs t) ∷ (2, num 2 bs (t + 2)) ∷ (1, p2 k) ∷ (1, p3 k) ∷ (2, p4 k) ∷ (4, p5 k) ∷ (4, p6 k) ∷ (4, p7 k) ∷ (8, p8 k) ∷ (4, p9 k) ∷ []
+
+  trailer-part : row (trailerRow (figuresOf f)) ≡ drop (6 * n + 10 * m) bs
+  trailer-part =
+      let e : t ≡ 6 * n + 10 * m = omega (arith, long) in
+      let s : length (drop t bs) ≤ 32 = rw length-drop (omega (arith, long)) in
+      ap (λ (x : Figures). row (trailerRow x)) figures-right
+      ∙ ap row trailer-row ∙ row-reads bs b (2 ∷ 2 ∷ 1 ∷ 1 ∷ 2 ∷ 4 ∷ 4 ∷ 4 ∷ 8 ∷ 4 ∷ []) t (omega (arith, long))
+      ∙ take-all 32 (drop t bs) s ∙ ap (λ (x : ℕ). drop x bs) e
+
+  file-right : fileOf f ≡ bs
+  unfolding fileOf tablesOf
+  file-right =
+      let join : take (6 * n) (drop 0 bs) ++ take (10 * m) (drop (6 * n) bs) ≡ take (6 * n + 10 * m) bs = rw take-add in
+      ap₂ (λ (x y : List ℕ). x ++ y) (ap₂ (λ (x y : List ℕ). x ++ y) slots-part spans-part ∙ join) trailer-part
+      ∙ take-append-drop (6 * n + 10 * m) bs
+
+  well-formed : WellFormed f
+  unfolding contentOf
+  well-formed = record {
+    head = ready bs g (p .trailer) .head;
+    slots = length-upTo _ 0 n;
+    values = λ i l.
+        let k : i < n = rw (length-upTo (λ x. outcomeOf (slotAt bs x)) 0 n) at l in
+        rw (slot-is i k) (unfold slotAt in num-lt bs b 4 (6 * i));
+    tables = tables-agree (recordsOf f) (tablesAt bs g) agree (unfold tablesOk in p .tables);
+  }
+
+  -- the tables' bytes hold the same content
+  slot-same : (i : ℕ) → i < n → slotAt (take t bs) i ≡ slotAt bs i
+  unfolding slotAt
+  slot-same i l =
+      let short : 6 * i + 6 ≤ t = omega (arith, long) in
+      let v = num-take bs t 4 (6 * i) (omega arith) in
+      let q = byte-take bs t (6 * i + 4) (omega arith) in
+      let h = byte-take bs t (6 * i + 5) (omega arith) in
+      λ k. record { value = v k; letter = q k; method = h k }
+
+  span-same : (j : ℕ) → j < m → spanAt (take t bs) (6 * n) j ≡ spanAt bs (6 * n) j
+  unfolding spanAt
+  span-same j l =
+      let o : ℕ = 6 * n + 10 * j in
+      let short : o + 10 ≤ t = omega (arith, long) in
+      let x = num-take bs t 2 o (omega arith) in
+      let y = num-take bs t 2 (o + 2) (omega arith) in
+      let r = num-take bs t 4 (o + 4) (omega arith) in
+      let s = byte-take bs t (o + 8) (omega arith) in
+      let z = byte-take bs t (o + 9) (omega arith) in
+      λ k. record { first = x k; last = y k; advance = r k; state = s k; blank = z k }
+
+  part-same : contentOf g (take t bs) ≡ f
+  unfolding contentOf
+  part-same =
+      let slots : upTo (λ i. outcomeOf (slotAt (take t bs) i)) 0 n ≡ upTo (λ i. outcomeOf (slotAt bs i)) 0 n =
+      upTo-cong _ _ 0 n (λ i l. ap outcomeOf (slot-same i (omega arith))) in
+      let spans : upTo (λ j. spanOf (spanAt (take t bs) (6 * n) j)) 0 m ≡ upTo (λ j. spanOf (spanAt bs (6 * n) j)) 0 m =
+      upTo-cong _ _ 0 m (λ j l. ap spanOf (span-same j (omega arith))) in
+      λ k. record { first = g .first; days = g .days; interval = g .interval; slots = slots k; spans = spans k }
+
+-- what the reader accepts is the file of a well-formed content: the one that its answers, figures and tables, hold
+pub canonical : (bs : List ℕ) → Bytes bs → (g : Figures) → readFile bs ≡ Accepted g
+    → (fileOf (contentOf g (tablesPart bs)) ≡ bs) × (figuresOf (contentOf g (tablesPart bs)) ≡ g) × WellFormed (contentOf g (tablesPart bs))
+unfolding tablesPart
+canonical bs b g e =
+    let (k, same) = tests-passed bs g e in
+    let p : Passed bs (figures bs) = rw same k in
+    let content : contentOf g (partOf (readFile bs) bs) ≡ contentOf (figures bs) bs =
+    ap (λ (v : Verdict). contentOf g (partOf v bs)) e ∙ ap (λ (x : Figures). contentOf x (take (trailerAt bs) bs)) (sym same) ∙ part-same bs b p in
+    rw content (file-right bs b p, figures-right bs b p ∙ same, well-formed bs b p)
+
+-- figures and tables together determine the file
+pub determined : (bs cs : List ℕ) → Bytes bs → Bytes cs → (g : Figures) → readFile bs ≡ Accepted g → readFile cs ≡ Accepted g
+    → tablesPart bs ≡ tablesPart cs → bs ≡ cs
+determined bs cs b c g d e s =
+    sym (canonical bs b g d .0) ∙ ap (λ (x : List ℕ). fileOf (contentOf g x)) s ∙ canonical cs c g e .0
+
+-- the reader accepts exactly the files of well-formed contents, with their figures
+pub exactly : (bs : List ℕ) → Bytes bs → (g : Figures)
+    → (readFile bs ≡ Accepted g) ↔ ((f : Content) × WellFormed f × (fileOf f ≡ bs) × (figuresOf f ≡ g))
+exactly bs b g = (
+  λ e. let k = canonical bs b g e in (contentOf g (tablesPart bs), k .2, k .0, k .1),
+  λ c. ap readFile (sym (c .2)) ∙ accepted (c .0) (c .1) ∙ ap Accepted (c .3),
+)

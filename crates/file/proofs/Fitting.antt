@@ -1,0 +1,68 @@
+-- The numbers of a well-formed content fit their fields.
+use mathlib.Core.Path.{_≡_, refl}
+use mathlib.Core.Bool.{true}
+use Prim.Native.Nat.{ℕ, zero, suc, _+_, _^_, _≤_, _<_}
+use native.Mathlib.Omega.{arith}
+use borrow.Author.Tests.{leb-true}
+use Rattle.rules.proofs.Logic.{passed}
+use Rattle.file.specs.Lists.{all}
+use Rattle.file.specs.Layout.{Content}
+use Rattle.file.specs.Reader.{Tables, headTests, tableTests, spanTests, spanOk}
+use Rattle.file.specs.Contents.{WellFormed, Fitting, SpanFits, span, recordsOf}
+use Rattle.file.proofs.Stretches.{all-at}
+use Rattle.file.proofs.Records.{record-tells}
+use Rattle.file.proofs.Head.{days-le, interval-is}
+use Rattle.file.proofs.Inside.{ordered, follow}
+
+-- span j ends past boundary j, since each takes a day at least
+past : (t : Tables) → all (spanOk t) 0 (t .spans) ≡ true → (j : ℕ) → j < t .spans → j < t .span j .last
+past t ok zero l =
+    omega (arith, ordered t 0 (all-at (spanOk t) (t .spans) ok 0 l))
+past t ok (suc j) l =
+    let here = all-at (spanOk t) (t .spans) ok (suc j) l in
+    let before = past t ok j (omega arith) in
+    omega (arith, follow t ok j l, ordered t (suc j) here)
+
+-- no more spans than days
+spans-le : (t : Tables) → all (spanOk t) 0 (t .spans) ≡ true → t .spans ≤ t .days
+spans-le t ok = go (t .spans) refl
+  where
+    go : (m : ℕ) → t .spans ≡ m → m ≤ t .days
+    go zero e = omega arith
+    go (suc m) e =
+        let l : m < t .spans = omega arith in
+        omega (arith, past t ok m l, ordered t m (all-at (spanOk t) (t .spans) ok m l))
+
+module _ (f : Content) (w : WellFormed f) where
+  abbrev t : Tables
+  t = recordsOf f
+
+  few : f .days ≤ 400
+  few = days-le (f .first) (f .days) (f .interval) (w .head)
+
+  span-fits : (j : ℕ) → spanOk t j ≡ true → SpanFits (span f j)
+  unfolding spanOk
+  span-fits j ok =
+      let r : span f j .advance ≤ 99999999 = leb-true _ _ (passed (spanTests t j) ok 3) in
+      let s : span f j .state ≤ 3 = leb-true _ _ (passed (spanTests t j) ok 4) in
+      record {
+        first = omega (arith, few, ordered t j ok);
+        last = omega (arith, few, ordered t j ok);
+        advance = omega arith;
+        state = omega arith;
+      }
+
+  pub fitting : Fitting f
+  fitting =
+      let spansOk = passed (tableTests t) (w .tables) 1 in
+      let recordsOk = passed (tableTests t) (w .tables) 0 in
+      let until : f .first + f .days ≤ 36525 = leb-true _ _ (passed (headTests (f .first) (f .days) (f .interval)) (w .head) 3) in
+      record {
+        first = omega arith;
+        days = omega (arith, few);
+        interval = interval-is (f .first) (f .days) (f .interval) (w .head) (λ x. x < 2 ^ 8) (omega arith) (omega arith) (omega arith);
+        slots = w .slots;
+        spans = omega (arith, few, spans-le t spansOk);
+        eachSlot = λ i l. record { value = w .values i l; method = record-tells (t .slot i) (all-at _ _ recordsOk i (rw (← w .slots) l)) .1 };
+        eachSpan = λ j l. span-fits j (all-at (spanOk t) (t .spans) spansOk j l);
+      }

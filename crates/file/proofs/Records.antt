@@ -1,0 +1,76 @@
+-- The forms of a slot record, by its letter.
+use mathlib.Core.Path.{_≡_, refl, sym, ap, _∙_}
+use mathlib.Core.Bool.{true, false, _&&_, _||_}
+use Prim.Native.Nat.{ℕ, _<_}
+use native.Mathlib.Omega.{arith}
+use borrow.Author.Tests.{eqb-true, ne-eqb}
+use lib.Dec.{lit<, eqb}
+use Rattle.rules.specs.Spans.{isScaled}
+use Rattle.rules.specs.declared.Quality.{Quality}
+use Rattle.rules.specs.declared.Quality.the-variants.{A, S, N}
+use Rattle.rules.proofs.Logic.{and-parts}
+use Rattle.file.specs.declared.slots.SlotRecord.{SlotRecord}
+use Rattle.file.specs.Layout.{letter}
+use Rattle.file.specs.Reader.{ofQuality, isForm, forms, recordOk}
+use Rattle.file.specs.Contents.{qualityOf}
+use Rattle.file.proofs.Logic.{or-false, one-of}
+
+-- ---- What the code tests
+
+pub form-A : (r : SlotRecord) → r .letter ≡ 65 → recordOk r ≡ (eqb (r .method) 0 || (eqb (r .method) 1 && eqb (r .value) 0))
+unfolding recordOk
+form-A r e = rw (e, or-false)
+
+pub form-S : (r : SlotRecord) → r .letter ≡ 83 → recordOk r ≡ (eqb (r .method) 2 || (eqb (r .method) 3 || isScaled (r .method)))
+unfolding recordOk
+form-S r e = rw (e, or-false)
+
+pub form-N : (r : SlotRecord) → r .letter ≡ 78 → recordOk r ≡ (eqb (r .method) 0 && eqb (r .value) 0)
+unfolding recordOk
+form-N r e = rw (e, or-false)
+
+pub form-none : (r : SlotRecord) → (r .letter ≡ 65 → ⊥) → (r .letter ≡ 83 → ⊥) → (r .letter ≡ 78 → ⊥) → recordOk r ≡ false
+unfolding recordOk
+form-none r a s n = rw (ne-eqb _ _ a, ne-eqb _ _ s, ne-eqb _ _ n)
+
+-- ---- What a record that passes has
+
+module _ (r : SlotRecord) where
+  -- the letter of a quality, and a method that fits a byte
+  abbrev Told : Type 0
+  Told = (letter (qualityOf (r .letter)) ≡ r .letter) × (r .method < 256)
+
+  quality-back : (q : Quality) → letter (qualityOf (letter q)) ≡ letter q
+  quality-back A = refl
+  quality-back S = refl
+  quality-back N = refl
+
+  form-tells : (q : Quality) (m : ℕ) → m < 256 → isForm q m r ≡ true → Told
+  form-tells q m l e =
+      let p = and-parts (ofQuality q r) (eqb (r .method) m) e in
+      let is : r .letter ≡ letter q = eqb-true _ _ (p .0) in
+      let so : r .method ≡ m = eqb-true _ _ (p .1) in
+      (ap (λ (x : ℕ). letter (qualityOf x)) is ∙ quality-back q ∙ sym is, omega arith)
+
+  zero-tells : (q : Quality) (m : ℕ) → m < 256 → (isForm q m r && eqb (r .value) 0) ≡ true → Told
+  zero-tells q m l e = form-tells q m l (and-parts (isForm q m r) (eqb (r .value) 0) e .0)
+
+  pub record-tells : recordOk r ≡ true → Told
+  unfolding recordOk
+  record-tells e =
+      one-of Told (forms r) (
+        form-tells A 0 (lit< tt),
+        (
+          form-tells S 2 (lit< tt),
+          (
+            form-tells S 3 (lit< tt),
+            (
+              form-tells S 18 (lit< tt),
+              (
+                form-tells S 19 (lit< tt),
+                (zero-tells A 1 (lit< tt), (zero-tells N 0 (lit< tt), tt)),
+              ),
+            ),
+          ),
+        ),
+      ) e

@@ -1,0 +1,107 @@
+-- Rows of fields and tables of rows: what is written is read, and what is read is written.
+use mathlib.Core.Path.{_≡_, refl, sym, ap, ap₂, _∙_, subst}
+use mathlib.Core.List.{List, [], _∷_, _++_, append-assoc}
+use Prim.Native.Nat.{ℕ, zero, suc, _+_, _*_, _^_, _≤_, _<_}
+use native.Mathlib.Nat.{add-zero, zero-add, mul-suc, mul-zero, not-suc-le-zero, le-of-suc-le-suc}
+use native.Mathlib.Omega.{arith}
+use lib.ListN.{length, getD, take, drop, length-append}
+use lib.Seq.{take-add, drop-drop}
+use Rattle.rules.specs.Spans.{upTo}
+use Rattle.file.specs.Layout.{bytes, row, table}
+use Rattle.file.specs.Reader.{num}
+use Rattle.file.specs.Contents.{Bytes}
+use Rattle.file.proofs.Numbers.{length-bytes, num-skip, num-bytes, bytes-num}
+
+-- ---- Rows
+
+abbrev pub widths : List (ℕ × ℕ) → ℕ
+widths [] = 0
+widths (f ∷ fs) = f .0 + widths fs
+
+pub length-row : (fs : List (ℕ × ℕ)) → length (row fs) ≡ widths fs
+unfolding row
+length-row [] = refl
+length-row (f ∷ fs) = length-append (bytes (f .0) (f .1)) (row fs) ∙ ap₂ (λ (x y : ℕ). x + y) (length-bytes (f .0) (f .1)) (length-row fs)
+
+-- the place of field j
+abbrev pub before : List (ℕ × ℕ) → ℕ → ℕ
+before [] j = 0
+before (f ∷ fs) zero = 0
+before (f ∷ fs) (suc j) = f .0 + before fs j
+
+abbrev pub field : List (ℕ × ℕ) → ℕ → ℕ × ℕ
+field fs j = getD fs j (0, 0)
+
+pub field-at : (fs : List (ℕ × ℕ)) (q : List ℕ) (j : ℕ) → j < length fs → field fs j .1 < 256 ^ field fs j .0
+    → num (field fs j .0) (row fs ++ q) (before fs j) ≡ field fs j .1
+unfolding row
+field-at [] q j h fit = absurd (not-suc-le-zero h)
+field-at (f ∷ fs) q zero h fit = rw append-assoc (num-bytes (f .0) (f .1) (row fs ++ q) fit)
+field-at (f ∷ fs) q (suc j) h fit =
+    rw append-assoc
+    (subst (λ (n : ℕ). num (field fs j .0) (bytes (f .0) (f .1) ++ (row fs ++ q)) (n + before fs j) ≡ field fs j .1) (length-bytes (f .0) (f .1))
+    (num-skip (bytes (f .0) (f .1)) (row fs ++ q) (field fs j .0) (before fs j) ∙ field-at fs q j (le-of-suc-le-suc h) fit))
+
+-- ---- Tables of rows that are w wide
+
+module _ {A : Type 0} (r : A → List (ℕ × ℕ)) (w : ℕ) (wide : (x : A) → widths (r x) ≡ w) where
+  pub length-table : (xs : List A) → length (table r xs) ≡ w * length xs
+  unfolding table
+  length-table [] = sym (mul-zero w)
+  length-table (x ∷ xs) =
+      length-append (row (r x)) (table r xs)
+      ∙ ap₂ (λ (m n : ℕ). m + n) (length-row (r x) ∙ wide x) (length-table xs)
+      ∙ rw mul-suc (omega arith)
+
+  -- the bytes of row i
+  pub table-at : (xs : List A) (d : A) (q : List ℕ) (i k o : ℕ) → i < length xs
+      → num k (table r xs ++ q) (w * i + o) ≡ num k (row (r (getD xs i d)) ++ (table r (drop (suc i) xs) ++ q)) o
+  unfolding table
+  table-at [] d q i k o h = absurd (not-suc-le-zero h)
+  table-at (x ∷ xs) d q zero k o h =
+      rw (append-assoc, mul-zero, zero-add)
+  table-at (x ∷ xs) d q (suc i) k o h =
+      let e : w * suc i + o ≡ length (row (r x)) + (w * i + o) = rw (mul-suc, length-row, wide) (omega arith) in
+      rw (append-assoc, e) (num-skip (row (r x)) (table r xs ++ q) k (w * i + o) ∙ table-at xs d q i k o (le-of-suc-le-suc h))
+
+  -- field j of row i
+  pub table-field : (xs : List A) (d : A) (q : List ℕ) (i j : ℕ) → i < length xs → j < length (r (getD xs i d))
+      → field (r (getD xs i d)) j .1 < 256 ^ field (r (getD xs i d)) j .0
+      → num (field (r (getD xs i d)) j .0) (table r xs ++ q) (w * i + before (r (getD xs i d)) j) ≡ field (r (getD xs i d)) j .1
+  table-field xs d q i j h hj fit =
+      table-at xs d q i (field (r (getD xs i d)) j .0) (before (r (getD xs i d)) j) h ∙ field-at (r (getD xs i d)) (table r (drop (suc i) xs) ++ q) j hj fit
+
+-- ---- What is read is written: rows and tables
+
+-- the fields of these widths that are read from a place on
+abbrev pub reads : List ℕ → List ℕ → ℕ → List (ℕ × ℕ)
+reads [] bs at = []
+reads (k ∷ ks) bs at = (k, num k bs at) ∷ reads ks bs (at + k)
+
+abbrev pub whole : List ℕ → ℕ
+whole [] = 0
+whole (k ∷ ks) = k + whole ks
+
+pub join : (bs : List ℕ) (k m at : ℕ) → take k (drop at bs) ++ take m (drop (at + k) bs) ≡ take (k + m) (drop at bs)
+join bs k m at = rw (take-add, drop-drop)
+
+pub row-reads : (bs : List ℕ) → Bytes bs → (ks : List ℕ) (at : ℕ) → at + whole ks ≤ length bs → row (reads ks bs at) ≡ take (whole ks) (drop at bs)
+unfolding row
+row-reads bs b [] at h = refl
+row-reads bs b (k ∷ ks) at h =
+    ap₂ (λ (x y : List ℕ). x ++ y) (bytes-num bs b k at (omega arith)) (row-reads bs b ks (at + k) (omega arith)) ∙ join bs k (whole ks) at
+
+module _ {A : Type 0} (r : A → List (ℕ × ℕ)) (w : ℕ) (f : ℕ → A) (bs : List ℕ) (b : ℕ) where
+  table-upTo : (a n : ℕ) → ((i : ℕ) → i < a + n → row (r (f i)) ≡ take w (drop (b + w * i) bs)) → table r (upTo f a n) ≡ take (w * n) (drop (b + w * a) bs)
+  unfolding table upTo
+  table-upTo a zero h = rw mul-zero
+  table-upTo a (suc n) h =
+      let e : b + w * suc a ≡ b + w * a + w = rw mul-suc (omega arith) in
+      let m : w + w * n ≡ w * suc n = rw mul-suc (omega arith) in
+      ap₂ (λ (x y : List ℕ). x ++ y) (h a (omega arith))
+      (table-upTo (suc a) n (λ i l. h i (omega arith)) ∙ ap (λ (m : ℕ). take (w * n) (drop m bs)) e)
+      ∙ join bs w (w * n) (b + w * a) ∙ ap (λ (k : ℕ). take k (drop (b + w * a) bs)) m
+
+  -- a table of what is read from place b on
+  pub table-reads : (n : ℕ) → ((i : ℕ) → i < n → row (r (f i)) ≡ take w (drop (b + w * i) bs)) → table r (upTo f 0 n) ≡ take (w * n) (drop b bs)
+  table-reads n h = table-upTo 0 n (λ i l. h i (omega arith)) ∙ rw (mul-zero, add-zero)

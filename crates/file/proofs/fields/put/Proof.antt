@@ -1,0 +1,73 @@
+-- `file::fields::put` meets its contract.
+use mathlib.Core.Path.{_≡_, refl, _∙_, ap}
+use Prim.Native.Nat.{_≤_, _-_, _%_}
+use native.Mathlib.Nat.{sub-zero}
+use native.Mathlib.Omega.{arith}
+use borrow.Author.Needs.{needs}
+use lib.ListN.{length-set, length, drop}
+use lib.Seq.{paste, paste-zero}
+use Rattle.file.specs.Layout.{bytes}
+use Rattle.file.proofs.Numbers.{length-bytes}
+use Rattle.file.proofs.Written.{paste-more, bytes-next, paste-all}
+use Rattle.file.proofs.fields.put.Statement.{statement}
+use Rattle.file.proofs.fields.put.Tie as tie
+
+abbrev Inv-loop : tie.InvT-loop
+Inv-loop buf₀ at width n rest₀ j₀ buf rest j = (j ≤ width) × (length buf ≡ length buf₀) × (buf ≡ paste buf₀ at (bytes width n) j) × (drop j (bytes width n) ≡ bytes (width - j) rest)
+
+abbrev μ-loop : tie.MeasureT-loop
+μ-loop buf₀ at width n rest₀ j₀ buf rest j = width - j
+
+loop-holds : tie.Need-loop-holds Inv-loop μ-loop
+loop-holds c = (search needs, refl, paste-zero (c .args .buf .now) (c .args .at) (bytes (c .args .width) (c .args .n)), rw sub-zero)
+
+cast-buf : tie.Need-cast-buf Inv-loop μ-loop
+cast-buf c = search needs
+
+add-buf : tie.Need-add-buf Inv-loop μ-loop
+add-buf c = search needs
+
+slice-write-buf : tie.Need-slice-write-buf Inv-loop μ-loop
+slice-write-buf c = search needs
+
+add-j : tie.Need-add-j Inv-loop μ-loop
+add-j c = search needs
+
+loop-less : tie.Need-loop-less Inv-loop μ-loop
+loop-less c = search needs
+
+loop-again : tie.Need-loop-again Inv-loop μ-loop
+loop-again c =
+    let a = c .before .before .args in
+    let l = c .before .loop in
+    let next = bytes-next (a .width) (a .n) (l .j) (l .rest) (search needs) (l .inv .3) in (
+      search needs,
+      simp length-set (l .inv .1),
+      rw (l .inv .2) (paste-more (a .buf .now) (a .at) (a .width) (a .n) (l .j) (l .rest % 256) (search needs) (search needs) (next .0)),
+      next .1,
+    )
+
+same-length : tie.Need-same-length Inv-loop μ-loop
+same-length c = c .before .loop .inv .1
+
+returns : tie.Need-returns Inv-loop μ-loop
+returns c =
+    let a = c .before .before .args in
+    let done : c .before .loop .j ≡ length (bytes (a .width) (a .n)) = omega (arith, length-bytes (a .width) (a .n)) in
+    c .before .loop .inv .2 ∙ ap (paste (a .buf .now) (a .at) (bytes (a .width) (a .n))) done ∙ paste-all (a .buf .now) (a .at) (bytes (a .width) (a .n))
+
+pub put-spec : {M : Type 1} → statement M
+put-spec =
+    tie.close
+    (tie.spec
+    Inv-loop
+    μ-loop
+    loop-holds
+    cast-buf
+    add-buf
+    slice-write-buf
+    add-j
+    loop-less
+    loop-again
+    same-length
+    returns)

@@ -1,0 +1,28 @@
+-- `file::spans::follows` meets its contract.
+use mathlib.Core.Path.{_≡_}
+use mathlib.Core.Bool.{true, false}
+use native.Mathlib.Omega.{arith}
+use borrow.Author.Tests.{le-ltb, lt-ltb}
+use lib.Dec.{ltb}
+-- `file::spans::follows` meets its contract.
+use borrow.Author.Needs.{needs}
+use Rattle.file.proofs.spans.follows.Statement.{statement}
+use Rattle.file.proofs.spans.follows.Tie as tie
+
+returns : tie.Need-returns
+returns c = let first : ltb 0 (c .before .before .args .j) ≡ false = le-ltb 0 (c .before .before .args .j) (omega (arith, c .if1 .taken)) in rw first
+
+sub-span-at : tie.Need-sub-span-at
+sub-span-at c = search needs
+
+span-at-requires : tie.Need-span-at-requires
+span-at-requires c κs = search needs
+
+returns-2 : tie.Need-returns-2
+returns-2 c =
+    let args = c .before .before .before .before .args in
+    let if1 = c .before .before .if1 in
+    let later : ltb 0 (args .j) ≡ true = lt-ltb 0 (args .j) (omega (arith, if1 .left)) in rw (later, c .before .span-at .ensures)
+
+pub follows-spec : {M : Type 1} → statement M
+follows-spec = tie.close (tie.spec returns sub-span-at span-at-requires returns-2)

@@ -1,0 +1,137 @@
+-- `file::spans::outside_ok` meets its contract.
+use Prim.Native.Nat.{ℕ, _-_, _<_}
+use native.Mathlib.Omega.{arith}
+use borrow.Author.Needs.{needs}
+use Rattle.file.specs.Reader.{tablesAt}
+use Rattle.file.proofs.Outside.{no-spans, edge-fails, edge-passes}
+use Rattle.file.proofs.Inside.{inside, Inside}
+use Rattle.file.proofs.spans.outside_ok.Statement.{statement}
+use Rattle.file.proofs.spans.outside_ok.Tie as tie
+
+-- span j lies inside
+lies : (s : tie.Start) (j : ℕ) → j < s .args .g .spans → Inside (s .args .file .now) (s .args .g) j
+lies s j l = inside (s .args .file .now) (s .args .g) (s .pre .0) (s .pre .1) j l
+
+slot-count-requires : tie.Need-slot-count-requires
+slot-count-requires c κs = search needs
+
+cast-m : tie.Need-cast-m
+cast-m c = search needs
+
+has-kind-requires : tie.Need-has-kind-requires
+has-kind-requires c κs = search needs
+
+returns : tie.Need-returns
+returns c =
+    let args = c .before .before .before .before .before .args in
+    let pre = c .before .before .before .before .before .pre in
+    let slot-count = c .before .before .before .slot-count in
+    rw (c .has-kind .ensures, slot-count .ensures .0) (no-spans (tablesAt (args .file .now) (args .g)) (pre .1) (c .before .if1 .taken))
+
+per-day-requires : tie.Need-per-day-requires
+per-day-requires c κs = search needs
+
+span-at-requires : tie.Need-span-at-requires
+span-at-requires c κs = search needs
+
+cast-start : tie.Need-cast-start
+cast-start c = search needs
+
+mul-start : tie.Need-mul-start
+mul-start c =
+    let before = c .before .before .before .before .before .before .before in
+    let if1 = c .before .before .before .if1 in
+    let per-day = c .before .before .per-day in
+    rw (c .before .span-at .ensures, per-day .ensures .0) (omega (arith, lies before 0 (omega (arith, if1 .left))))
+
+has-kind-requires-2 : tie.Need-has-kind-requires-2
+has-kind-requires-2 c κs =
+    let before = c .before .before .before .before .before .before .before in
+    let if1 = c .before .before .before .if1 in
+    let per-day = c .before .before .per-day in
+    rw (c .before .span-at .ensures, per-day .ensures .0) (omega (arith, lies before 0 (omega (arith, if1 .left))))
+
+returns-2 : tie.Need-returns-2
+returns-2 c =
+    let args = c .before .before .before .before .before .before .before .before .before .args in
+    let pre = c .before .before .before .before .before .before .before .before .before .pre in
+    let if1 = c .before .before .before .before .before .if1 in
+    let per-day = c .before .before .before .before .per-day in
+    let span-at = c .before .before .before .span-at in
+    edge-fails (tablesAt (args .file .now) (args .g)) (pre .1) (args .g .spans - 1)
+    (omega (arith, if1 .left)) (rw (c .before .has-kind2 .ensures, span-at .ensures, per-day .ensures .0) at
+    (c .if2 .taken))
+
+sub-span-at : tie.Need-sub-span-at
+sub-span-at c = search needs
+
+span-at-requires-2 : tie.Need-span-at-requires-2
+span-at-requires-2 c κs = search needs
+
+cast-end : tie.Need-cast-end
+cast-end c = search needs
+
+mul-end : tie.Need-mul-end
+mul-end c =
+    let args = c .before .before .before .before .before .before .before .before .before .before .before .args in
+    let before = c .before .before .before .before .before .before .before .before .before .before .before in
+    let if1 = c .before .before .before .before .before .before .before .if1 in
+    let per-day = c .before .before .before .before .before .before .per-day in
+    rw (c .before .span-at2 .ensures, per-day .ensures .0) (omega (arith, lies before (args .g .spans - 1) (omega (arith, if1 .left))))
+
+sub-has-kind : tie.Need-sub-has-kind
+sub-has-kind c =
+    let args = c .before .before .before .before .before .before .before .before .before .before .before .args in
+    let before = c .before .before .before .before .before .before .before .before .before .before .before in
+    let slot-count = c .before .before .before .before .before .before .before .before .before .slot-count in
+    let if1 = c .before .before .before .before .before .before .before .if1 in
+    let per-day = c .before .before .before .before .before .before .per-day in
+    rw (c .before .span-at2 .ensures, per-day .ensures .0, slot-count .ensures .0)
+    (omega (arith, lies before (args .g .spans - 1) (omega (arith, if1 .left))))
+
+has-kind-requires-3 : tie.Need-has-kind-requires-3
+has-kind-requires-3 c κs =
+    let args = c .before .before .before .before .before .before .before .before .before .before .before .args in
+    let before = c .before .before .before .before .before .before .before .before .before .before .before in
+    let slot-count = c .before .before .before .before .before .before .before .before .before .slot-count in
+    let if1 = c .before .before .before .before .before .before .before .if1 in
+    let per-day = c .before .before .before .before .before .before .per-day in
+    rw (c .before .span-at2 .ensures, per-day .ensures .0, slot-count .ensures .0)
+    (omega (arith, lies before (args .g .spans - 1) (omega (arith, if1 .left))))
+
+returns-3 : tie.Need-returns-3
+returns-3 c =
+    let args = c .before .before .before .before .before .before .before .before .before .before .before .before .args in
+    let pre = c .before .before .before .before .before .before .before .before .before .before .before .before .pre in
+    let slot-count = c .before .before .before .before .before .before .before .before .before .before .slot-count in
+    let if1 = c .before .before .before .before .before .before .before .before .if1 in
+    let per-day = c .before .before .before .before .before .before .before .per-day in
+    let span-at = c .before .before .before .before .before .before .span-at in
+    let has-kind2 = c .before .before .before .before .has-kind2 in
+    let if2 = c .before .before .before .if2 in
+    let span-at2 = c .before .before .span-at2 in
+    rw (c .has-kind3 .ensures, span-at2 .ensures, per-day .ensures .0, slot-count .ensures .0)
+    (edge-passes (tablesAt (args .file .now) (args .g)) (pre .1) (args .g .spans - 1)
+    (omega (arith, if1 .left)) (rw (has-kind2 .ensures, span-at .ensures, per-day .ensures .0) at (if2 .left)))
+
+pub outside-ok-spec : {M : Type 1} → statement M
+outside-ok-spec =
+    tie.close
+    (tie.spec
+    slot-count-requires
+    cast-m
+    has-kind-requires
+    returns
+    per-day-requires
+    span-at-requires
+    cast-start
+    mul-start
+    has-kind-requires-2
+    returns-2
+    sub-span-at
+    span-at-requires-2
+    cast-end
+    mul-end
+    sub-has-kind
+    has-kind-requires-3
+    returns-3)

@@ -1,0 +1,54 @@
+-- `file::tables` meets its contract.
+use mathlib.Core.Path.{sym, _∙_, ap}
+use native.Mathlib.Omega.{arith}
+use borrow.Author.Needs.{needs}
+use lib.Seq.{length-take-le}
+use Rattle.file.specs.Reader.{partOf, tablesPart}
+use Rattle.file.proofs.Answers.{long-enough}
+use Rattle.file.proofs.tables.Statement.{statement}
+use Rattle.file.proofs.tables.Tie as tie
+
+read-requires : tie.Need-read-requires
+read-requires c κs = search needs
+
+enum-told : tie.Need-enum-told
+enum-told c = search needs
+
+sub-end : tie.Need-sub-end
+sub-end c = omega (arith, long-enough (c .before .before .before .before .args .file .now) _ (sym (c .before .before .read .ensures) ∙ c .enum-told .given .1))
+
+slice-aggregate-result : tie.Need-slice-aggregate-result
+slice-aggregate-result c = sym (length-take-le _ (c .before .before .before .before .before .args .file .now) (search needs))
+
+enum-told-2 : tie.Need-enum-told-2
+enum-told-2 c = search needs
+
+slice-aggregate-result-2 : tie.Need-slice-aggregate-result-2
+slice-aggregate-result-2 c = sym (length-take-le _ (c .before .before .before .before .before .args .file .now) (search needs))
+
+returns : tie.Need-returns
+unfolding tablesPart
+returns c =
+    let args = c .before .before .before .before .before .args in
+    let read = c .before .before .before .read in
+    sym (ap (λ v. partOf v (args .file .now)) (sym (read .ensures) ∙ c .before .enum-told .given .1))
+
+returns-2 : tie.Need-returns-2
+unfolding tablesPart
+returns-2 c =
+    let args = c .before .before .before .before .before .args in
+    let read = c .before .before .before .read in
+    sym (ap (λ v. partOf v (args .file .now)) (sym (read .ensures) ∙ c .before .enum-told2 .given .1))
+
+pub tables-spec : {M : Type 1} → statement M
+tables-spec =
+    tie.close
+    (tie.spec
+    read-requires
+    enum-told
+    sub-end
+    slice-aggregate-result
+    enum-told-2
+    slice-aggregate-result-2
+    returns
+    returns-2)

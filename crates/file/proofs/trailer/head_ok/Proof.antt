@@ -1,0 +1,53 @@
+-- `file::trailer::head_ok` meets its contract.
+use mathlib.Core.Path.{sym, _∙_}
+use borrow.Author.Needs.{needs}
+use borrow.Author.Tests.{le-leb, lt-leb, not-true, not-false}
+use Rattle.file.proofs.Logic.{and-true}
+use Rattle.file.proofs.trailer.head_ok.Statement.{statement}
+use Rattle.file.proofs.trailer.head_ok.Tie as tie
+
+interval-ok-requires : tie.Need-interval-ok-requires
+interval-ok-requires c κs = search needs
+
+returns : tie.Need-returns
+returns c = simp (sym (c .before .interval-ok .ensures) ∙ not-true _ (c .if1 .taken))
+
+returns-2 : tie.Need-returns-2
+returns-2 c = simp (sym (c .before .before .before .interval-ok .ensures) ∙ not-false _ (c .before .before .if1 .left), lt-leb _ _ (c .if2 .taken))
+
+returns-3 : tie.Need-returns-3
+returns-3 c =
+    let interval-ok = c .before .before .before .before .before .interval-ok in
+    let if1 = c .before .before .before .before .if1 in
+    let if2 = c .before .before .if2 in
+    simp (sym (interval-ok .ensures) ∙ not-false _ (if1 .left), le-leb _ _ (if2 .left), lt-leb _ _ (c .if3 .taken))
+
+cast-result : tie.Need-cast-result
+cast-result c = search needs
+
+cast-result-2 : tie.Need-cast-result-2
+cast-result-2 c = search needs
+
+add-result : tie.Need-add-result
+add-result c = search needs
+
+returns-4 : tie.Need-returns-4
+returns-4 c =
+    let interval-ok = c .before .before .before .before .before .before .before .interval-ok in
+    let if1 = c .before .before .before .before .before .before .if1 in
+    let if2 = c .before .before .before .before .if2 in
+    let if3 = c .before .before .if3 in
+    simp (sym (interval-ok .ensures) ∙ not-false _ (if1 .left), le-leb _ _ (if2 .left), le-leb _ _ (if3 .left), and-true)
+
+pub head-ok-spec : {M : Type 1} → statement M
+head-ok-spec =
+    tie.close
+    (tie.spec
+    interval-ok-requires
+    returns
+    returns-2
+    returns-3
+    cast-result
+    cast-result-2
+    add-result
+    returns-4)

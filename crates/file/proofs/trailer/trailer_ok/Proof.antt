@@ -1,0 +1,113 @@
+-- `file::trailer::trailer_ok` meets its contract.
+use mathlib.Core.Path.{sym, _∙_}
+use borrow.Author.Tests.{eq-eqb, ne-eqb, le-leb, not-true, not-false}
+use borrow.Author.Needs.{needs}
+use Rattle.file.specs.Reader.{trailerOk}
+use Rattle.file.proofs.Logic.{tests-true, tests-false, and-true}
+use Rattle.file.proofs.trailer.trailer_ok.Statement.{statement}
+use Rattle.file.proofs.trailer.trailer_ok.Tie as tie
+
+sub-t : tie.Need-sub-t
+sub-t c = search needs
+
+head-ok-requires : tie.Need-head-ok-requires
+head-ok-requires c κs = search needs
+
+returns : tie.Need-returns
+unfolding trailerOk
+returns c = simp (le-leb _ _ ((c .before .before .before) .pre), sym (c .before .head-ok .ensures) ∙ not-true _ (c .if1 .taken))
+
+add-if2 : tie.Need-add-if2
+add-if2 c = search needs
+
+shared-slice-read-if2 : tie.Need-shared-slice-read-if2
+shared-slice-read-if2 c = search needs
+
+returns-2 : tie.Need-returns-2
+unfolding trailerOk
+returns-2 c =
+    let before = c .before .before .before .before .before in
+    let head-ok = c .before .before .before .head-ok in
+    let if1 = c .before .before .if1 in
+    simp (le-leb _ _ (before .pre), sym (head-ok .ensures) ∙ not-false _ (if1 .left), ne-eqb _ _ (c .if2 .taken))
+
+cast-m : tie.Need-cast-m
+cast-m c = search needs
+
+add-number : tie.Need-add-number
+add-number c = search needs
+
+number-requires : tie.Need-number-requires
+number-requires c κs = search needs
+
+mul-back : tie.Need-mul-back
+mul-back c = search needs
+
+returns-3 : tie.Need-returns-3
+unfolding trailerOk
+returns-3 c =
+    let before = c .before .before .before .before .before .before .before .before in
+    let head-ok = c .before .before .before .before .before .before .head-ok in
+    let if1 = c .before .before .before .before .before .if1 in
+    let if2 = c .before .before .before .if2 in
+    let head = sym (head-ok .ensures) ∙ not-false _ (if1 .left) in
+    simp (le-leb _ _ (before .pre), head, eq-eqb _ _ (if2 .left), tests-false (c .before .number .ensures .0) (c .if3 .taken))
+
+slot-count-requires : tie.Need-slot-count-requires
+slot-count-requires c κs =
+    let head-ok = c .before .before .before .before .before .before .head-ok in
+    let if1 = c .before .before .before .before .before .if1 in
+    sym (head-ok .ensures) ∙ not-false _ (if1 .left)
+
+mul-result : tie.Need-mul-result
+mul-result c = search needs
+
+mul-result-2 : tie.Need-mul-result-2
+mul-result-2 c = search needs
+
+add-result : tie.Need-add-result
+add-result c = search needs
+
+add-result-2 : tie.Need-add-result-2
+add-result-2 c = search needs
+
+returns-4 : tie.Need-returns-4
+unfolding trailerOk
+returns-4 c =
+    let before = c .before .before .before .before .before .before .before .before .before in
+    let head-ok = c .before .before .before .before .before .before .before .head-ok in
+    let if1 = c .before .before .before .before .before .before .if1 in
+    let if2 = c .before .before .before .before .if2 in
+    let number = c .before .before .number in
+    let head = sym (head-ok .ensures) ∙ not-false _ (if1 .left) in
+    simp (
+      le-leb _ _ (before .pre),
+      head,
+      eq-eqb _ _ (if2 .left),
+      tests-true
+          (number .ensures .0) (c .before .if3 .left),
+      c .slot-count .ensures .0,
+    )
+    (sym (and-true _))
+
+pub trailer-ok-spec : {M : Type 1} → statement M
+trailer-ok-spec =
+    tie.close
+    (tie.spec
+    sub-t
+    head-ok-requires
+    returns
+    add-if2
+    shared-slice-read-if2
+    returns-2
+    cast-m
+    add-number
+    number-requires
+    mul-back
+    returns-3
+    slot-count-requires
+    mul-result
+    mul-result-2
+    add-result
+    add-result-2
+    returns-4)

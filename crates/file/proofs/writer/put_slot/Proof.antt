@@ -1,0 +1,73 @@
+-- `file::writer::put_slot` meets its contract.
+use mathlib.Core.List.{List, [], _∷_, _++_}
+use mathlib.Core.Path.{_∙_, ap}
+use Prim.Native.Nat.{ℕ, _+_}
+use native.Mathlib.Omega.{arith}
+use borrow.Author.Needs.{needs}
+use Rattle.file.specs.Inner.Writing.{written}
+use Rattle.file.specs.Layout.{letter, bytes}
+use Rattle.file.proofs.Written.{row-last, row-next}
+use Rattle.file.proofs.writer.put_slot.Statement.{statement}
+use Rattle.file.proofs.writer.put_slot.Tie as tie
+
+cast-put : tie.Need-cast-put
+cast-put c = search needs
+
+put-requires : tie.Need-put-requires
+put-requires c κs = search needs
+
+add-put : tie.Need-add-put
+add-put c = search needs
+
+letter-of-requires : tie.Need-letter-of-requires
+letter-of-requires c κs = search needs
+
+cast-put-2 : tie.Need-cast-put-2
+cast-put-2 c = search needs
+
+put-requires-2 : tie.Need-put-requires-2
+put-requires-2 c κs = search needs
+
+add-put-2 : tie.Need-add-put-2
+add-put-2 c = search needs
+
+cast-put-3 : tie.Need-cast-put-3
+cast-put-3 c = search needs
+
+put-requires-3 : tie.Need-put-requires-3
+put-requires-3 c κs = search needs
+
+same-length : tie.Need-same-length
+same-length c = search needs
+
+returns : tie.Need-returns
+returns c =
+    let before = c .before .before .before .before .before .before .before .before .before .before .before .before .before .before .before .before in
+    let put = c .before .before .before .before .before .before .before .before .before .before .before .before .put in
+    let letter-of = c .before .before .before .before .before .before .before .before .letter-of in
+    let put2 = c .before .before .before .before .before .before .before .put2 in
+    let put3 = c .before .before .put3 in
+    let a = before .args in
+    let fits = before .pre in
+    let f1 : List (ℕ × ℕ) = (4, a .slot .value) ∷ [] in
+    let f2 : List (ℕ × ℕ) = f1 ++ ((1, letter (a .slot .quality)) ∷ []) in
+    let r1 = put .ensures ∙ row-last (a .buf .now) (a .at) 4 (a .slot .value) in
+    let second = put2 .ensures ∙ ap (λ (x : ℕ). written (put .last .0) (a .at + 4) (bytes 1 x)) (letter-of .ensures) in
+    let r2 = row-next (a .buf .now) _ _ (a .at) (a .at + 4) 1 (letter (a .slot .quality)) f1 r1 second (omega arith) (omega arith) in
+    row-next (a .buf .now) _ _ (a .at) (a .at + 5) 1 (a .slot .method) f2 r2 (put3 .ensures) (omega arith) (omega arith)
+
+pub put-slot-spec : {M : Type 1} → statement M
+put-slot-spec =
+    tie.close
+    (tie.spec
+    cast-put
+    put-requires
+    add-put
+    letter-of-requires
+    cast-put-2
+    put-requires-2
+    add-put-2
+    cast-put-3
+    put-requires-3
+    same-length
+    returns)

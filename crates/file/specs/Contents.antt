@@ -1,0 +1,103 @@
+-- What the theorems on files say of a content: that its numbers fit their fields, that it is well formed, and what two tables and figures hold.
+use mathlib.Core.Path.{_≡_}
+use mathlib.Core.Bool.{true, cond}
+use mathlib.Core.List.{List}
+use Prim.Native.Nat.{ℕ, _*_, _/_, _^_, _<_}
+use lib.Dec.{eqb}
+use lib.ListN.{length, getD}
+use Rattle.rules.specs.declared.Outcome.{Outcome}
+use Rattle.rules.specs.declared.Quality.{Quality}
+use Rattle.rules.specs.declared.Quality.the-variants.{A, S, N}
+use Rattle.rules.specs.declared.Span.{Span}
+use Rattle.rules.specs.Lists.{every}
+use Rattle.rules.specs.Spans.{upTo}
+use Rattle.file.specs.declared.Figures.{Figures}
+use Rattle.file.specs.declared.slots.SlotRecord.{SlotRecord}
+use Rattle.file.specs.declared.spans.SpanRecord.{SpanRecord}
+use Rattle.file.specs.Layout.{Content, letter}
+use Rattle.file.specs.Reader.{Tables, slotAt, spanAt, slotCount, headTests, tableTests}
+
+-- every element is a byte
+abbrev pub Bytes : List ℕ → Type 0
+Bytes bs = (i : ℕ) → getD bs i 0 < 256
+
+-- slot i and span j of a content
+abbrev pub noSlot : Outcome
+noSlot = record { value = 0; quality = N; method = 0 }
+
+abbrev pub noSpan : Span
+noSpan = record { first = 0; last = 0; advance = 0; state = 0 }
+
+abbrev pub slot : Content → ℕ → Outcome
+slot f i = getD (f .slots) i noSlot
+
+abbrev pub span : Content → ℕ → Span
+span f j = getD (f .spans) j noSpan
+
+-- ---- Numbers that fit their fields
+
+pub record SlotFits (o : Outcome) : Type 0 where
+  pub value : o .value < 2 ^ 32
+  pub method : o .method < 2 ^ 8
+
+pub record SpanFits (s : Span) : Type 0 where
+  pub first : s .first < 2 ^ 16
+  pub last : s .last < 2 ^ 16
+  pub advance : s .advance < 2 ^ 32
+  pub state : s .state < 2 ^ 8
+
+-- there are N slots
+pub record Fitting (f : Content) : Type 0 where
+  pub first : f .first < 2 ^ 16
+  pub days : f .days < 2 ^ 16
+  pub interval : f .interval < 2 ^ 8
+  pub slots : length (f .slots) ≡ 1440 / f .interval * f .days
+  pub spans : length (f .spans) < 2 ^ 16
+  pub eachSlot : (i : ℕ) → i < length (f .slots) → SlotFits (slot f i)
+  pub eachSpan : (j : ℕ) → j < length (f .spans) → SpanFits (span f j)
+
+-- ---- Well-formed contents
+
+-- the records of an outcome and of a span
+abbrev pub slotRecord : Outcome → SlotRecord
+slotRecord o = record { value = o .value; letter = letter (o .quality); method = o .method }
+
+abbrev pub spanRecord : Span → SpanRecord
+spanRecord s = record { first = s .first; last = s .last; advance = s .advance; state = s .state; blank = 0 }
+
+abbrev pub recordsOf : Content → Tables
+recordsOf f = record {
+  perDay = 1440 / f .interval;
+  days = f .days;
+  spans = length (f .spans);
+  slot = λ i. slotRecord (slot f i);
+  span = λ j. spanRecord (span f j);
+}
+
+-- first day, D and L as under Opening, N slots, and what the reader asks of the records and spans
+pub record WellFormed (f : Content) : Type 0 where
+  pub head : every (headTests (f .first) (f .days) (f .interval)) ≡ true
+  pub slots : length (f .slots) ≡ 1440 / f .interval * f .days
+  pub values : (i : ℕ) → i < length (f .slots) → slot f i .value < 2 ^ 32
+  pub tables : every (tableTests (recordsOf f)) ≡ true
+
+-- ---- What figures and tables hold
+
+abbrev pub qualityOf : ℕ → Quality
+qualityOf l = cond (eqb l (letter A)) A (cond (eqb l (letter S)) S N)
+
+abbrev pub outcomeOf : SlotRecord → Outcome
+outcomeOf r = record { value = r .value; quality = qualityOf (r .letter); method = r .method }
+
+abbrev pub spanOf : SpanRecord → Span
+spanOf r = record { first = r .first; last = r .last; advance = r .advance; state = r .state }
+
+-- the content of these figures and of these bytes of the two tables
+unfoldable pub contentOf : Figures → List ℕ → Content
+contentOf g bs = record {
+  first = g .first;
+  days = g .days;
+  interval = g .interval;
+  slots = upTo (λ i. outcomeOf (slotAt bs i)) 0 (slotCount g);
+  spans = upTo (λ j. spanOf (spanAt bs (6 * slotCount g) j)) 0 (g .spans);
+}

@@ -1,0 +1,83 @@
+-- The bytes of a published file (01, The published file).
+use mathlib.Core.Bool.{Bool, cond}
+use mathlib.Core.List.{List, [], _∷_, _++_}
+use Prim.Native.Nat.{ℕ, zero, suc, _+_, _*_, _/_, _%_}
+use lib.ListN.{length}
+use Rattle.rules.specs.declared.Outcome.{Outcome}
+use Rattle.rules.specs.declared.Quality.{Quality}
+use Rattle.rules.specs.declared.Quality.the-variants.{A, S, N}
+use Rattle.rules.specs.declared.Span.{Span}
+use Rattle.rules.specs.Spans.{isA, isS, isN}
+use Rattle.file.specs.declared.Figures.{Figures}
+
+-- k bytes of n, low byte first
+unfoldable pub bytes : ℕ → ℕ → List ℕ
+bytes zero n = []
+bytes (suc k) n = n % 256 ∷ bytes k (n / 256)
+
+-- a row of fields, each its width in bytes and its number
+unfoldable pub row : List (ℕ × ℕ) → List ℕ
+row [] = []
+row (f ∷ fs) = bytes (f .0) (f .1) ++ row fs
+
+-- a row for each element of a list
+unfoldable pub table : {X : Type 0} → (X → List (ℕ × ℕ)) → List X → List ℕ
+table r [] = []
+table r (x ∷ xs) = row (r x) ++ table r xs
+
+-- the quality letter as ASCII
+abbrev pub letter : Quality → ℕ
+letter A = 65
+letter S = 83
+letter N = 78
+
+-- value (4), quality letter (1), method (1)
+abbrev pub slotRow : Outcome → List (ℕ × ℕ)
+slotRow o = (4, o .value) ∷ (1, letter (o .quality)) ∷ (1, o .method) ∷ []
+
+-- first boundary (2), last boundary (2), R (4), state (1), zero (1)
+abbrev pub spanRow : Span → List (ℕ × ℕ)
+spanRow s = (2, s .first) ∷ (2, s .last) ∷ (4, s .advance) ∷ (1, s .state) ∷ (1, 0) ∷ []
+
+-- first day number (2), D (2), L (1), layout 1 (1), M (2), counts of A, S and N slots (4 each), sum of all slot values (8), distance 10 × M (4)
+abbrev pub trailerRow : Figures → List (ℕ × ℕ)
+trailerRow g =
+    (2, g .first) ∷ (2, g .days) ∷ (1, g .interval) ∷ (1, 1) ∷ (2, g .spans)
+    ∷ (4, g .actual) ∷ (4, g .substituted) ∷ (4, g .none) ∷ (8, g .sum) ∷ (4, 10 * g .spans) ∷ []
+
+-- what a file holds: the first day's number, D, L, a slot's outcome and a span's for each in order
+pub record Content : Type 0 where
+  pub first : ℕ
+  pub days : ℕ
+  pub interval : ℕ
+  pub slots : List Outcome
+  pub spans : List Span
+
+-- the sum of a figure of each outcome
+unfoldable pub total : (Outcome → ℕ) → List Outcome → ℕ
+total g [] = 0
+total g (o ∷ os) = g o + total g os
+
+-- 1 for an outcome whose quality passes
+abbrev pub one : (Quality → Bool) → Outcome → ℕ
+one q o = cond (q (o .quality)) 1 0
+
+-- what the trailer says of a content
+unfoldable pub figuresOf : Content → Figures
+figuresOf f = record {
+  first = f .first;
+  days = f .days;
+  interval = f .interval;
+  spans = length (f .spans);
+  actual = total (one isA) (f .slots);
+  substituted = total (one isS) (f .slots);
+  none = total (one isN) (f .slots);
+  sum = total (λ o. o .value) (f .slots);
+}
+
+-- the slot table and the span table
+unfoldable pub tablesOf : Content → List ℕ
+tablesOf f = table slotRow (f .slots) ++ table spanRow (f .spans)
+
+unfoldable pub fileOf : Content → List ℕ
+fileOf f = tablesOf f ++ row (trailerRow (figuresOf f))

@@ -1,0 +1,110 @@
+// The published file: its reader, and the parts of its writer (01, The published file).
+mod fields;
+mod publish;
+mod slots;
+mod spans;
+mod trailer;
+mod writer;
+
+ghost use mathlib.Core.Path.{_≡_};
+ghost use Rattle.file.specs.Reader.{tablesOk, figuresOk, readFile, tablesPart};
+ghost use Rattle.file.specs.Inner.Reading.{Ready};
+use crate::slots::Kind;
+
+// The figures of a file's trailer: first day number, D, L, M, counts of A, S and N slots, sum.
+pub struct Figures {
+    pub first: u32,
+    pub days: u32,
+    pub interval: u32,
+    pub spans: u32,
+    pub actual: u32,
+    pub substituted: u32,
+    pub none: u32,
+    pub sum: u64,
+}
+
+// What the reader answers: the trailer's figures, or the refusal's number.
+pub enum Verdict {
+    Accepted(Figures),
+    Refused(u8),
+}
+
+// The records, the spans, and what lies outside them.
+fn tables_ok(file: &[u8], g: Figures) -> bool
+    requires { ⌜ Ready (now file) g ⌝ }
+    ensures { λ r. ⌜ r ≡ tablesOk (now (file .entry)) g ⌝ }
+{
+    if !slots::records_ok(file, trailer::slot_count(g)) {
+        return false;
+    }
+    if !spans::spans_ok(file, g) {
+        return false;
+    }
+    if !spans::states_ok(file, g) {
+        return false;
+    }
+    spans::outside_ok(file, g)
+}
+
+// The counts and the sum are those of the slots.
+fn figures_ok(file: &[u8], g: Figures) -> bool
+    requires { ⌜ Ready (now file) g ⌝ }
+    ensures { λ r. ⌜ r ≡ figuresOk (now (file .entry)) g ⌝ }
+{
+    let n = trailer::slot_count(g);
+    let actuals = slots::count_kind(file, Kind::Actual, 0, n);
+    let actual = g.actual as usize;
+    if actuals != actual {
+        return false;
+    }
+    let substitutes = slots::count_kind(file, Kind::Substituted, 0, n);
+    let substituted = g.substituted as usize;
+    if substitutes != substituted {
+        return false;
+    }
+    let nones = slots::count_kind(file, Kind::None, 0, n);
+    let none = g.none as usize;
+    if nones != none {
+        return false;
+    }
+    let values = slots::sum_values(file, 0, n);
+    let sum = g.sum;
+    values == sum
+}
+
+// A file's figures, or the number that it is refused with.
+pub fn read(file: &[u8]) -> Verdict
+    ensures { λ r. ⌜ r ≡ readFile (now (file .entry)) ⌝ }
+{
+    if file.len() < 32 {
+        return Verdict::Refused(8);
+    }
+    let g = trailer::figures_at(file);
+    if !trailer::trailer_ok(file, g) {
+        return Verdict::Refused(8);
+    }
+    if !tables_ok(file, g) {
+        return Verdict::Refused(9);
+    }
+    if !figures_ok(file, g) {
+        return Verdict::Refused(9);
+    }
+    Verdict::Accepted(g)
+}
+
+// The two tables as one part of the file; of a refused file the empty part.
+pub fn tables(file: &[u8]) -> &[u8]
+    ensures { λ r. ⌜ now r ≡ tablesPart (now (file .entry)) ⌝ }
+{
+    let whole = file.len();
+    match read(file) {
+        Verdict::Accepted(_) => {
+            let end = whole - 32;
+            &file[..end]
+        }
+        Verdict::Refused(_) => {
+            let end = 0;
+            &file[..end]
+        }
+    }
+}

@@ -1,0 +1,133 @@
+// The slot table: its records, their counts and their sums.
+use crate::fields;
+ghost use mathlib.Core.Path.{_≡_};
+ghost use Prim.Native.Nat.{_+_, _*_, _≤_};
+ghost use lib.ListN.{length};
+ghost use Rattle.rules.specs.Lists.{sum, any};
+ghost use Rattle.rules.specs.Spans.{isScaled};
+ghost use Rattle.file.specs.Lists.{all, count};
+ghost use Rattle.file.specs.Reader.{slotAt, recordOk};
+ghost use Rattle.file.specs.Inner.Reading.{isKind, kindAt};
+
+// A record of the slot table.
+pub struct SlotRecord {
+    pub value: u32,
+    pub letter: u8,
+    pub method: u8,
+}
+
+// The slots that are counted: of a letter, or scaled, or S and not scaled.
+pub enum Kind {
+    Actual,
+    Substituted,
+    None,
+    Scaled,
+    Unscaled,
+}
+
+fn slot_at(file: &[u8], i: usize) -> SlotRecord
+    requires { ⌜ 6 * (i + 1) ≤ length (now file) ⌝ }
+    ensures { λ r. ⌜ r ≡ slotAt (now (file .entry)) i ⌝ }
+{
+    let p = 6 * i;
+    SlotRecord {
+        value: fields::number(file, p, 4) as u32,
+        letter: file[p + 4],
+        method: file[p + 5],
+    }
+}
+
+fn is_scaled(method: u8) -> bool
+    ensures { λ r. ⌜ r ≡ isScaled method ⌝ }
+{
+    method == 18 || method == 19
+}
+
+// The record is one of 01's.
+fn record_ok(slot: SlotRecord) -> bool
+    ensures { λ r. ⌜ r ≡ recordOk slot ⌝ }
+{
+    let method = slot.method;
+    if slot.letter == b'A' {
+        return method == 0 || (method == 1 && slot.value == 0);
+    }
+    if slot.letter == b'S' {
+        if method == 2 {
+            return true;
+        }
+        if method == 3 {
+            return true;
+        }
+        return is_scaled(method);
+    }
+    if slot.letter == b'N' {
+        return method == 0 && slot.value == 0;
+    }
+    false
+}
+
+fn is_kind(kind: Kind, slot: SlotRecord) -> bool
+    ensures { λ r. ⌜ r ≡ isKind kind slot ⌝ }
+{
+    match kind {
+        Kind::Actual => slot.letter == b'A',
+        Kind::Substituted => slot.letter == b'S',
+        Kind::None => slot.letter == b'N',
+        Kind::Scaled => is_scaled(slot.method),
+        Kind::Unscaled => slot.letter == b'S' && !is_scaled(slot.method),
+    }
+}
+
+// Each of the first `k` records is one of 01's.
+pub fn records_ok(file: &[u8], k: usize) -> bool
+    requires { ⌜ 6 * k ≤ length (now file) ⌝ }
+    ensures { λ r. ⌜ r ≡ all (λ i. recordOk (slotAt (now (file .entry)) i)) 0 k ⌝ }
+{
+    let mut i = 0;
+    while i < k {
+        if !record_ok(slot_at(file, i)) {
+            return false;
+        }
+        i += 1;
+    }
+    true
+}
+
+// How many of the `k` slots from slot `a` are of a kind.
+pub fn count_kind(file: &[u8], kind: Kind, a: usize, k: usize) -> usize
+    requires { ⌜ 6 * (a + k) ≤ length (now file) ⌝ }
+    ensures { λ r. ⌜ r ≡ count (kindAt (now (file .entry)) kind) a k ⌝ }
+{
+    let mut n: usize = 0;
+    let mut i = 0;
+    while i < k {
+        if is_kind(kind, slot_at(file, a + i)) {
+            n += 1;
+        }
+        i += 1;
+    }
+    n
+}
+
+// One of the `k` slots from slot `a` is of a kind.
+pub fn has_kind(file: &[u8], kind: Kind, a: usize, k: usize) -> bool
+    requires { ⌜ 6 * (a + k) ≤ length (now file) ⌝ }
+    ensures { λ r. ⌜ r ≡ any (kindAt (now (file .entry)) kind) a k ⌝ }
+{
+    0 < count_kind(file, kind, a, k)
+}
+
+// The sum of the values of the `k` slots from slot `a`.
+pub fn sum_values(file: &[u8], a: usize, k: usize) -> u64
+    requires { ⌜ (6 * (a + k) ≤ length (now file)) × (k ≤ 115200) ⌝ }
+    ensures { λ r. ⌜ r ≡ sum (λ i. slotAt (now (file .entry)) i .value) a k ⌝ }
+{
+    let mut n: u64 = 0;
+    let mut i = 0;
+    while i < k {
+        let slot = slot_at(file, a + i);
+        n += slot.value as u64;
+        i += 1;
+    }
+    n
+}

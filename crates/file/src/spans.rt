@@ -1,0 +1,176 @@
+// The span table: its records, their states, and what lies outside the spans.
+use crate::Figures;
+use crate::fields;
+use crate::slots;
+use crate::slots::Kind;
+use crate::trailer;
+ghost use mathlib.Core.Path.{_≡_};
+ghost use mathlib.Core.Bool.{true};
+ghost use Prim.Native.Nat.{_-_, _*_, _<_};
+ghost use lib.Dec.{eqb, ltb};
+ghost use Rattle.rules.specs.Lists.{every};
+ghost use Rattle.file.specs.Lists.{all, implies};
+ghost use Rattle.file.specs.Reader.{spanAt, slotCount, tablesAt, stateRule, spanOk, stateOk, outsideOk};
+ghost use Rattle.file.specs.Inner.Reading.{Ready};
+
+// A record of the span table; `blank` is its last byte.
+pub struct SpanRecord {
+    pub first: u32,
+    pub last: u32,
+    pub advance: u32,
+    pub state: u8,
+    pub blank: u8,
+}
+
+fn span_at(file: &[u8], g: Figures, j: usize) -> SpanRecord
+    requires { ⌜ Ready (now file) g × (j < g .spans) ⌝ }
+    ensures { λ r. ⌜ r ≡ spanAt (now (file .entry)) (6 * slotCount g) j ⌝ }
+{
+    let p = 6 * trailer::slot_count(g) + 10 * j;
+    SpanRecord {
+        first: fields::number(file, p, 2) as u32,
+        last: fields::number(file, p + 2, 2) as u32,
+        advance: fields::number(file, p + 4, 4) as u32,
+        state: file[p + 8],
+        blank: file[p + 9],
+    }
+}
+
+// Span `j`, which begins at `first`, is the first one or begins where the one before ended.
+fn follows(file: &[u8], g: Figures, j: usize, first: u32) -> bool
+    requires { ⌜ Ready (now file) g × (j < g .spans) ⌝ }
+    ensures { λ r. ⌜ r ≡ implies (ltb 0 j) (eqb first (spanAt (now (file .entry)) (6 * slotCount g) (j - 1) .last)) ⌝ }
+{
+    if j == 0 {
+        return true;
+    }
+    let s = span_at(file, g, j - 1);
+    first == s.last
+}
+
+fn span_ok(file: &[u8], g: Figures, j: usize) -> bool
+    requires { ⌜ Ready (now file) g × (j < g .spans) ⌝ }
+    ensures { λ r. ⌜ r ≡ spanOk (tablesAt (now (file .entry)) g) j ⌝ }
+{
+    let s = span_at(file, g, j);
+    if s.last <= s.first {
+        return false;
+    }
+    if g.days < s.last {
+        return false;
+    }
+    if !follows(file, g, j, s.first) {
+        return false;
+    }
+    if 99_999_999 < s.advance {
+        return false;
+    }
+    if 3 < s.state {
+        return false;
+    }
+    s.blank == 0
+}
+
+pub fn spans_ok(file: &[u8], g: Figures) -> bool
+    requires { ⌜ Ready (now file) g ⌝ }
+    ensures { λ r. ⌜ r ≡ all (spanOk (tablesAt (now (file .entry)) g)) 0 (g .spans) ⌝ }
+{
+    let m = g.spans as usize;
+    let mut j = 0;
+    while j < m {
+        if !span_ok(file, g, j) {
+            return false;
+        }
+        j += 1;
+    }
+    true
+}
+
+// A span of this state whose slots are so.
+fn state_rule(
+    state: u8,
+    none: bool,
+    scaled: bool,
+    unscaled: bool,
+    substituted: bool,
+    exact: bool,
+) -> bool
+    ensures { λ r. ⌜ r ≡ every (stateRule state none scaled unscaled substituted exact) ⌝ }
+{
+    if state == 2 {
+        return none && !scaled;
+    }
+    if none {
+        return false;
+    }
+    if state == 1 {
+        if unscaled {
+            return false;
+        }
+        return scaled && exact;
+    }
+    if scaled {
+        return false;
+    }
+    if state == 0 {
+        return !substituted;
+    }
+    true
+}
+
+// Span `j` has the state that its slots allow.
+fn state_ok(file: &[u8], g: Figures, j: usize) -> bool
+    requires { ⌜ Ready (now file) g × (j < g .spans) × (spanOk (tablesAt (now file) g) j ≡ true) ⌝ }
+    ensures { λ r. ⌜ r ≡ stateOk (tablesAt (now (file .entry)) g) j ⌝ }
+{
+    let s = span_at(file, g, j);
+    let n = trailer::per_day(g);
+    let a = s.first as usize * n;
+    let k = (s.last - s.first) as usize * n;
+    let sum = slots::sum_values(file, a, k);
+    let r = s.advance as u64;
+    state_rule(
+        s.state,
+        slots::has_kind(file, Kind::None, a, k),
+        slots::has_kind(file, Kind::Scaled, a, k),
+        slots::has_kind(file, Kind::Unscaled, a, k),
+        slots::has_kind(file, Kind::Substituted, a, k),
+        sum == r,
+    )
+}
+
+pub fn states_ok(file: &[u8], g: Figures) -> bool
+    requires { ⌜ Ready (now file) g × (all (spanOk (tablesAt (now file) g)) 0 (g .spans) ≡ true) ⌝ }
+    ensures { λ r. ⌜ r ≡ all (stateOk (tablesAt (now (file .entry)) g)) 0 (g .spans) ⌝ }
+{
+    let m = g.spans as usize;
+    let mut j = 0;
+    while j < m {
+        if !state_ok(file, g, j) {
+            return false;
+        }
+        j += 1;
+    }
+    true
+}
+
+// No method 18 or 19 outside spans. These follow each other, so outside is before the first and after the last.
+pub fn outside_ok(file: &[u8], g: Figures) -> bool
+    requires { ⌜ Ready (now file) g × (all (spanOk (tablesAt (now file) g)) 0 (g .spans) ≡ true) ⌝ }
+    ensures { λ r. ⌜ r ≡ all (outsideOk (tablesAt (now (file .entry)) g)) 0 (slotCount g) ⌝ }
+{
+    let slots = trailer::slot_count(g);
+    let m = g.spans as usize;
+    if m == 0 {
+        return !slots::has_kind(file, Kind::Scaled, 0, slots);
+    }
+    let n = trailer::per_day(g);
+    let first = span_at(file, g, 0);
+    let start = first.first as usize * n;
+    if slots::has_kind(file, Kind::Scaled, 0, start) {
+        return false;
+    }
+    let last = span_at(file, g, m - 1);
+    let end = last.last as usize * n;
+    !slots::has_kind(file, Kind::Scaled, end, slots - end)
+}

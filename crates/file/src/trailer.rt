@@ -1,0 +1,93 @@
+// The trailer: its figures, and what is refused with 8.
+use crate::Figures;
+use crate::fields;
+ghost use mathlib.Core.Path.{_≡_};
+ghost use mathlib.Core.Bool.{true};
+ghost use Prim.Native.Nat.{_/_, _≤_};
+ghost use lib.ListN.{length};
+ghost use Rattle.rules.specs.Lists.{every};
+ghost use Rattle.rules.specs.Opening.{intervalOk};
+ghost use Rattle.file.specs.Reader.{figures, headTests, slotCount, trailerOk};
+
+fn interval_ok(interval: u32) -> bool
+    ensures { λ r. ⌜ r ≡ intervalOk interval ⌝ }
+{
+    if interval == 5 {
+        return true;
+    }
+    if interval == 15 {
+        return true;
+    }
+    interval == 30
+}
+
+// L, D and the first day are as under Opening.
+fn head_ok(g: Figures) -> bool
+    ensures { λ r. ⌜ r ≡ every (headTests (g .first) (g .days) (g .interval)) ⌝ }
+{
+    if !interval_ok(g.interval) {
+        return false;
+    }
+    if g.days < 1 {
+        return false;
+    }
+    if 400 < g.days {
+        return false;
+    }
+    g.first as u64 + g.days as u64 <= 36525
+}
+
+// n, the slots of a day.
+pub fn per_day(g: Figures) -> usize
+    requires { ⌜ every (headTests (g .first) (g .days) (g .interval)) ≡ true ⌝ }
+    ensures { λ r. ⌜ (r ≡ 1440 / g .interval) × (r ≤ 288) ⌝ }
+{
+    1440 / g.interval as usize
+}
+
+// N, the slots of the book.
+pub fn slot_count(g: Figures) -> usize
+    requires { ⌜ every (headTests (g .first) (g .days) (g .interval)) ≡ true ⌝ }
+    ensures { λ r. ⌜ (r ≡ slotCount g) × (r ≤ 115200) ⌝ }
+{
+    per_day(g) * g.days as usize
+}
+
+// The figures of the last 32 bytes.
+pub fn figures_at(file: &[u8]) -> Figures
+    requires { ⌜ 32 ≤ length (now file) ⌝ }
+    ensures { λ r. ⌜ r ≡ figures (now (file .entry)) ⌝ }
+{
+    let t = file.len() - 32;
+    Figures {
+        first: fields::number(file, t, 2) as u32,
+        days: fields::number(file, t + 2, 2) as u32,
+        interval: file[t + 4] as u32,
+        spans: fields::number(file, t + 6, 2) as u32,
+        actual: fields::number(file, t + 8, 4) as u32,
+        substituted: fields::number(file, t + 12, 4) as u32,
+        none: fields::number(file, t + 16, 4) as u32,
+        sum: fields::number(file, t + 20, 8),
+    }
+}
+
+// What is refused with 8 where it is false.
+pub fn trailer_ok(file: &[u8], g: Figures) -> bool
+    requires { ⌜ 32 ≤ length (now file) ⌝ }
+    ensures { λ r. ⌜ r ≡ trailerOk (now (file .entry)) g ⌝ }
+{
+    let t = file.len() - 32;
+    if !head_ok(g) {
+        return false;
+    }
+    if file[t + 5] != 1 {
+        return false;
+    }
+    let m = g.spans as u64;
+    let distance = fields::number(file, t + 28, 4);
+    let back = 10 * m;
+    if distance != back {
+        return false;
+    }
+    file.len() as u64 == 6 * slot_count(g) as u64 + 10 * m + 32
+}

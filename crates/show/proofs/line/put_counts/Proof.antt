@@ -1,0 +1,49 @@
+-- `show::line::put_counts` meets its contract.
+use native.Mathlib.Omega.{arith}
+use borrow.Author.Needs.{needs}
+use Rattle.show.proofs.Adding.{then}
+use Rattle.show.proofs.line.put_counts.Statement.{statement}
+use Rattle.show.proofs.line.put_counts.Tie as tie
+
+cast-put-field : tie.Need-cast-put-field
+cast-put-field c = search needs
+
+put-field-requires : tie.Need-put-field-requires
+put-field-requires c κs = search needs
+
+cast-put-field-2 : tie.Need-cast-put-field-2
+cast-put-field-2 c = search needs
+
+put-field-requires-2 : tie.Need-put-field-requires-2
+put-field-requires-2 c κs = search needs
+
+cast-put-field-3 : tie.Need-cast-put-field-3
+cast-put-field-3 c = search needs
+
+put-field-requires-3 : tie.Need-put-field-requires-3
+put-field-requires-3 c κs = search needs
+
+same-length : tie.Need-same-length
+same-length c = search needs
+
+returns : tie.Need-returns
+returns c =
+    let put-field = c .before .before .before .before .before .before .before .before .before .before .before .before .put-field in
+    let put-field2 = c .before .before .before .before .before .before .before .put-field2 in
+    let put-field3 = c .before .before .put-field3 in (
+      then (then (put-field .ensures .0) (put-field2 .ensures .0)) (put-field3 .ensures .0),
+      omega (arith, put-field .ensures .1, put-field2 .ensures .1, put-field3 .ensures .1),
+    )
+
+pub put-counts-spec : {M : Type 1} → statement M
+put-counts-spec =
+    tie.close
+    (tie.spec
+    cast-put-field
+    put-field-requires
+    cast-put-field-2
+    put-field-requires-2
+    cast-put-field-3
+    put-field-requires-3
+    same-length
+    returns)

@@ -1,0 +1,74 @@
+-- `show::line::put_date` meets its contract.
+use mathlib.Core.List.{[], _∷_}
+use native.Mathlib.Omega.{arith}
+use borrow.Author.Needs.{needs}
+use Rattle.show.specs.Line.{digits, dateText}
+use Rattle.show.proofs.Adding.{then, same, date-parts}
+use Rattle.show.proofs.line.put_date.Statement.{statement}
+use Rattle.show.proofs.line.put_date.Tie as tie
+
+cast-put-digits : tie.Need-cast-put-digits
+cast-put-digits c = search needs
+
+put-digits-requires : tie.Need-put-digits-requires
+put-digits-requires c κs = search needs
+
+slice-aggregate-put-text : tie.Need-slice-aggregate-put-text
+slice-aggregate-put-text c = search needs
+
+put-text-requires : tie.Need-put-text-requires
+put-text-requires c κs = search needs
+
+cast-put-digits-2 : tie.Need-cast-put-digits-2
+cast-put-digits-2 c = search needs
+
+put-digits-requires-2 : tie.Need-put-digits-requires-2
+put-digits-requires-2 c κs = search needs
+
+slice-aggregate-put-text-2 : tie.Need-slice-aggregate-put-text-2
+slice-aggregate-put-text-2 c = search needs
+
+put-text-requires-2 : tie.Need-put-text-requires-2
+put-text-requires-2 c κs = search needs
+
+cast-put-digits-3 : tie.Need-cast-put-digits-3
+cast-put-digits-3 c = search needs
+
+put-digits-requires-3 : tie.Need-put-digits-requires-3
+put-digits-requires-3 c κs = search needs
+
+same-length : tie.Need-same-length
+same-length c = search needs
+
+returns : tie.Need-returns
+unfolding dateText
+returns c =
+    let args = c .before .before .before .before .before .before .before .before .before .before .before .before .before .before .before .before .before .before .before .before .before .before .before .before .before .before .args in
+    let put-digits = c .before .before .before .before .before .before .before .before .before .before .before .before .before .before .before .before .before .before .before .before .before .before .put-digits in
+    let put-text = c .before .before .before .before .before .before .before .before .before .before .before .before .before .before .before .before .before .put-text in
+    let put-digits2 = c .before .before .before .before .before .before .before .before .before .before .before .before .put-digits2 in
+    let put-text2 = c .before .before .before .before .before .before .before .put-text2 in
+    let put-digits3 = c .before .before .put-digits3 in
+    let d = args .date in (
+      same (date-parts (digits 4 (d .year)) (45 ∷ []) (digits 2 (d .month)) (45 ∷ []) (digits 2 (d .day)))
+          (then (then (then (then (put-digits .ensures .0) (put-text .ensures)) (put-digits2 .ensures .0)) (put-text2 .ensures))
+          (put-digits3 .ensures .0)),
+      omega (arith, put-digits .ensures .1, put-text .ensures .end, put-digits2 .ensures .1, put-text2 .ensures .end, put-digits3 .ensures .1),
+    )
+
+pub put-date-spec : {M : Type 1} → statement M
+put-date-spec =
+    tie.close
+    (tie.spec
+    cast-put-digits
+    put-digits-requires
+    slice-aggregate-put-text
+    put-text-requires
+    cast-put-digits-2
+    put-digits-requires-2
+    slice-aggregate-put-text-2
+    put-text-requires-2
+    cast-put-digits-3
+    put-digits-requires-3
+    same-length
+    returns)

@@ -1,0 +1,52 @@
+-- `show::line::put_head` meets its contract.
+use mathlib.Core.Path.{ap}
+use native.Mathlib.Omega.{arith}
+use borrow.Author.Needs.{needs}
+use Rattle.show.specs.Line.{dateText}
+use Rattle.show.proofs.Adding.{then, same}
+use Rattle.show.proofs.line.put_head.Statement.{statement}
+use Rattle.show.proofs.line.put_head.Tie as tie
+
+date-of-requires : tie.Need-date-of-requires
+date-of-requires c κs = search needs
+
+put-date-requires : tie.Need-put-date-requires
+put-date-requires c κs = search needs
+
+cast-put-field : tie.Need-cast-put-field
+cast-put-field c = search needs
+
+put-field-requires : tie.Need-put-field-requires
+put-field-requires c κs = search needs
+
+cast-put-field-2 : tie.Need-cast-put-field-2
+cast-put-field-2 c = search needs
+
+put-field-requires-2 : tie.Need-put-field-requires-2
+put-field-requires-2 c κs = search needs
+
+same-length : tie.Need-same-length
+same-length c = search needs
+
+returns : tie.Need-returns
+returns c =
+    let date-of = c .before .before .before .before .before .before .before .before .before .before .before .before .before .date-of in
+    let put-date = c .before .before .before .before .before .before .before .before .before .before .before .before .put-date in
+    let put-field = c .before .before .before .before .before .before .before .put-field in
+    let put-field2 = c .before .before .put-field2 in (
+      then (then (same (ap dateText (date-of .ensures)) (put-date .ensures .0)) (put-field .ensures .0)) (put-field2 .ensures .0),
+      omega (arith, put-date .ensures .1, put-field .ensures .1, put-field2 .ensures .1),
+    )
+
+pub put-head-spec : {M : Type 1} → statement M
+put-head-spec =
+    tie.close
+    (tie.spec
+    date-of-requires
+    put-date-requires
+    cast-put-field
+    put-field-requires
+    cast-put-field-2
+    put-field-requires-2
+    same-length
+    returns)

@@ -1,0 +1,45 @@
+-- `show::line::put_refusal` meets its contract.
+use native.Mathlib.Omega.{arith}
+use borrow.Author.Needs.{needs}
+use Rattle.show.proofs.Adding.{then}
+use Rattle.show.proofs.line.put_refusal.Statement.{statement}
+use Rattle.show.proofs.line.put_refusal.Tie as tie
+
+slice-aggregate-put-text : tie.Need-slice-aggregate-put-text
+slice-aggregate-put-text c = search needs
+
+put-text-requires : tie.Need-put-text-requires
+put-text-requires c κs = search needs
+
+put-field-requires : tie.Need-put-field-requires
+put-field-requires c κs = search needs
+
+slice-aggregate-put-text-2 : tie.Need-slice-aggregate-put-text-2
+slice-aggregate-put-text-2 c = search needs
+
+put-text-requires-2 : tie.Need-put-text-requires-2
+put-text-requires-2 c κs = search needs
+
+same-length : tie.Need-same-length
+same-length c = search needs
+
+returns : tie.Need-returns
+returns c =
+    let put-text = c .before .before .before .before .before .before .before .before .before .before .before .put-text in
+    let put-field = c .before .before .before .before .before .before .before .put-field in
+    let put-text2 = c .before .before .put-text2 in (
+      then (then (put-text .ensures) (put-field .ensures .0)) (put-text2 .ensures),
+      omega (arith, put-text .ensures .end, put-field .ensures .1, put-text2 .ensures .end),
+    )
+
+pub put-refusal-spec : {M : Type 1} → statement M
+put-refusal-spec =
+    tie.close
+    (tie.spec
+    slice-aggregate-put-text
+    put-text-requires
+    put-field-requires
+    slice-aggregate-put-text-2
+    put-text-requires-2
+    same-length
+    returns)

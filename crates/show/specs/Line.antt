@@ -1,0 +1,60 @@
+-- The line that the program writes (01, The published file: 'A program reads a file').
+use mathlib.Core.Bool.{cond}
+use mathlib.Core.List.{List, [], _∷_, _++_}
+use Prim.Native.Nat.{ℕ, zero, suc, _+_, _/_, _%_}
+use lib.Dec.{leb, ltb}
+use lib.ListN.{length}
+use Rattle.calendar.specs.declared.Date.{Date}
+use Rattle.calendar.specs.Calendar.{dateOf}
+use Rattle.file.specs.declared.Figures.{Figures}
+use Rattle.file.specs.declared.Verdict.{Verdict}
+use Rattle.file.specs.declared.Verdict.the-variants.{Accepted, Refused}
+use Rattle.file.specs.Reader.{readFile}
+
+-- the last k decimal digits of n in ASCII, highest first
+unfoldable pub digits : ℕ → ℕ → List ℕ
+digits zero n = []
+digits (suc k) n = digits k (n / 10) ++ ((48 + n % 10) ∷ [])
+
+-- how many digits n has, where k + 1 are enough
+unfoldable pub places : ℕ → ℕ → ℕ
+places zero n = 1
+places (suc k) n = cond (ltb n 10) 1 (suc (places k (n / 10)))
+
+-- n with no leading zero; a number of 64 bits has at most 20 digits
+unfoldable pub decimal : ℕ → List ℕ
+decimal n = digits (places 19 n) n
+
+-- year-month-day
+unfoldable pub dateText : Date → List ℕ
+dateText d = digits 4 (d .year) ++ (45 ∷ digits 2 (d .month)) ++ (45 ∷ digits 2 (d .day))
+
+-- a space and a number
+unfoldable pub field : ℕ → List ℕ
+field n = 32 ∷ decimal n
+
+-- first day, D, L, the three counts, the sum
+unfoldable pub figuresText : Figures → List ℕ
+figuresText g =
+    dateText (dateOf (g .first)) ++ field (g .days) ++ field (g .interval)
+    ++ field (g .actual) ++ field (g .substituted) ++ field (g .none)
+    ++ field (g .sum)
+
+-- `refused`, `too long` and the line's end
+abbrev pub refused : List ℕ
+refused = 114 ∷ 101 ∷ 102 ∷ 117 ∷ 115 ∷ 101 ∷ 100 ∷ []
+
+abbrev pub tooLong : List ℕ
+tooLong = 116 ∷ 111 ∷ 111 ∷ 32 ∷ 108 ∷ 111 ∷ 110 ∷ 103 ∷ []
+
+abbrev pub newline : List ℕ
+newline = 10 ∷ []
+
+-- each case of the reader's answer: the figures, or the refusal's number
+unfoldable pub answerText : Verdict → List ℕ
+answerText (Accepted g) = figuresText g
+answerText (Refused number) = refused ++ field number
+
+-- a file of at most 65,536 bytes
+unfoldable pub line : List ℕ → List ℕ
+line bs = cond (leb (length bs) 65536) (answerText (readFile bs)) tooLong ++ newline
