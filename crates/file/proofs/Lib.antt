@@ -16,6 +16,8 @@ pub mod Content
 pub mod Agree
 pub mod Fitting
 pub mod Accepted
+pub mod Booked
+pub mod Published
 pub mod Answers
 pub mod Canonical
 pub mod Whole

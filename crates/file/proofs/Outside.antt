@@ -44,11 +44,11 @@ module _ (t : Tables) (ok : all (spanOk t) 0 (t .spans) ≡ true) where
       (λ k. omega (arith, last-le m (omega arith) j (le-of-suc-le-suc k), follow t ok m l, ordered t (suc m) (here (suc m) l))) (eq-or-lt-of-le h)
 
   -- a span that slot i lies in
-  record Covered (i : ℕ) : Type 0 where
-    by : ℕ
-    short : by < t .spans
-    from : t .span by .first * n ≤ i
-    to : i < t .span by .last * n
+  pub record Covered (i : ℕ) : Type 0 where
+    pub by : ℕ
+    pub short : by < t .spans
+    pub from : t .span by .first * n ≤ i
+    pub to : i < t .span by .last * n
 
   -- a slot between the first span's start and the end of span m lies in a span
   find : (m : ℕ) → m < t .spans → (i : ℕ) → t .span 0 .first * n ≤ i → i < t .span m .last * n → Covered i
@@ -58,7 +58,7 @@ module _ (t : Tables) (ok : all (spanOk t) 0 (t .spans) ≡ true) where
       (λ e. find m (omega arith) i a (rw (follow t ok m l) at (leb-false (t .span (suc m) .first * n) i e)))
       (either (leb (t .span (suc m) .first * n) i))
 
-  covers : (i : ℕ) → (marked i ≡ true → Covered i) → outsideOk t i ≡ true
+  pub covers : (i : ℕ) → (marked i ≡ true → Covered i) → outsideOk t i ≡ true
   unfolding outsideOk
   covers i h =
       ⊎-elim
