@@ -2,12 +2,13 @@
 use mathlib.Core.Path.{_≡_, refl, sym, ap, ap₂, _∙_}
 use mathlib.Core.List.{List, [], _∷_}
 use Prim.Native.Nat.{ℕ, zero, suc, _+_, _*_, _≤_, _<_}
-use native.Mathlib.Nat.{add-suc, suc-add, add-zero, add-assoc, mul-suc, not-suc-le-zero, le-of-suc-le-suc}
+use native.Mathlib.Nat.{add-suc, suc-add, add-zero, mul-suc, not-suc-le-zero, le-of-suc-le-suc}
 use native.Mathlib.Omega.{arith}
 use lib.ListN.{length, getD}
 use Rattle.rules.specs.declared.Outcome.{Outcome}
 use Rattle.rules.specs.Lists.{sum}
 use Rattle.rules.specs.Spans.{upTo}
+use Rattle.rules.proofs.Sums.{sum-first}
 use Rattle.file.specs.Layout.{total}
 
 pub length-upTo : {X : Type 0} (f : ℕ → X) (a k : ℕ) → length (upTo f a k) ≡ k
@@ -34,11 +35,6 @@ unfolding upTo
 getD-upTo f d a zero i l = absurd (not-suc-le-zero l)
 getD-upTo f d a (suc k) zero l = ap f (sym (add-zero a))
 getD-upTo f d a (suc k) (suc i) l = getD-upTo f d (suc a) k i (le-of-suc-le-suc l) ∙ ap f (rw (suc-add, add-suc))
-
-sum-first : (f : ℕ → ℕ) (a k : ℕ) → sum f a (suc k) ≡ f a + sum f (suc a) k
-unfolding sum
-sum-first f a zero = rw add-zero (omega arith)
-sum-first f a (suc k) = rw (sum-first f a k, add-suc, suc-add, add-assoc)
 
 -- the sum over such a list
 pub total-sum : (g : Outcome → ℕ) (f : ℕ → Outcome) (a k : ℕ) → total g (upTo f a k) ≡ sum (λ i. g (f i)) a k

@@ -190,7 +190,7 @@ fn put_file(
     ensures { λ _. ⌜ now (out .exit) ≡ fileOf (published head (lentCells (values .entry) (versions .entry) (statuses .entry) (holidays .entry) (readings .entry) (reads .entry))) ++ drop (fileLength head (lentCells (values .entry) (versions .entry) (statuses .entry) (holidays .entry) (readings .entry) (reads .entry))) (now (out .entry)) ⌝ }
 {
     let table = 6 * opening::slot_count(head);
-    let totals = put_tables(
+    let found = put_tables(
         head,
         values,
         versions,
@@ -206,10 +206,10 @@ fn put_file(
         days: head.days,
         interval: head.interval,
         spans: spans as u32,
-        actual: totals.actual,
-        substituted: totals.substituted,
-        none: totals.none,
-        sum: totals.sum,
+        actual: found.actual,
+        substituted: found.substituted,
+        none: found.none,
+        sum: found.sum,
     };
     writer::put_trailer(out, table + 10 * spans, g);
 }

@@ -1,31 +1,19 @@
 // The trailer: its figures, and what is refused with 8.
 use crate::Figures;
 use crate::fields;
+use rules::opening;
 ghost use mathlib.Core.Path.{_≡_};
 ghost use mathlib.Core.Bool.{true};
 ghost use Prim.Native.Nat.{_/_, _≤_};
 ghost use lib.ListN.{length};
 ghost use Rattle.rules.specs.Lists.{every};
-ghost use Rattle.rules.specs.Opening.{intervalOk};
 ghost use Rattle.file.specs.Reader.{figures, headTests, slotCount, trailerOk};
-
-fn interval_ok(interval: u32) -> bool
-    ensures { λ r. ⌜ r ≡ intervalOk interval ⌝ }
-{
-    if interval == 5 {
-        return true;
-    }
-    if interval == 15 {
-        return true;
-    }
-    interval == 30
-}
 
 // L, D and the first day are as under Opening.
 fn head_ok(g: Figures) -> bool
     ensures { λ r. ⌜ r ≡ every (headTests (g .first) (g .days) (g .interval)) ⌝ }
 {
-    if !interval_ok(g.interval) {
+    if !opening::is_interval(g.interval) {
         return false;
     }
     if g.days < 1 {

@@ -6,6 +6,7 @@ use Prim.Native.Nat.{ℕ, zero, suc, _+_, _-_, _≤_, _<_}
 use native.Mathlib.Nat.{add-zero, add-suc, eq-or-lt-of-le, le-of-suc-le-suc}
 use native.Mathlib.Omega.{arith}
 use Rattle.rules.specs.Lists.{sum, any}
+pub use Rattle.calendar.proofs.Places.{sum-first}
 use Rattle.rules.proofs.Logic.{or-parts}
 
 -- what agrees on the k places from a has one sum

@@ -5,7 +5,7 @@ ghost use mathlib.Core.Bool.{true};
 ghost use Rattle.rules.specs.Lists.{every};
 ghost use Rattle.rules.specs.Opening.{intervalOk, dayTests, headOk, firstDay, limitOf, slotsPerDay, slotCount};
 
-fn is_interval(interval: u32) -> bool
+pub fn is_interval(interval: u32) -> bool
     ensures { λ r. ⌜ r ≡ intervalOk interval ⌝ }
 {
     if interval == 5 {

@@ -6,21 +6,21 @@ use Rattle.file.proofs.Logic.{and-true}
 use Rattle.file.proofs.trailer.head_ok.Statement.{statement}
 use Rattle.file.proofs.trailer.head_ok.Tie as tie
 
-interval-ok-requires : tie.Need-interval-ok-requires
-interval-ok-requires c κs = search needs
+is-interval-requires : tie.Need-is-interval-requires
+is-interval-requires c κs = search needs
 
 returns : tie.Need-returns
-returns c = simp (sym (c .before .interval-ok .ensures) ∙ not-true _ (c .if1 .taken))
+returns c = simp (sym (c .before .is-interval .ensures) ∙ not-true _ (c .if1 .taken))
 
 returns-2 : tie.Need-returns-2
-returns-2 c = simp (sym (c .before .before .before .interval-ok .ensures) ∙ not-false _ (c .before .before .if1 .left), lt-leb _ _ (c .if2 .taken))
+returns-2 c = simp (sym (c .before .before .before .is-interval .ensures) ∙ not-false _ (c .before .before .if1 .left), lt-leb _ _ (c .if2 .taken))
 
 returns-3 : tie.Need-returns-3
 returns-3 c =
-    let interval-ok = c .before .before .before .before .before .interval-ok in
+    let is-interval = c .before .before .before .before .before .is-interval in
     let if1 = c .before .before .before .before .if1 in
     let if2 = c .before .before .if2 in
-    simp (sym (interval-ok .ensures) ∙ not-false _ (if1 .left), le-leb _ _ (if2 .left), lt-leb _ _ (c .if3 .taken))
+    simp (sym (is-interval .ensures) ∙ not-false _ (if1 .left), le-leb _ _ (if2 .left), lt-leb _ _ (c .if3 .taken))
 
 cast-result : tie.Need-cast-result
 cast-result c = search needs
@@ -33,17 +33,17 @@ add-result c = search needs
 
 returns-4 : tie.Need-returns-4
 returns-4 c =
-    let interval-ok = c .before .before .before .before .before .before .before .interval-ok in
+    let is-interval = c .before .before .before .before .before .before .before .is-interval in
     let if1 = c .before .before .before .before .before .before .if1 in
     let if2 = c .before .before .before .before .if2 in
     let if3 = c .before .before .if3 in
-    simp (sym (interval-ok .ensures) ∙ not-false _ (if1 .left), le-leb _ _ (if2 .left), le-leb _ _ (if3 .left), and-true)
+    simp (sym (is-interval .ensures) ∙ not-false _ (if1 .left), le-leb _ _ (if2 .left), le-leb _ _ (if3 .left), and-true)
 
 pub head-ok-spec : {M : Type 1} → statement M
 head-ok-spec =
     tie.close
     (tie.spec
-    interval-ok-requires
+    is-interval-requires
     returns
     returns-2
     returns-3
