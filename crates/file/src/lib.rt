@@ -1,6 +1,6 @@
 // The published file: its reader, and the parts of its writer (01, The published file).
 mod fields;
-mod publish;
+pub mod publish;
 mod slots;
 mod spans;
 mod trailer;

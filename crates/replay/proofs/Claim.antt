@@ -1,0 +1,139 @@
+-- What the calls answer and leave one after another is what the plain book says of the whole list.
+use mathlib.Core.Bool.{Bool, true, false, not, cond, _&&_}
+use mathlib.Core.List.{List, [], _∷_, _++_, map}
+use mathlib.Core.Path.{_≡_, refl, sym, ap, _∙_}
+use Prim.Native.Nat.{ℕ, _/_}
+use native.Mathlib.Omega.{arith}
+use lib.Dec.{ltb}
+use lib.ListN.{length, drop}
+use borrow.Author.Tests.{eq-eqb, ne-eqb}
+use Rattle.rules.specs.declared.Head.{Head}
+use Rattle.rules.specs.Opening.{Cells, headOk}
+use Rattle.rules.specs.Lists.{every}
+use Rattle.book.specs.Answers.{Rule, unless}
+use Rattle.book.specs.Answers.Answer.{done, refused}
+use Rattle.book.specs.Answers.Rule.{rule}
+use Rattle.book.specs.Cells.{cellsFit, cellsOk}
+use Rattle.book.specs.Opening.{opened, openAnswer, openAfter}
+use Rattle.book.specs.Filling.{answers as answersOf, afterAll}
+use Rattle.book.proofs.Agreement.{answers-agree, cells-agree}
+use Rattle.book.proofs.Soundness.{cells-sound}
+use Rattle.file.specs.declared.publish.Published.the-variants as published
+use Rattle.file.specs.Layout.{Content, fileOf}
+use Rattle.file.specs.Publishing.{published as publishedOf, fileLength, bytesAfter, publishAnswer, publishAfter}
+use Rattle.replay.specs.declared.Replayed.{Replayed}
+use Rattle.replay.specs.declared.Replayed.the-variants.{Malformed, Refused, Length}
+use Rattle.replay.specs.Packing.{packedOk, unpack}
+use Rattle.replay.specs.Replaying.{answerByte, packingOk, plainBook, isPlayed, lengthUnless, replayAnswer, answersAfter, cellsAfter, outAfter}
+use Rattle.replay.specs.Inner.Playing.{publishedMeant}
+
+-- opening is done exactly where neither rule is broken
+done-tests : (x y : Bool) → unless (rule 1 (not x) ∷ rule 2 (not y) ∷ []) done ≡ done → (x ≡ true) × (y ≡ true)
+done-tests true true e = (refl, refl)
+done-tests true false e = let z : _≡_ {A = ℕ} 0 1 = cc in absurd (omega arith)
+done-tests false y e = let z : _≡_ {A = ℕ} 0 1 = cc in absurd (omega arith)
+
+refused-tests : (x y : Bool) (n : ℕ) (rules : List Rule) (m : ℕ) → unless (rule 1 (not x) ∷ rule 2 (not y) ∷ []) done ≡ refused n
+    → (Refused n ≡ lengthUnless (rule 1 (not x) ∷ rule 2 (not y) ∷ rules) m) × (every (x ∷ y ∷ []) ≡ false)
+refused-tests true true n rules m e = let z : _≡_ {A = ℕ} 0 1 = cc in absurd (omega arith)
+refused-tests true false n rules m e = ((cc), refl)
+refused-tests false y n rules m e = ((cc), refl)
+
+-- after sound calls publishing refuses only for a short buffer
+module _ (h : Head) (b : Cells) (out : List ℕ) (good : headOk h ≡ true) (fit : cellsFit h b ≡ true) (ok : cellsOk h b ≡ true) where
+  pub answer-last : publishAnswer h b out ≡ cond (ltb (length out) (fileLength h b)) (published.Refused 7) (published.Length (fileLength h b))
+  unfolding publishAnswer
+  answer-last = rw (good, fit, ok)
+
+  pub told-last : publishedMeant (publishAnswer h b out) ≡ cond (ltb (length out) (fileLength h b)) (Refused 7) (Length (fileLength h b))
+  told-last = rw answer-last (go (ltb (length out) (fileLength h b)) (fileLength h b))
+    where
+      go : (short : Bool) (n : ℕ) → publishedMeant (cond short (published.Refused 7) (published.Length n)) ≡ cond short (Refused 7) (Length n)
+      go true n = refl
+      go false n = refl
+
+  pub bytes-last : publishAfter h b out
+      ≡ cond (not (ltb (length out) (fileLength h b))) (fileOf (publishedOf h b) ++ drop (fileLength h b) out) out
+  unfolding publishAfter
+  bytes-last = rw answer-last (go (ltb (length out) (fileLength h b)) (fileLength h b) (publishedOf h b))
+    where
+      go : (short : Bool) (n : ℕ) (f : Content)
+          → bytesAfter (cond short (published.Refused 7) (published.Length n)) f out ≡ cond (not short) (fileOf f ++ drop n out) out
+      go true n f = refl
+      go false n f = refl
+
+-- the two tests of a packing
+pub bad-words : (calls answers : List ℕ) → packedOk calls ≡ false → packingOk calls answers ≡ false
+unfolding packingOk
+bad-words calls answers e = rw e
+
+pub bad-count : (calls answers : List ℕ) → packedOk calls ≡ true → (length answers ≡ length calls / 5 → ⊥) → packingOk calls answers ≡ false
+unfolding packingOk
+bad-count calls answers e n = rw (e, ne-eqb _ _ n)
+
+pub good-packing : (calls answers : List ℕ) → packedOk calls ≡ true → length answers ≡ length calls / 5 → packingOk calls answers ≡ true
+unfolding packingOk
+good-packing calls answers e n = rw (e, eq-eqb _ _ n)
+
+-- what the contract says
+module _ (h : Head) (calls answers : List ℕ) (b : Cells) (out : List ℕ) where
+  pub record Meant (r : Replayed) (answers' : List ℕ) (b' : Cells) (out' : List ℕ) : Type 0 where
+    pub answer : r ≡ replayAnswer h calls answers b out
+    pub told : answers' ≡ answersAfter h calls answers b
+    pub cells : b' ≡ cellsAfter h calls answers b
+    pub bytes : out' ≡ outAfter h calls answers b out
+
+  -- the six lists one by one, as the contract has them
+  pub each : {r : Replayed} {answers' : List ℕ} {b' : Cells} {out' : List ℕ} → Meant r answers' b' out'
+      → (let after = cellsAfter h calls answers b in
+      (r ≡ replayAnswer h calls answers b out)
+      × (answers' ≡ answersAfter h calls answers b)
+      × (b' .slots .values ≡ after .slots .values)
+      × (b' .slots .versions ≡ after .slots .versions)
+      × (b' .slots .statuses ≡ after .slots .statuses)
+      × (b' .holidays ≡ after .holidays)
+      × (b' .readings ≡ after .readings)
+      × (b' .readVersions ≡ after .readVersions)
+      × (out' ≡ outAfter h calls answers b out))
+  each m =
+      let e = m .cells in (
+        m .answer,
+        m .told,
+        (λ t. e t .slots .values),
+        (λ t. e t .slots .versions),
+        (λ t. e t .slots .statuses),
+        (λ t. e t .holidays),
+        (λ t. e t .readings),
+        (λ t. e t .readVersions),
+        m .bytes,
+      )
+
+  pub malformed : packingOk calls answers ≡ false → Meant Malformed answers b out
+  unfolding replayAnswer answersAfter cellsAfter outAfter isPlayed
+  malformed e = record { answer = rw e; told = rw e; cells = rw e; bytes = rw e }
+
+  module _ (good : packingOk calls answers ≡ true) where
+    pub refused-open : (n : ℕ) (o : Cells) → openAnswer h b ≡ refused n → o ≡ openAfter h b → Meant (Refused n) answers o out
+    unfolding openAnswer openAfter replayAnswer answersAfter cellsAfter outAfter isPlayed
+    refused-open n o e left =
+        let t = refused-tests (headOk h) (cellsFit h b) n (rule 7 (ltb (length out) (fileLength h (plainBook h calls))) ∷ []) (fileLength h (plainBook h calls)) e in
+        record { answer = rw good (t .0); told = rw (good, t .1); cells = rw (good, t .1) (left ∙ rw e); bytes = rw (good, t .1) }
+
+    pub played : (r : Replayed) (answers' : List ℕ) (o b' : Cells) (out' : List ℕ) → openAnswer h b ≡ done → o ≡ openAfter h b
+        → (r ≡ publishedMeant (publishAnswer h (afterAll h o (unpack calls)) out))
+        × (answers' ≡ map answerByte (answersOf h o (unpack calls)))
+        × (b' ≡ afterAll h o (unpack calls))
+        × (out' ≡ publishAfter h (afterAll h o (unpack calls)) out)
+        → Meant r answers' b' out'
+    unfolding openAnswer openAfter plainBook replayAnswer answersAfter cellsAfter outAfter isPlayed
+    played r answers' o b' out' e first made =
+        let t = done-tests (headOk h) (cellsFit h b) e in
+        let new : o ≡ opened h = first ∙ rw e in
+        let same = cells-agree h (unpack calls) in
+        let sound = rw same at (cells-sound h (unpack calls)) in
+        record {
+          answer = rw (good, t .0, t .1) (made .0 ∙ rw (new, same) (told-last h (plainBook h calls) out (t .0) (sound .0) (sound .1)));
+          told = rw (good, t .0, t .1) (made .1 ∙ rw (new, answers-agree h (unpack calls)));
+          cells = rw (good, t .0, t .1) (made .2 ∙ rw (new, same));
+          bytes = rw (good, t .0, t .1) (made .3 ∙ rw (new, same) (bytes-last h (plainBook h calls) out (t .0) (sound .0) (sound .1)));
+        }

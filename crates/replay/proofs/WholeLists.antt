@@ -1,0 +1,120 @@
+-- The claim about whole lists holds of every two good heads and every two lists of calls.
+use mathlib.Core.Bool.{Bool, true, false, cond}
+use mathlib.Core.List.{List, [], _∷_, _++_}
+use mathlib.Core.Logic.{_↔_}
+use mathlib.Core.Path.{_≡_, refl, sym, ap, ap₂, _∙_}
+use Prim.Native.Nat.{ℕ, _<_}
+use native.Mathlib.Nat.{zero-add}
+use native.Mathlib.Omega.{arith}
+use lib.Dec.{ltb}
+use lib.ListN.{length, getD, drop}
+use lib.Seq.{ext-getD}
+use Rattle.calendar.proofs.Dates.{one-date}
+use Rattle.rules.specs.declared.Head.{Head}
+use Rattle.rules.specs.declared.Outcome.{Outcome}
+use Rattle.rules.specs.declared.Span.{Span}
+use Rattle.rules.specs.Opening.{Cells, dayTests, headTests, headOk, firstDay, slotsPerDay, slotCount}
+use Rattle.rules.specs.Spans.{outcomeAt, upTo, outcomes, spans}
+use Rattle.rules.proofs.Logic.{passed, either}
+use Rattle.book.specs.Arguments.{Call}
+use Rattle.book.proofs.Agreement.{answers-agree, cells-agree}
+use Rattle.book.proofs.Order.{order-does-not-matter}
+use Rattle.book.proofs.Soundness.{cells-sound}
+use Rattle.file.specs.declared.publish.Published.the-variants.{Length, Refused}
+use Rattle.file.specs.Contents.{noSlot}
+use Rattle.file.specs.Layout.{Content, fileOf}
+use Rattle.file.specs.Publishing.{published, fileLength, bytesAfter, publishAnswer, publishAfter}
+use Rattle.file.proofs.Content.{length-file}
+use Rattle.file.proofs.Lists.{length-upTo, getD-upTo, upTo-cong}
+use Rattle.file.proofs.Published.{files-equal}
+use Rattle.replay.proofs.Claim.{answer-last}
+use Rattle.replay.specs.Claim.{cellsOf, plainOf, plainFile, noSpan, SameOutcomes, AcceptedIn, Claim}
+
+-- the file's length as publishing computes it
+long : (h : Head) (b : Cells) → fileLength h b ≡ length (fileOf (published h b))
+unfolding fileLength published
+long h b = sym (length-file (published h b))
+
+-- publishing after a list of calls
+module _ (h : Head) (good : headOk h ≡ true) (cs : List Call) (out : List ℕ) where
+  answered : publishAnswer h (cellsOf h cs) out ≡ cond (ltb (length out) (length (plainFile h cs))) (Refused 7) (Length (length (plainFile h cs)))
+  answered =
+      answer-last h (cellsOf h cs) out good (cells-sound h cs .0) (cells-sound h cs .1) ∙ (rw (cells-agree h cs, long h (plainOf h cs)))
+
+  wrote : publishAfter h (cellsOf h cs) out ≡ cond (ltb (length out) (length (plainFile h cs))) out (plainFile h cs ++ drop (length (plainFile h cs)) out)
+  unfolding publishAfter
+  wrote = rw (answered, cells-agree h cs) (go (ltb (length out) (length (plainFile h cs))))
+    where
+      go : (t : Bool) → bytesAfter (cond t (Refused 7) (Length (length (plainFile h cs)))) (published h (plainOf h cs)) out
+          ≡ cond t out (plainFile h cs ++ drop (length (plainFile h cs)) out)
+      go true = refl
+      go false = refl
+
+-- what equal heads and outcomes make equal
+same-count : (h g : Head) → h .interval ≡ g .interval → h .days ≡ g .days → slotCount h ≡ slotCount g
+unfolding slotCount slotsPerDay
+same-count h g e f = rw (e, f)
+
+same-date : (h g : Head) → h .year ≡ g .year → h .month ≡ g .month → h .day ≡ g .day → firstDay h ≡ firstDay g
+unfolding firstDay
+same-date h g y m d = rw (y, m, d)
+
+module _ (h g : Head) (b c : Cells) where
+  slot-of : (k : Head) (x : Cells) (i : ℕ) → i < slotCount k → getD (outcomes k x) i noSlot ≡ outcomeAt k x i
+  unfolding outcomes
+  slot-of k x i l = rw zero-add at (getD-upTo (outcomeAt k x) noSlot 0 (slotCount k) i l)
+
+  same-slots : slotCount h ≡ slotCount g → ((i : ℕ) → i < slotCount h → outcomeAt h b i ≡ outcomeAt g c i) → outcomes h b ≡ outcomes g c
+  unfolding outcomes
+  same-slots n e =
+      upTo-cong (outcomeAt h b) (outcomeAt g c) 0 (slotCount h) (λ i l. e i (omega arith)) ∙ ap (upTo (outcomeAt g c) 0) n
+
+  same-content : SameOutcomes h g b c → published h b ≡ published g c
+  unfolding published
+  same-content s =
+      let date = same-date h g (s .year) (s .month) (s .day) in
+      let slots = same-slots (same-count h g (s .interval) (s .days)) (s .slots) in
+      let all = ext-getD noSpan (spans h b) (spans g c) (s .spanCount) (s .eachSpan) in
+      λ t. record { first = date t; days = s .days t; interval = s .interval t; slots = slots t; spans = all t }
+
+  -- the first day's number names one date
+  date-found : headOk h ≡ true → headOk g ≡ true → firstDay h ≡ firstDay g → (h .year ≡ g .year) × (h .month ≡ g .month) × (h .day ≡ g .day)
+  unfolding headOk firstDay
+  date-found p q e =
+      one-date (h .year) (h .month) (h .day) (g .year) (g .month) (g .day)
+      (passed (dayTests h) (passed (headTests h) p 1) 0) (passed (dayTests g) (passed (headTests g) q 1) 0) e
+
+  same-outcomes : headOk h ≡ true → headOk g ≡ true → published h b ≡ published g c → SameOutcomes h g b c
+  unfolding published
+  same-outcomes p q e =
+      let first : firstDay h ≡ firstDay g = ap (λ (f : Content). f .first) e in
+      let days : h .days ≡ g .days = ap (λ (f : Content). f .days) e in
+      let interval : h .interval ≡ g .interval = ap (λ (f : Content). f .interval) e in
+      let slots : outcomes h b ≡ outcomes g c = ap (λ (f : Content). f .slots) e in
+      let all : spans h b ≡ spans g c = ap (λ (f : Content). f .spans) e in
+      let n : slotCount h ≡ slotCount g = same-count h g interval days in
+      let date = date-found p q first in
+      record {
+        year = date .0;
+        month = date .1;
+        day = date .2;
+        days = days;
+        interval = interval;
+        slots = λ i l. sym (slot-of h b i l) ∙ ap (λ (os : List Outcome). getD os i noSlot) slots ∙ slot-of g c i (omega arith);
+        spanCount = ap length all;
+        eachSpan = λ j l. ap (λ (ss : List Span). getD ss j noSpan) all;
+      }
+
+pub claim : (h g : Head) (cs ds : List Call) → headOk h ≡ true → headOk g ≡ true → Claim h g cs ds
+claim h g cs ds p q =
+    let same = files-equal h g (plainOf h cs) (plainOf g ds) p q in
+    record {
+      answers-plain = answers-agree h cs;
+      publish-answers = answered h p cs;
+      publish-writes = wrote h p cs;
+      equal-exactly = (
+        λ e. same-outcomes h g (plainOf h cs) (plainOf g ds) p q (same .0 e),
+        λ s. same .1 (same-content h g (plainOf h cs) (plainOf g ds) s),
+      );
+      order-free = λ sub sup. ap (λ (b : Cells). fileOf (published h b)) (order-does-not-matter h cs ds sub sup);
+    }

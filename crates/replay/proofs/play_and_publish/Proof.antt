@@ -1,0 +1,72 @@
+use mathlib.Core.Path.{_≡_, sym, ap, _∙_}
+use Rattle.rules.specs.Opening.{Cells}
+use Rattle.file.specs.Publishing.{publishAnswer, publishAfter}
+use Rattle.replay.specs.Inner.Playing.{publishedMeant}
+use borrow.Author.Needs.{needs}
+use Rattle.replay.proofs.play_and_publish.Statement.{statement}
+use Rattle.replay.proofs.play_and_publish.Tie as tie
+use Rattle.replay.proofs.play_and_publish.Reads as reads
+use Rattle.replay.proofs.play_and_publish.Lts as lts
+use Rattle.file.proofs.publish.publish.Reads as publish-reads
+use Rattle.replay.proofs.playing.play_all.Reads as play-all-reads
+use Rattle.replay.proofs.told.Reads as told-reads
+
+play-all-requires : tie.Need-play-all-requires
+play-all-requires c κs = search needs
+
+publish-requires : tie.Need-publish-requires
+publish-requires c κs = search needs
+
+told-requires : tie.Need-told-requires
+told-requires c κs = search needs
+
+same-length : tie.Need-same-length
+same-length c = search needs
+
+same-length-2 : tie.Need-same-length-2
+same-length-2 c = search needs
+
+same-length-3 : tie.Need-same-length-3
+same-length-3 c = search needs
+
+same-length-4 : tie.Need-same-length-4
+same-length-4 c = search needs
+
+same-length-5 : tie.Need-same-length-5
+same-length-5 c = search needs
+
+same-length-6 : tie.Need-same-length-6
+same-length-6 c = search needs
+
+same-length-7 : tie.Need-same-length-7
+same-length-7 c = search needs
+
+same-length-8 : tie.Need-same-length-8
+same-length-8 c = search needs
+
+returns : tie.Need-returns
+returns c =
+    let a = c .before .before .before .before .before .before .before .before .before .before .before .before .before .before .before .before .before .before .before .before .before .before .before .before .before .before .before .before .before .before .before .before .before .before .before .before .before .before .before .before .before .before .args in
+    let same = c .before .before .before .before .before .before .before .before .before .before .before .before .before .before .before .before .before .before .before .before .before .before .before .before .before .play-all .ensures .1 in (
+      c .told .ensures ∙ ap publishedMeant (c .before .before .before .publish .ensures .0 ∙ ap (λ (b : Cells). publishAnswer (a .head) b (a .out .now)) same),
+      c .before .before .before .before .before .before .before .before .before .before .before .before .before .before .before .before .before .before .before .before .before .before .before .before .before .play-all .ensures .0,
+      same,
+      c .before .before .before .publish .ensures .1 ∙ ap (λ (b : Cells). publishAfter (a .head) b (a .out .now)) same,
+    )
+
+pub play-and-publish-spec : {M : Type 1} → statement M
+play-and-publish-spec =
+    tie.close
+    (tie.spec
+    play-all-requires
+    publish-requires
+    told-requires
+    same-length
+    same-length-2
+    same-length-3
+    same-length-4
+    same-length-5
+    same-length-6
+    same-length-7
+    same-length-8
+    returns)

@@ -1,0 +1,99 @@
+use borrow.Author.Needs.{needs}
+use mathlib.Core.Path.{_≡_, refl}
+use Prim.Native.Nat.{_-_}
+use native.Mathlib.Omega.{arith}
+use lib.ListN.{length}
+use Rattle.rules.specs.Inner.Lent.{slots, cells}
+use Rattle.replay.proofs.Walk.{Walked, walk-first, walk-call, walk-next, walk-last}
+use Rattle.replay.proofs.playing.play_all.Statement.{statement}
+use Rattle.replay.proofs.playing.play_all.Tie as tie
+use Rattle.replay.proofs.playing.play_all.Reads as reads
+use Rattle.replay.proofs.playing.play_all.Lts as lts
+use Rattle.replay.proofs.packing.packed_at.Reads as packed-at-reads
+use Rattle.replay.proofs.playing.play.Reads as play-reads
+
+abbrev Inv-loop : tie.InvT-loop
+Inv-loop head calls answers₀ values₀ versions₀ statuses₀ holidays₀ readings₀ reads₀ i₀ answers values versions statuses holidays readings reads i =
+    Walked head calls (cells (slots values₀ versions₀ statuses₀) holidays₀ readings₀ reads₀) answers (cells (slots values versions statuses) holidays readings reads) i
+    × (length answers ≡ length answers₀)
+    × (length values ≡ length values₀)
+    × (length versions ≡ length versions₀)
+    × (length statuses ≡ length statuses₀)
+    × (length holidays ≡ length holidays₀)
+    × (length readings ≡ length readings₀)
+    × (length reads ≡ length reads₀)
+
+abbrev μ-loop : tie.MeasureT-loop
+μ-loop head calls answers₀ values₀ versions₀ statuses₀ holidays₀ readings₀ reads₀ i₀ answers values versions statuses holidays readings reads i =
+    length answers₀ - i
+
+loop-holds : tie.Need-loop-holds Inv-loop μ-loop
+loop-holds c = (walk-first _ _ _ _ ((c .before .before .before .before .before .before .before .before) .pre .0), refl, refl, refl, refl, refl, refl, refl)
+
+mul-packed-at : tie.Need-mul-packed-at Inv-loop μ-loop
+mul-packed-at c = omega arith
+
+packed-at-requires : tie.Need-packed-at-requires Inv-loop μ-loop
+packed-at-requires c κs = omega arith
+
+play-requires : tie.Need-play-requires Inv-loop μ-loop
+play-requires c κs = walk-call _ _ _ _ _ _ (c .before .before .before .before .before .before .before .before .loop .inv .0) (c .before .before .before .before .before .before .packed-at .result) (c .before .before .before .before .before .before .packed-at .ensures)
+
+slice-write-answers : tie.Need-slice-write-answers Inv-loop μ-loop
+slice-write-answers c = omega arith
+
+add-i : tie.Need-add-i Inv-loop μ-loop
+add-i c = let g = c .before .before .before .before .before .before .before .before .before .before .before .before .before .before .before .before .before .before .before .before .before .before .before .before .before .before .before .before .before .before .good in omega (arith, c .before .before .before .before .before .before .before .before .before .before .before .before .before .before .before .before .before .before .before .before .before .loop .inv .1, c .before .before .before .before .before .before .before .before .before .before .before .before .before .before .before .before .before .before .before .before .loop-test .taken)
+
+loop-less : tie.Need-loop-less Inv-loop μ-loop
+loop-less c = omega (arith, c .before .before .before .before .before .before .before .before .before .before .before .before .before .before .before .before .before .before .before .before .before .loop .inv .1, c .before .before .before .before .before .before .before .before .before .before .before .before .before .before .before .before .before .before .before .before .loop-test .taken)
+
+loop-again : tie.Need-loop-again Inv-loop μ-loop
+loop-again c = (walk-next _ _ _ _ _ _ (c .before .before .before .before .before .before .before .before .before .before .before .before .before .before .before .before .before .before .before .before .before .loop .inv .0) (c .before .before .before .before .before .before .before .before .before .before .before .before .before .before .before .before .before .before .before .packed-at .result) (c .before .before .before .before .before .before .before .before .before .before .before .before .before .before .before .before .before .before .before .packed-at .ensures) (c .before .before .before .before .before .before .before .before .before .before .before .before .play .result) _ (c .before .before .before .before .before .before .before .before .before .before .before .before .before .before .before .before .before .before .before .before .loop-test .taken) (c .before .before .before .before .before .before .before .before .before .before .before .before .play .ensures .0) (c .before .before .before .before .before .before .before .before .before .before .before .before .play .ensures .1), search needs, search needs, search needs, search needs, search needs, search needs, search needs)
+
+same-length : tie.Need-same-length Inv-loop μ-loop
+same-length c = search needs
+
+same-length-2 : tie.Need-same-length-2 Inv-loop μ-loop
+same-length-2 c = search needs
+
+same-length-3 : tie.Need-same-length-3 Inv-loop μ-loop
+same-length-3 c = search needs
+
+same-length-4 : tie.Need-same-length-4 Inv-loop μ-loop
+same-length-4 c = search needs
+
+same-length-5 : tie.Need-same-length-5 Inv-loop μ-loop
+same-length-5 c = search needs
+
+same-length-6 : tie.Need-same-length-6 Inv-loop μ-loop
+same-length-6 c = search needs
+
+same-length-7 : tie.Need-same-length-7 Inv-loop μ-loop
+same-length-7 c = search needs
+
+returns : tie.Need-returns Inv-loop μ-loop
+returns c = walk-last _ _ _ _ _ _ (c .before .loop .inv .0) (omega arith) (omega arith)
+
+pub play-all-spec : {M : Type 1} → statement M
+play-all-spec =
+    tie.close
+    (tie.spec
+    Inv-loop
+    μ-loop
+    loop-holds
+    mul-packed-at
+    packed-at-requires
+    play-requires
+    slice-write-answers
+    add-i
+    loop-less
+    loop-again
+    same-length
+    same-length-2
+    same-length-3
+    same-length-4
+    same-length-5
+    same-length-6
+    same-length-7
+    returns)

@@ -1,0 +1,2 @@
+-- What inner functions say. No definition of the claim stands here.
+pub mod Playing

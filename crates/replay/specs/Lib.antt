@@ -1,0 +1,4 @@
+pub mod Claim
+pub mod Packing
+pub mod Replaying
+pub mod Inner

@@ -1,0 +1,69 @@
+-- What a whole list of calls answers and leaves, in terms of the plain book (01, The plain book).
+use mathlib.Core.Bool.{Bool, not, cond, _&&_}
+use mathlib.Core.List.{List, [], _∷_, _++_, map}
+use Prim.Native.Nat.{ℕ, _/_}
+use lib.Dec.{ltb, eqb}
+use lib.ListN.{length, drop}
+use Rattle.rules.specs.declared.Head.{Head}
+use Rattle.rules.specs.Lists.{every}
+use Rattle.rules.specs.Opening.{Cells, headOk}
+use Rattle.book.specs.Answers.{Answer, Rule}
+use Rattle.book.specs.Answers.Answer.{done, stored, late, repeat, refused}
+use Rattle.book.specs.Answers.Rule.{rule}
+use Rattle.book.specs.Cells.{cellsFit}
+use Rattle.book.specs.Plain.{plainAnswers, keptOf, bookOf}
+use Rattle.file.specs.Layout.{fileOf}
+use Rattle.file.specs.Publishing.{published, fileLength}
+use Rattle.replay.specs.declared.Replayed.{Replayed}
+use Rattle.replay.specs.declared.Replayed.the-variants.{Malformed, Refused, Length}
+use Rattle.replay.specs.Packing.{packedOk, unpack}
+
+-- a call's answer as a byte; a filling call never answers done
+abbrev pub answerByte : Answer → ℕ
+answerByte done = 0
+answerByte stored = 0
+answerByte late = 100
+answerByte repeat = 101
+answerByte (refused n) = n
+
+-- a good packing, and a byte for each answer
+unfoldable pub packingOk : List ℕ → List ℕ → Bool
+packingOk calls answers = packedOk calls && eqb (length answers) (length calls / 5)
+
+-- the cells that the plain book has at the end
+unfoldable pub plainBook : Head → List ℕ → Cells
+plainBook h calls = bookOf h (keptOf h [] (unpack calls))
+
+-- the calls are made: the packing is good and opening is done
+unfoldable pub isPlayed : Head → List ℕ → List ℕ → Cells → Bool
+isPlayed h calls answers b = every (packingOk calls answers ∷ headOk h ∷ cellsFit h b ∷ [])
+
+-- the first broken rule's number, or the length
+abbrev pub lengthUnless : List Rule → ℕ → Replayed
+lengthUnless [] n = Length n
+lengthUnless (rule k broken ∷ rules) n = cond broken (Refused k) (lengthUnless rules n)
+
+-- opening refuses with 1 and 2; publishing, which comes last, for a short buffer only
+unfoldable pub replayAnswer : Head → List ℕ → List ℕ → Cells → List ℕ → Replayed
+replayAnswer h calls answers b out =
+    cond (packingOk calls answers)
+    (lengthUnless
+    (rule 1 (not (headOk h)) ∷ rule 2 (not (cellsFit h b))
+    ∷ rule 7 (ltb (length out) (fileLength h (plainBook h calls))) ∷ [])
+    (fileLength h (plainBook h calls)))
+    Malformed
+
+-- the lent lists afterwards: where no call is made they stay
+unfoldable pub answersAfter : Head → List ℕ → List ℕ → Cells → List ℕ
+answersAfter h calls answers b =
+    cond (isPlayed h calls answers b) (map answerByte (plainAnswers h [] (unpack calls))) answers
+
+unfoldable pub cellsAfter : Head → List ℕ → List ℕ → Cells → Cells
+cellsAfter h calls answers b = cond (isPlayed h calls answers b) (plainBook h calls) b
+
+-- the file stands in the first bytes; bytes after it, and all where there is no room, stay
+unfoldable pub outAfter : Head → List ℕ → List ℕ → Cells → List ℕ → List ℕ
+outAfter h calls answers b out =
+    cond (isPlayed h calls answers b && not (ltb (length out) (fileLength h (plainBook h calls))))
+    (fileOf (published h (plainBook h calls)) ++ drop (fileLength h (plainBook h calls)) out)
+    out

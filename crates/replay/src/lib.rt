@@ -1,0 +1,133 @@
+// A whole list of calls in one call: opening, the filling calls in order, publishing (01, The plain book).
+pub mod packing;
+mod playing;
+
+use book::Opened;
+use file::publish;
+use file::publish::Published;
+use rules::Head;
+ghost use mathlib.Core.Bool.{true};
+ghost use mathlib.Core.List.{map};
+ghost use mathlib.Core.Path.{_≡_};
+ghost use Prim.Native.Nat.{_*_};
+ghost use lib.ListN.{length};
+ghost use Rattle.rules.specs.Inner.Lent.{lentCells};
+ghost use Rattle.book.specs.Filling.{answers as answersOf, afterAll};
+ghost use Rattle.file.specs.Publishing.{publishAnswer, publishAfter};
+ghost use Rattle.replay.specs.Packing.{packedOk, unpack};
+ghost use Rattle.replay.specs.Replaying.{answerByte, replayAnswer, answersAfter, cellsAfter, outAfter};
+ghost use Rattle.replay.specs.Inner.Playing.{publishedMeant};
+
+// Malformed is a bad packing; Refused is opening's number, or 7; Length is the file's.
+pub enum Replayed {
+    Malformed,
+    Refused(u8),
+    Length(usize),
+}
+
+fn told(published: Published) -> Replayed
+    ensures { λ r. ⌜ r ≡ publishedMeant published ⌝ }
+{
+    match published {
+        Published::Length(n) => Replayed::Length(n),
+        Published::Refused(n) => Replayed::Refused(n),
+    }
+}
+
+// The calls into an open book, then publishing.
+fn play_and_publish(
+    head: Head,
+    calls: &[u32],
+    answers: &mut [u8],
+    values: &mut [u32],
+    versions: &mut [u32],
+    statuses: &mut [u8],
+    holidays: &mut [u8],
+    readings: &mut [u32],
+    reads: &mut [u32],
+    out: &mut [u8],
+) -> Replayed
+    requires { ⌜ (packedOk (now calls) ≡ true) × (length (now calls) ≡ 5 * length (now answers)) ⌝ }
+    ensures { λ r. ⌜
+        (let cells =
+        lentCells (values .entry) (versions .entry) (statuses .entry) (holidays .entry) (readings .entry) (reads .entry) in
+        let after = afterAll head cells (unpack (now (calls .entry))) in
+        (r ≡ publishedMeant (publishAnswer head after (now (out .entry))))
+        × (now (answers .exit) ≡ map answerByte (answersOf head cells (unpack (now (calls .entry)))))
+        × (lentCells (values .exit) (versions .exit) (statuses .exit) (holidays .exit) (readings .exit) (reads .exit) ≡ after)
+        × (now (out .exit) ≡ publishAfter head after (now (out .entry))))
+        ⌝ }
+{
+    playing::play_all(
+        head,
+        calls,
+        answers,
+        values,
+        versions,
+        statuses,
+        holidays,
+        readings,
+        reads,
+    );
+    told(publish::publish(
+        head,
+        values,
+        versions,
+        statuses,
+        holidays,
+        readings,
+        reads,
+        out,
+    ))
+}
+
+pub fn replay(
+    head: Head,
+    calls: &[u32],
+    answers: &mut [u8],
+    values: &mut [u32],
+    versions: &mut [u32],
+    statuses: &mut [u8],
+    holidays: &mut [u8],
+    readings: &mut [u32],
+    reads: &mut [u32],
+    out: &mut [u8],
+) -> Replayed
+    ensures { λ r. ⌜
+        (let cells =
+        lentCells (values .entry) (versions .entry) (statuses .entry) (holidays .entry) (readings .entry) (reads .entry) in
+        let after = cellsAfter head (now (calls .entry)) (now (answers .entry)) cells in
+        (r ≡ replayAnswer head (now (calls .entry)) (now (answers .entry)) cells (now (out .entry)))
+        × (now (answers .exit) ≡ answersAfter head (now (calls .entry)) (now (answers .entry)) cells)
+        × (now (values .exit) ≡ after .slots .values)
+        × (now (versions .exit) ≡ after .slots .versions)
+        × (now (statuses .exit) ≡ after .slots .statuses)
+        × (now (holidays .exit) ≡ after .holidays)
+        × (now (readings .exit) ≡ after .readings)
+        × (now (reads .exit) ≡ after .readVersions)
+        × (now (out .exit) ≡ outAfter head (now (calls .entry)) (now (answers .entry)) cells (now (out .entry))))
+        ⌝ }
+{
+    if !packing::packed_ok(calls) {
+        return Replayed::Malformed;
+    }
+    if answers.len() != calls.len() / 5 {
+        return Replayed::Malformed;
+    }
+    let opened = book::open(head, values, versions, statuses, holidays, readings, reads);
+    match opened {
+        Opened::Done => play_and_publish(
+            head,
+            calls,
+            answers,
+            values,
+            versions,
+            statuses,
+            holidays,
+            readings,
+            reads,
+            out,
+        ),
+        Opened::Refused(n) => Replayed::Refused(n),
+    }
+}

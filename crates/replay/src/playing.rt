@@ -1,0 +1,109 @@
+// The packed calls made in order, each given the lists as the call before left them.
+use crate::packing;
+use crate::packing::Packed;
+use book::Filed;
+use rules::Head;
+ghost use mathlib.Core.Bool.{true};
+ghost use mathlib.Core.List.{map};
+ghost use mathlib.Core.Path.{_≡_};
+ghost use Prim.Native.Nat.{_*_};
+ghost use lib.ListN.{length};
+ghost use Rattle.rules.specs.Inner.Lent.{lentCells};
+ghost use Rattle.book.specs.Answers.{filedMeant};
+ghost use Rattle.book.specs.Filling.{answer, after, answers as answersOf, afterAll};
+ghost use Rattle.replay.specs.Packing.{callOk, callOf, packedOk, unpack};
+ghost use Rattle.replay.specs.Replaying.{answerByte};
+
+fn byte_of(filed: Filed) -> u8
+    ensures { λ r. ⌜ r ≡ answerByte (filedMeant filed) ⌝ }
+{
+    match filed {
+        Filed::Stored => 0,
+        Filed::Late => 100,
+        Filed::Repeat => 101,
+        Filed::Refused(n) => n,
+    }
+}
+
+fn play(
+    head: Head,
+    values: &mut [u32],
+    versions: &mut [u32],
+    statuses: &mut [u8],
+    holidays: &mut [u8],
+    readings: &mut [u32],
+    reads: &mut [u32],
+    call: Packed,
+) -> u8
+    requires { ⌜ callOk call ≡ true ⌝ }
+    ensures { λ r. ⌜
+        (let cells =
+        lentCells (values .entry) (versions .entry) (statuses .entry) (holidays .entry) (readings .entry) (reads .entry) in
+        (r ≡ answerByte (answer head cells (callOf call)))
+        × (lentCells (values .exit) (versions .exit) (statuses .exit) (holidays .exit) (readings .exit) (reads .exit)
+        ≡ after head cells (callOf call)))
+        ⌝ }
+{
+    if call.kind == 1 {
+        let status = call.status as u8;
+        return byte_of(book::deliver(
+            head,
+            values,
+            versions,
+            statuses,
+            call.place,
+            call.version,
+            call.content,
+            status,
+        ));
+    }
+    if call.kind == 2 {
+        return byte_of(book::holiday(head, holidays, call.place));
+    }
+    byte_of(book::register(
+        head,
+        readings,
+        reads,
+        call.place,
+        call.version,
+        call.content,
+    ))
+}
+
+// Every call in order, each answer a byte of `answers`.
+pub fn play_all(
+    head: Head,
+    calls: &[u32],
+    answers: &mut [u8],
+    values: &mut [u32],
+    versions: &mut [u32],
+    statuses: &mut [u8],
+    holidays: &mut [u8],
+    readings: &mut [u32],
+    reads: &mut [u32],
+)
+    requires { ⌜ (packedOk (now calls) ≡ true) × (length (now calls) ≡ 5 * length (now answers)) ⌝ }
+    ensures { λ _. ⌜
+        (let cells =
+        lentCells (values .entry) (versions .entry) (statuses .entry) (holidays .entry) (readings .entry) (reads .entry) in
+        (now (answers .exit) ≡ map answerByte (answersOf head cells (unpack (now (calls .entry)))))
+        × (lentCells (values .exit) (versions .exit) (statuses .exit) (holidays .exit) (readings .exit) (reads .exit)
+        ≡ afterAll head cells (unpack (now (calls .entry)))))
+        ⌝ }
+{
+    let mut i = 0;
+    while i < answers.len() {
+        let call = packing::packed_at(calls, 5 * i);
+        answers[i] = play(
+            head,
+            values,
+            versions,
+            statuses,
+            holidays,
+            readings,
+            reads,
+            call,
+        );
+        i += 1;
+    }
+}
