@@ -27,6 +27,14 @@ filedMeant filed.Late = late
 filedMeant filed.Repeat = repeat
 filedMeant (filed.Refused n) = refused n
 
+-- an answer as one number: 1 to 11 are 01's refusals, so 0, 100 and 101 are free
+abbrev pub answerCode : Answer → ℕ
+answerCode done = 0
+answerCode stored = 0
+answerCode late = 100
+answerCode repeat = 101
+answerCode (refused n) = n
+
 -- "Stored, late and repeat are the accepted calls."
 abbrev pub isAccepted : Answer → Bool
 isAccepted done = false

@@ -1,7 +1,7 @@
 -- One packed call: what the call of its kind answers and leaves is what `answer` and `after` say of it.
 use mathlib.Core.Bool.{true}
 use mathlib.Core.List.{List}
-use mathlib.Core.Path.{_≡_, refl, ap, _∙_}
+use mathlib.Core.Path.{_≡_, ap, _∙_}
 use Prim.Native.Nat.{ℕ, _≤_}
 use borrow.Author.Tests.{eq-eqb, ne-eqb, leb-true}
 use Rattle.rules.specs.declared.Head.{Head}
@@ -12,40 +12,52 @@ use Rattle.book.specs.Cells.{readsOf}
 use Rattle.book.specs.Filling.{deliverAnswer, deliverAfter, holidayAnswer, holidayAfter, registerAnswer, registerAfter, answer, after}
 use Rattle.replay.specs.declared.packing.Packed.{Packed}
 use Rattle.replay.specs.Packing.{callOk, callOf}
-use Rattle.replay.specs.Replaying.{answerByte}
+use Rattle.book.specs.Answers.{answerCode}
 
 pub status-fits : (p : Packed) → p .kind ≡ 1 → callOk p ≡ true → p .status ≤ 255
 unfolding callOk
 status-fits p k ok = leb-true _ _ (rw (eq-eqb _ _ k) at ok)
 
-module _ (h : Head) (b : Cells) (p : Packed) (r : ℕ) (a : Answer) (byte : r ≡ answerByte a) where
+module _ (h : Head) (b : Cells) (p : Packed) (r : ℕ) (a : Answer) (byte : r ≡ answerCode a) where
   pub delivered : (values versions statuses : List ℕ) → p .kind ≡ 1
       → a ≡ deliverAnswer h (b .slots) (p .place) (p .version) (p .content) (p .status)
       → slots values versions statuses ≡ deliverAfter h (b .slots) (p .place) (p .version) (p .content) (p .status)
-      → (r ≡ answerByte (answer h b (callOf p)))
+      → (r ≡ answerCode (answer h b (callOf p)))
       × (cells (slots values versions statuses) (b .holidays) (b .readings) (b .readVersions) ≡ after h b (callOf p))
   unfolding callOf answer after
   delivered values versions statuses k e s =
       rw (eq-eqb _ _ k)
-      (byte ∙ ap answerByte e, λ t. record { slots = s t; holidays = b .holidays; readings = b .readings; readVersions = b .readVersions })
+      (byte ∙ ap answerCode e, λ t. record { slots = s t; holidays = b .holidays; readings = b .readings; readVersions = b .readVersions })
 
   pub named : (holidays : List ℕ) → (p .kind ≡ 1 → ⊥) → p .kind ≡ 2
       → a ≡ holidayAnswer h (b .holidays) (p .place)
       → holidays ≡ holidayAfter h (b .holidays) (p .place)
-      → (r ≡ answerByte (answer h b (callOf p)))
+      → (r ≡ answerCode (answer h b (callOf p)))
       × (cells (b .slots) holidays (b .readings) (b .readVersions) ≡ after h b (callOf p))
   unfolding callOf answer after
   named holidays n k e s =
       rw (ne-eqb _ _ n, eq-eqb _ _ k)
-      (byte ∙ ap answerByte e, λ t. record { slots = b .slots; holidays = s t; readings = b .readings; readVersions = b .readVersions })
+      (byte ∙ ap answerCode e, λ t. record { slots = b .slots; holidays = s t; readings = b .readings; readVersions = b .readVersions })
 
   pub registered : (readings reads : List ℕ) → (p .kind ≡ 1 → ⊥) → (p .kind ≡ 2 → ⊥)
       → a ≡ registerAnswer h (readsOf b) (p .place) (p .version) (p .content)
       → readings ≡ registerAfter h (readsOf b) (p .place) (p .version) (p .content) .readings
       → reads ≡ registerAfter h (readsOf b) (p .place) (p .version) (p .content) .readVersions
-      → (r ≡ answerByte (answer h b (callOf p)))
+      → (r ≡ answerCode (answer h b (callOf p)))
       × (cells (b .slots) (b .holidays) readings reads ≡ after h b (callOf p))
   unfolding callOf answer after
   registered readings reads n m e s u =
       rw (ne-eqb _ _ n, ne-eqb _ _ m)
-      (byte ∙ ap answerByte e, λ t. record { slots = b .slots; holidays = b .holidays; readings = s t; readVersions = u t })
+      (byte ∙ ap answerCode e, λ t. record { slots = b .slots; holidays = b .holidays; readings = s t; readVersions = u t })
+
+-- cells are equal where their six lists are
+pub same-cells : {b b' : Cells} → b .slots .values ≡ b' .slots .values → b .slots .versions ≡ b' .slots .versions
+    → b .slots .statuses ≡ b' .slots .statuses → b .holidays ≡ b' .holidays → b .readings ≡ b' .readings
+    → b .readVersions ≡ b' .readVersions → b ≡ b'
+same-cells values versions statuses holidays readings reads =
+    λ t. record {
+      slots = record { values = values t; versions = versions t; statuses = statuses t };
+      holidays = holidays t;
+      readings = readings t;
+      readVersions = reads t;
+    }

@@ -1,7 +1,7 @@
 -- What the calls answer and leave one after another is what the plain book says of the whole list.
-use mathlib.Core.Bool.{Bool, true, false, not, cond, _&&_}
+use mathlib.Core.Bool.{Bool, true, false, not, cond}
 use mathlib.Core.List.{List, [], _∷_, _++_, map}
-use mathlib.Core.Path.{_≡_, refl, sym, ap, _∙_}
+use mathlib.Core.Path.{_≡_, refl, ap, _∙_}
 use Prim.Native.Nat.{ℕ, _/_}
 use native.Mathlib.Omega.{arith}
 use lib.Dec.{ltb}
@@ -10,11 +10,11 @@ use borrow.Author.Tests.{eq-eqb, ne-eqb}
 use Rattle.rules.specs.declared.Head.{Head}
 use Rattle.rules.specs.Opening.{Cells, headOk}
 use Rattle.rules.specs.Lists.{every}
-use Rattle.book.specs.Answers.{Rule, unless}
+use Rattle.book.specs.Answers.{Answer, Rule, unless}
 use Rattle.book.specs.Answers.Answer.{done, refused}
 use Rattle.book.specs.Answers.Rule.{rule}
 use Rattle.book.specs.Cells.{cellsFit, cellsOk}
-use Rattle.book.specs.Opening.{opened, openAnswer, openAfter}
+use Rattle.book.specs.Opening.{openAnswer, openedIn, openAfter}
 use Rattle.book.specs.Filling.{answers as answersOf, afterAll}
 use Rattle.book.proofs.Agreement.{answers-agree, cells-agree}
 use Rattle.book.proofs.Soundness.{cells-sound}
@@ -24,7 +24,8 @@ use Rattle.file.specs.Publishing.{published as publishedOf, fileLength, bytesAf
 use Rattle.replay.specs.declared.Replayed.{Replayed}
 use Rattle.replay.specs.declared.Replayed.the-variants.{Malformed, Refused, Length}
 use Rattle.replay.specs.Packing.{packedOk, unpack}
-use Rattle.replay.specs.Replaying.{answerByte, packingOk, plainBook, isPlayed, lengthUnless, replayAnswer, answersAfter, cellsAfter, outAfter}
+use Rattle.replay.specs.Replaying.{packingOk, plainBook, isPlayed, lengthUnless, replayAnswer, answersAfter, cellsAfter, outAfter}
+use Rattle.book.specs.Answers.{answerCode}
 use Rattle.replay.specs.Inner.Playing.{publishedMeant}
 
 -- opening is done exactly where neither rule is broken
@@ -76,15 +77,16 @@ unfolding packingOk
 good-packing calls answers e n = rw (e, eq-eqb _ _ n)
 
 -- what the contract says
-module _ (h : Head) (calls answers : List ℕ) (b : Cells) (out : List ℕ) where
-  pub record Meant (r : Replayed) (answers' : List ℕ) (b' : Cells) (out' : List ℕ) : Type 0 where
-    pub answer : r ≡ replayAnswer h calls answers b out
-    pub told : answers' ≡ answersAfter h calls answers b
-    pub cells : b' ≡ cellsAfter h calls answers b
-    pub bytes : out' ≡ outAfter h calls answers b out
+pub record Meant (h : Head) (calls answers : List ℕ) (b : Cells) (out : List ℕ) (r : Replayed) (answers' : List ℕ) (b' : Cells)
+    (out' : List ℕ) : Type 0 where
+  pub answer : r ≡ replayAnswer h calls answers b out
+  pub told : answers' ≡ answersAfter h calls answers b
+  pub cells : b' ≡ cellsAfter h calls answers b
+  pub bytes : out' ≡ outAfter h calls answers b out
 
+module _ {h : Head} {calls answers : List ℕ} {b : Cells} {out : List ℕ} where
   -- the six lists one by one, as the contract has them
-  pub each : {r : Replayed} {answers' : List ℕ} {b' : Cells} {out' : List ℕ} → Meant r answers' b' out'
+  pub each : {r : Replayed} {answers' : List ℕ} {b' : Cells} {out' : List ℕ} → Meant h calls answers b out r answers' b' out'
       → (let after = cellsAfter h calls answers b in
       (r ≡ replayAnswer h calls answers b out)
       × (answers' ≡ answersAfter h calls answers b)
@@ -108,27 +110,27 @@ module _ (h : Head) (calls answers : List ℕ) (b : Cells) (out : List ℕ) wher
         m .bytes,
       )
 
-  pub malformed : packingOk calls answers ≡ false → Meant Malformed answers b out
+  pub malformed : packingOk calls answers ≡ false → Meant h calls answers b out Malformed answers b out
   unfolding replayAnswer answersAfter cellsAfter outAfter isPlayed
   malformed e = record { answer = rw e; told = rw e; cells = rw e; bytes = rw e }
 
   module _ (good : packingOk calls answers ≡ true) where
-    pub refused-open : (n : ℕ) (o : Cells) → openAnswer h b ≡ refused n → o ≡ openAfter h b → Meant (Refused n) answers o out
+    pub refused-open : {n : ℕ} {o : Cells} → openAnswer h b ≡ refused n → o ≡ openAfter h b → Meant h calls answers b out (Refused n) answers o out
     unfolding openAnswer openAfter replayAnswer answersAfter cellsAfter outAfter isPlayed
-    refused-open n o e left =
+    refused-open {n} e left =
         let t = refused-tests (headOk h) (cellsFit h b) n (rule 7 (ltb (length out) (fileLength h (plainBook h calls))) ∷ []) (fileLength h (plainBook h calls)) e in
         record { answer = rw good (t .0); told = rw (good, t .1); cells = rw (good, t .1) (left ∙ rw e); bytes = rw (good, t .1) }
 
-    pub played : (r : Replayed) (answers' : List ℕ) (o b' : Cells) (out' : List ℕ) → openAnswer h b ≡ done → o ≡ openAfter h b
+    pub played : {r : Replayed} {answers' : List ℕ} {o b' : Cells} {out' : List ℕ} → openAnswer h b ≡ done → o ≡ openAfter h b
         → (r ≡ publishedMeant (publishAnswer h (afterAll h o (unpack calls)) out))
-        × (answers' ≡ map answerByte (answersOf h o (unpack calls)))
+        × (answers' ≡ map answerCode (answersOf h o (unpack calls)))
         × (b' ≡ afterAll h o (unpack calls))
         × (out' ≡ publishAfter h (afterAll h o (unpack calls)) out)
-        → Meant r answers' b' out'
+        → Meant h calls answers b out r answers' b' out'
     unfolding openAnswer openAfter plainBook replayAnswer answersAfter cellsAfter outAfter isPlayed
-    played r answers' o b' out' e first made =
+    played e first made =
         let t = done-tests (headOk h) (cellsFit h b) e in
-        let new : o ≡ opened h = first ∙ rw e in
+        let new = first ∙ ap (λ (a : Answer). openedIn a h b) e in
         let same = cells-agree h (unpack calls) in
         let sound = rw same at (cells-sound h (unpack calls)) in
         record {

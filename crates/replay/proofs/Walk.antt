@@ -1,5 +1,5 @@
 -- The walk over packed calls: before call i, what is still to come from the present cells completes what was told.
-use mathlib.Core.Bool.{true, _&&_}
+use mathlib.Core.Bool.{true}
 use mathlib.Core.List.{List, [], _∷_, _++_, map, append-assoc, append-nil}
 use mathlib.Core.Path.{_≡_, refl, sym, ap, _∙_}
 use Prim.Native.Nat.{ℕ, _+_, _*_, _<_, _≤_, zero-le}
@@ -13,13 +13,13 @@ use Rattle.rules.proofs.Logic.{and-parts}
 use Rattle.book.specs.Filling.{answer, after, answers as answersOf, afterAll}
 use Rattle.replay.specs.declared.packing.Packed.{Packed}
 use Rattle.replay.specs.Packing.{callOk, callOf, packedOk, unpack}
-use Rattle.replay.specs.Replaying.{answerByte}
+use Rattle.book.specs.Answers.{answerCode}
 
 pub record Walked (h : Head) (calls : List ℕ) (first : Cells) (answers : List ℕ) (b : Cells) (i : ℕ) : Type 0 where
   pub inside : i ≤ length answers
   pub good : packedOk (drop (5 * i) calls) ≡ true
-  pub told : take i answers ++ map answerByte (answersOf h b (unpack (drop (5 * i) calls)))
-      ≡ map answerByte (answersOf h first (unpack calls))
+  pub told : take i answers ++ map answerCode (answersOf h b (unpack (drop (5 * i) calls)))
+      ≡ map answerCode (answersOf h first (unpack calls))
   pub left : afterAll h b (unpack (drop (5 * i) calls)) ≡ afterAll h first (unpack calls)
 
 module _ (h : Head) (calls : List ℕ) (first : Cells) where
@@ -36,7 +36,7 @@ module _ (h : Head) (calls : List ℕ) (first : Cells) where
       pub walk-call : callOk p ≡ true
       walk-call = both .0
 
-      pub walk-next : (r : ℕ) (b' : Cells) → i < length answers → r ≡ answerByte (answer h b (callOf p)) → b' ≡ after h b (callOf p)
+      pub walk-next : (r : ℕ) (b' : Cells) → i < length answers → r ≡ answerCode (answer h b (callOf p)) → b' ≡ after h b (callOf p)
           → Walked h calls first (set answers i r) b' (i + 1)
       unfolding unpack answersOf afterAll
       walk-next r b' lt e f =
@@ -49,7 +49,7 @@ module _ (h : Head) (calls : List ℕ) (first : Cells) where
           }
 
     pub walk-last : length answers ≤ i → length calls ≡ 5 * length answers
-        → (answers ≡ map answerByte (answersOf h first (unpack calls))) × (b ≡ afterAll h first (unpack calls))
+        → (answers ≡ map answerCode (answersOf h first (unpack calls))) × (b ≡ afterAll h first (unpack calls))
     unfolding unpack answersOf afterAll
     walk-last over fits =
         let e : i ≡ length answers = omega (arith, w .inside) in

@@ -2,12 +2,15 @@
 use mathlib.Core.Bool.{true, false, false≢true}
 use mathlib.Core.List.{List, [], _∷_}
 use mathlib.Core.Path.{_≡_, refl, _∙_}
-use Prim.Native.Nat.{ℕ, suc, _+_, _*_, _/_, _<_, _≤_}
+use mathlib.Core.Logic.{⊎-elim}
+use Prim.Native.Nat.{ℕ, suc, _+_, _-_, _*_, _/_, _<_, _≤_}
 use native.Mathlib.Nat.{mul-div-cancel-left}
 use native.Mathlib.Omega.{arith}
-use lib.ListN.{length, drop, getD}
-use lib.Seq.{drop-cons}
-use Rattle.rules.proofs.Logic.{and-parts}
+use lib.Dec.{eqb}
+use lib.ListN.{length, drop, getD, length-drop}
+use lib.Seq.{drop-cons, drop-length}
+use borrow.Author.Tests.{eqb-true, eqb-false}
+use Rattle.rules.proofs.Logic.{and-parts, either}
 use Rattle.replay.specs.Packing.{callOk, packed, packedOk, unpack}
 
 next-word : (l : List ℕ) (k m : ℕ) → m ≡ suc k → k < length l → drop k l ≡ getD l k 0 ∷ drop m l
@@ -24,7 +27,7 @@ next-words l at h =
       next-word l (at + 4) (at + 5) (omega arith) (omega arith),
     )
 
-pub too-few : (l : List ℕ) → 0 < length l → length l < 5 → packedOk l ≡ false
+too-few : (l : List ℕ) → 0 < length l → length l < 5 → packedOk l ≡ false
 unfolding packedOk
 too-few [] some few = absurd (omega arith)
 too-few (a ∷ []) some few = refl
@@ -32,6 +35,18 @@ too-few (a ∷ b ∷ []) some few = refl
 too-few (a ∷ b ∷ c ∷ []) some few = refl
 too-few (a ∷ b ∷ c ∷ d ∷ []) some few = refl
 too-few (a ∷ b ∷ c ∷ d ∷ e ∷ l) some few = absurd (omega arith)
+
+-- with fewer than five words left, a packing is good where none is
+pub left-over : (l : List ℕ) (at : ℕ) → at ≤ length l → length l - at < 5 → packedOk (drop at l) ≡ eqb at (length l)
+unfolding packedOk
+left-over l at inside few =
+    ⊎-elim
+    (λ t. rw t (rw (eqb-true at (length l) t, drop-length)))
+    (λ t.
+    let n = eqb-false at (length l) t in
+    let d = length-drop at l in
+    rw t (too-few (drop at l) (omega arith) (omega arith)))
+    (either (eqb at (length l)))
 
 -- a good packing has five words for each of its calls
 five-each : (l : List ℕ) → packedOk l ≡ true → length l ≡ 5 * length (unpack l)

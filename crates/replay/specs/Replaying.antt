@@ -7,8 +7,7 @@ use lib.ListN.{length, drop}
 use Rattle.rules.specs.declared.Head.{Head}
 use Rattle.rules.specs.Lists.{every}
 use Rattle.rules.specs.Opening.{Cells, headOk}
-use Rattle.book.specs.Answers.{Answer, Rule}
-use Rattle.book.specs.Answers.Answer.{done, stored, late, repeat, refused}
+use Rattle.book.specs.Answers.{Rule, answerCode}
 use Rattle.book.specs.Answers.Rule.{rule}
 use Rattle.book.specs.Cells.{cellsFit}
 use Rattle.book.specs.Plain.{plainAnswers, keptOf, bookOf}
@@ -17,14 +16,6 @@ use Rattle.file.specs.Publishing.{published, fileLength}
 use Rattle.replay.specs.declared.Replayed.{Replayed}
 use Rattle.replay.specs.declared.Replayed.the-variants.{Malformed, Refused, Length}
 use Rattle.replay.specs.Packing.{packedOk, unpack}
-
--- a call's answer as a byte; a filling call never answers done
-abbrev pub answerByte : Answer → ℕ
-answerByte done = 0
-answerByte stored = 0
-answerByte late = 100
-answerByte repeat = 101
-answerByte (refused n) = n
 
 -- a good packing, and a byte for each answer
 unfoldable pub packingOk : List ℕ → List ℕ → Bool
@@ -56,7 +47,7 @@ replayAnswer h calls answers b out =
 -- the lent lists afterwards: where no call is made they stay
 unfoldable pub answersAfter : Head → List ℕ → List ℕ → Cells → List ℕ
 answersAfter h calls answers b =
-    cond (isPlayed h calls answers b) (map answerByte (plainAnswers h [] (unpack calls))) answers
+    cond (isPlayed h calls answers b) (map answerCode (plainAnswers h [] (unpack calls))) answers
 
 unfoldable pub cellsAfter : Head → List ℕ → List ℕ → Cells → Cells
 cellsAfter h calls answers b = cond (isPlayed h calls answers b) (plainBook h calls) b

@@ -15,7 +15,8 @@ ghost use Rattle.rules.specs.Inner.Lent.{lentCells};
 ghost use Rattle.book.specs.Filling.{answers as answersOf, afterAll};
 ghost use Rattle.file.specs.Publishing.{publishAnswer, publishAfter};
 ghost use Rattle.replay.specs.Packing.{packedOk, unpack};
-ghost use Rattle.replay.specs.Replaying.{answerByte, replayAnswer, answersAfter, cellsAfter, outAfter};
+ghost use Rattle.replay.specs.Replaying.{replayAnswer, answersAfter, cellsAfter, outAfter};
+ghost use Rattle.book.specs.Answers.{answerCode};
 ghost use Rattle.replay.specs.Inner.Playing.{publishedMeant};
 
 // Malformed is a bad packing; Refused is opening's number, or 7; Length is the file's.
@@ -53,7 +54,7 @@ fn play_and_publish(
         lentCells (values .entry) (versions .entry) (statuses .entry) (holidays .entry) (readings .entry) (reads .entry) in
         let after = afterAll head cells (unpack (now (calls .entry))) in
         (r ≡ publishedMeant (publishAnswer head after (now (out .entry))))
-        × (now (answers .exit) ≡ map answerByte (answersOf head cells (unpack (now (calls .entry)))))
+        × (now (answers .exit) ≡ map answerCode (answersOf head cells (unpack (now (calls .entry)))))
         × (lentCells (values .exit) (versions .exit) (statuses .exit) (holidays .exit) (readings .exit) (reads .exit) ≡ after)
         × (now (out .exit) ≡ publishAfter head after (now (out .entry))))
         ⌝ }

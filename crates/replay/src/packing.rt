@@ -52,14 +52,11 @@ pub fn packed_ok(calls: &[u32]) -> bool
     ensures { λ r. ⌜ r ≡ packedOk (now (calls .entry)) ⌝ }
 {
     let mut at = 0;
-    while at < calls.len() {
-        if calls.len() - at < 5 {
-            return false;
-        }
+    while 5 <= calls.len() - at {
         if !call_ok(packed_at(calls, at)) {
             return false;
         }
         at += 5;
     }
-    true
+    at == calls.len()
 }

@@ -12,10 +12,10 @@ ghost use Rattle.rules.specs.Inner.Lent.{lentCells};
 ghost use Rattle.book.specs.Answers.{filedMeant};
 ghost use Rattle.book.specs.Filling.{answer, after, answers as answersOf, afterAll};
 ghost use Rattle.replay.specs.Packing.{callOk, callOf, packedOk, unpack};
-ghost use Rattle.replay.specs.Replaying.{answerByte};
+ghost use Rattle.book.specs.Answers.{answerCode};
 
 fn byte_of(filed: Filed) -> u8
-    ensures { λ r. ⌜ r ≡ answerByte (filedMeant filed) ⌝ }
+    ensures { λ r. ⌜ r ≡ answerCode (filedMeant filed) ⌝ }
 {
     match filed {
         Filed::Stored => 0,
@@ -39,7 +39,7 @@ fn play(
     ensures { λ r. ⌜
         (let cells =
         lentCells (values .entry) (versions .entry) (statuses .entry) (holidays .entry) (readings .entry) (reads .entry) in
-        (r ≡ answerByte (answer head cells (callOf call)))
+        (r ≡ answerCode (answer head cells (callOf call)))
         × (lentCells (values .exit) (versions .exit) (statuses .exit) (holidays .exit) (readings .exit) (reads .exit)
         ≡ after head cells (callOf call)))
         ⌝ }
@@ -86,7 +86,7 @@ pub fn play_all(
     ensures { λ _. ⌜
         (let cells =
         lentCells (values .entry) (versions .entry) (statuses .entry) (holidays .entry) (readings .entry) (reads .entry) in
-        (now (answers .exit) ≡ map answerByte (answersOf head cells (unpack (now (calls .entry)))))
+        (now (answers .exit) ≡ map answerCode (answersOf head cells (unpack (now (calls .entry)))))
         × (lentCells (values .exit) (versions .exit) (statuses .exit) (holidays .exit) (readings .exit) (reads .exit)
         ≡ afterAll head cells (unpack (now (calls .entry)))))
         ⌝ }
@@ -94,7 +94,7 @@ pub fn play_all(
     let mut i = 0;
     while i < answers.len() {
         let call = packing::packed_at(calls, 5 * i);
-        answers[i] = play(
+        let byte = play(
             head,
             values,
             versions,
@@ -104,6 +104,7 @@ pub fn play_all(
             reads,
             call,
         );
+        answers[i] = byte;
         i += 1;
     }
 }

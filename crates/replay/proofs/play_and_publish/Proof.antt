@@ -1,15 +1,10 @@
-use mathlib.Core.Path.{_≡_, sym, ap, _∙_}
+use mathlib.Core.Path.{ap, _∙_}
 use Rattle.rules.specs.Opening.{Cells}
 use Rattle.file.specs.Publishing.{publishAnswer, publishAfter}
 use Rattle.replay.specs.Inner.Playing.{publishedMeant}
 use borrow.Author.Needs.{needs}
 use Rattle.replay.proofs.play_and_publish.Statement.{statement}
 use Rattle.replay.proofs.play_and_publish.Tie as tie
-use Rattle.replay.proofs.play_and_publish.Reads as reads
-use Rattle.replay.proofs.play_and_publish.Lts as lts
-use Rattle.file.proofs.publish.publish.Reads as publish-reads
-use Rattle.replay.proofs.playing.play_all.Reads as play-all-reads
-use Rattle.replay.proofs.told.Reads as told-reads
 
 play-all-requires : tie.Need-play-all-requires
 play-all-requires c κs = search needs

@@ -3,8 +3,6 @@ use Rattle.replay.specs.Inner.Playing.{publishedMeant}
 use borrow.Author.Needs.{needs}
 use Rattle.replay.proofs.told.Statement.{statement}
 use Rattle.replay.proofs.told.Tie as tie
-use Rattle.replay.proofs.told.Reads as reads
-use Rattle.replay.proofs.told.Lts as lts
 
 enum-known-published : tie.Need-enum-known-published
 enum-known-published c = search needs

@@ -1,10 +1,7 @@
-use borrow.Author.Needs.{needs}
 use borrow.Author.Tests.{eq-eqb, ne-eqb}
 use Rattle.replay.specs.Packing.{callOk}
 use Rattle.replay.proofs.packing.call_ok.Statement.{statement}
 use Rattle.replay.proofs.packing.call_ok.Tie as tie
-use Rattle.replay.proofs.packing.call_ok.Reads as reads
-use Rattle.replay.proofs.packing.call_ok.Lts as lts
 
 returns : tie.Need-returns
 unfolding callOk

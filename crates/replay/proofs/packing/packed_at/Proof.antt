@@ -2,8 +2,6 @@ use Rattle.replay.proofs.Words.{next-words}
 use borrow.Author.Needs.{needs}
 use Rattle.replay.proofs.packing.packed_at.Statement.{statement}
 use Rattle.replay.proofs.packing.packed_at.Tie as tie
-use Rattle.replay.proofs.packing.packed_at.Reads as reads
-use Rattle.replay.proofs.packing.packed_at.Lts as lts
 
 mul-t3 : tie.Need-mul-t3
 mul-t3 c = search needs

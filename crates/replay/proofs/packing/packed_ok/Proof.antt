@@ -1,13 +1,11 @@
-use lib.Seq.{drop-length}
 use borrow.Author.Needs.{needs}
-use mathlib.Core.Bool.{_&&_}
 use mathlib.Core.Path.{_≡_, refl, sym, ap, _∙_}
 use Prim.Native.Nat.{_≤_, _-_, zero-le}
 use native.Mathlib.Omega.{arith}
 use borrow.Author.Tests.{not-true, not-false}
-use lib.ListN.{length, drop, length-drop}
-use Rattle.replay.specs.Packing.{packedOk, callOk}
-use Rattle.replay.proofs.Words.{too-few}
+use lib.ListN.{length, drop}
+use Rattle.replay.specs.Packing.{packedOk}
+use Rattle.replay.proofs.Words.{left-over}
 use Rattle.replay.proofs.packing.packed_ok.Statement.{statement}
 use Rattle.replay.proofs.packing.packed_ok.Tie as tie
 use Rattle.replay.proofs.packing.packed_ok.Reads as reads
@@ -24,13 +22,8 @@ abbrev μ-loop : tie.MeasureT-loop
 loop-holds : tie.Need-loop-holds Inv-loop μ-loop
 loop-holds c = (zero-le, refl)
 
-sub-if1 : tie.Need-sub-if1 Inv-loop μ-loop
-sub-if1 c = omega arith
-
-returns : tie.Need-returns Inv-loop μ-loop
-returns c =
-    let l = length-drop (c .before .before .loop .at) (c .before .before .before .before .args .calls .now) in
-    sym (c .before .before .loop .inv .1 ∙ too-few (drop (c .before .before .loop .at) (c .before .before .before .before .args .calls .now)) (omega arith) (omega arith))
+sub-loop : tie.Need-sub-loop Inv-loop μ-loop
+sub-loop c = omega arith
 
 packed-at-requires : tie.Need-packed-at-requires Inv-loop μ-loop
 packed-at-requires c κs = omega arith
@@ -38,10 +31,9 @@ packed-at-requires c κs = omega arith
 call-ok-requires : tie.Need-call-ok-requires Inv-loop μ-loop
 call-ok-requires c κs = search needs
 
-returns-2 : tie.Need-returns-2 Inv-loop μ-loop
+returns : tie.Need-returns Inv-loop μ-loop
 unfolding packedOk
-returns-2 c =
-    sym (c .before .before .before .before .before .loop .inv .1 ∙ ap packedOk (c .before .before .packed-at .ensures) ∙ rw (sym (c .before .call-ok .ensures) ∙ not-true _ (c .if2 .taken)))
+returns c = sym (c .before .before .before .before .loop .inv .1 ∙ ap packedOk (c .before .before .packed-at .ensures) ∙ rw (sym (c .before .call-ok .ensures) ∙ not-true _ (c .if1 .taken)))
 
 add-at : tie.Need-add-at Inv-loop μ-loop
 add-at c = omega arith
@@ -51,14 +43,10 @@ loop-less c = omega arith
 
 loop-again : tie.Need-loop-again Inv-loop μ-loop
 unfolding packedOk
-loop-again c =
-    (omega arith, c .before .before .before .before .before .loop .inv .1 ∙ ap packedOk (c .before .before .packed-at .ensures) ∙ rw (sym (c .before .call-ok .ensures) ∙ not-false _ (c .if2 .left)))
+loop-again c = (omega arith, c .before .before .before .before .loop .inv .1 ∙ ap packedOk (c .before .before .packed-at .ensures) ∙ rw (sym (c .before .call-ok .ensures) ∙ not-false _ (c .if1 .left)))
 
-returns-3 : tie.Need-returns-3 Inv-loop μ-loop
-unfolding packedOk
-returns-3 c =
-    let e : c .before .loop .at ≡ length (c .before .before .before .args .calls .now) = omega arith in
-    sym (c .before .loop .inv .1 ∙ rw (e, drop-length))
+returns-2 : tie.Need-returns-2 Inv-loop μ-loop
+returns-2 c = sym (c .before .loop .inv .1 ∙ left-over (c .before .before .before .args .calls .now) (c .before .loop .at) (omega arith) (omega arith))
 
 pub packed-ok-spec : {M : Type 1} → statement M
 packed-ok-spec =
@@ -67,12 +55,11 @@ packed-ok-spec =
     Inv-loop
     μ-loop
     loop-holds
-    sub-if1
-    returns
+    sub-loop
     packed-at-requires
     call-ok-requires
-    returns-2
+    returns
     add-at
     loop-less
     loop-again
-    returns-3)
+    returns-2)

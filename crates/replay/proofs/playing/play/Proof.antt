@@ -1,4 +1,3 @@
-use mathlib.Core.Path.{_≡_}
 use native.Mathlib.Omega.{arith}
 use Rattle.rules.specs.Inner.Lent.{slots, cells}
 use Rattle.book.specs.Answers.{filedMeant}
@@ -6,12 +5,6 @@ use Rattle.replay.proofs.Calls.{status-fits, delivered, named, register
 use borrow.Author.Needs.{needs}
 use Rattle.replay.proofs.playing.play.Statement.{statement}
 use Rattle.replay.proofs.playing.play.Tie as tie
-use Rattle.replay.proofs.playing.play.Reads as reads
-use Rattle.replay.proofs.playing.play.Lts as lts
-use Rattle.book.proofs.deliver.Reads as deliver-reads
-use Rattle.book.proofs.holiday.Reads as holiday-reads
-use Rattle.book.proofs.register.Reads as register-reads
-use Rattle.replay.proofs.playing.byte_of.Reads as byte-of-reads
 
 cast-status : tie.Need-cast-status
 cast-status c = let s = status-fits (c .before .before .before .before .before .before .before .before .before .args .call) (c .before .if1 .taken) ((c .before .before .before .before .before .before .before .before .before) .pre) in omega arith

@@ -7,10 +7,6 @@ use Rattle.rules.specs.Inner.Lent.{slots, cells}
 use Rattle.replay.proofs.Walk.{Walked, walk-first, walk-call, walk-next, walk-last}
 use Rattle.replay.proofs.playing.play_all.Statement.{statement}
 use Rattle.replay.proofs.playing.play_all.Tie as tie
-use Rattle.replay.proofs.playing.play_all.Reads as reads
-use Rattle.replay.proofs.playing.play_all.Lts as lts
-use Rattle.replay.proofs.packing.packed_at.Reads as packed-at-reads
-use Rattle.replay.proofs.playing.play.Reads as play-reads
 
 abbrev Inv-loop : tie.InvT-loop
 Inv-loop head calls answers₀ values₀ versions₀ statuses₀ holidays₀ readings₀ reads₀ i₀ answers values versions statuses holidays readings reads i =

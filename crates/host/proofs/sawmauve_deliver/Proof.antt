@@ -1,0 +1,42 @@
+-- `sawmauve_deliver`: the answer of a delivery as its code, and the lists as the delivery leaves them.
+use mathlib.Core.Path.{ap, _∙_}
+use Rattle.book.specs.Answers.{answerCode}
+use borrow.Author.Needs.{needs}
+use Rattle.host.proofs.sawmauve_deliver.Statement.{statement}
+use Rattle.host.proofs.sawmauve_deliver.Tie as tie
+
+head-of-requires : tie.Need-head-of-requires
+head-of-requires c κs = search needs
+
+deliver-requires : tie.Need-deliver-requires
+deliver-requires c κs = search needs
+
+filed-code-requires : tie.Need-filed-code-requires
+filed-code-requires c κs = search needs
+
+same-length : tie.Need-same-length
+same-length c = search needs
+
+same-length-2 : tie.Need-same-length-2
+same-length-2 c = search needs
+
+same-length-3 : tie.Need-same-length-3
+same-length-3 c = search needs
+
+returns : tie.Need-returns
+returns c =
+    let o = c .before .before .before .before .before .before .before in
+    let h = rw (o .before .before .before .before .head-of .ensures) at (o .deliver .ensures) in
+    (c .filed-code .ensures ∙ ap answerCode (h .0), h .1, h .2, h .3)
+
+pub sawmauve-deliver-spec : {M : Type 1} → statement M
+sawmauve-deliver-spec =
+    tie.close
+    (tie.spec
+    head-of-requires
+    deliver-requires
+    filed-code-requires
+    same-length
+    same-length-2
+    same-length-3
+    returns)

@@ -1,0 +1,54 @@
+-- `sawmauve_open`: the answer of opening as its code, and the lists as opening leaves them.
+use mathlib.Core.Path.{ap, _∙_}
+use Rattle.book.specs.Answers.{answerCode}
+use borrow.Author.Needs.{needs}
+use Rattle.host.proofs.sawmauve_open.Statement.{statement}
+use Rattle.host.proofs.sawmauve_open.Tie as tie
+
+head-of-requires : tie.Need-head-of-requires
+head-of-requires c κs = search needs
+
+open-requires : tie.Need-open-requires
+open-requires c κs = search needs
+
+opened-code-requires : tie.Need-opened-code-requires
+opened-code-requires c κs = search needs
+
+same-length : tie.Need-same-length
+same-length c = search needs
+
+same-length-2 : tie.Need-same-length-2
+same-length-2 c = search needs
+
+same-length-3 : tie.Need-same-length-3
+same-length-3 c = search needs
+
+same-length-4 : tie.Need-same-length-4
+same-length-4 c = search needs
+
+same-length-5 : tie.Need-same-length-5
+same-length-5 c = search needs
+
+same-length-6 : tie.Need-same-length-6
+same-length-6 c = search needs
+
+returns : tie.Need-returns
+returns c =
+    let o = c .before .before .before .before .before .before .before .before .before .before .before .before .before in
+    let h = rw (o .before .before .before .before .before .before .before .head-of .ensures) at (o .«open» .ensures) in
+    (c .opened-code .ensures ∙ ap answerCode (h .0), h .1, h .2, h .3, h .4, h .5, h .6)
+
+pub sawmauve-open-spec : {M : Type 1} → statement M
+sawmauve-open-spec =
+    tie.close
+    (tie.spec
+    head-of-requires
+    open-requires
+    opened-code-requires
+    same-length
+    same-length-2
+    same-length-3
+    same-length-4
+    same-length-5
+    same-length-6
+    returns)

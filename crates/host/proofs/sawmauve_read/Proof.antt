@@ -1,0 +1,136 @@
+-- `sawmauve_read`: eight places hold the figures of an accepted file; a refused file leaves them, and so does a list of another length.
+use mathlib.Core.List.{List, [], _∷_}
+use mathlib.Core.Path.{_≡_, refl, sym, _∙_}
+use Prim.Native.Nat.{ℕ}
+use native.Mathlib.Omega.{arith}
+use lib.ListN.{length, set, length-set}
+use borrow.Author.Tests.{eq-eqb, ne-eqb}
+use Rattle.host.specs.Codes.{readAnswer, figuresAfter}
+use borrow.Author.Needs.{needs}
+use Rattle.host.proofs.sawmauve_read.Statement.{statement}
+use Rattle.host.proofs.sawmauve_read.Tie as tie
+
+-- eight stores fill a list of eight
+eight : (xs : List ℕ) {a b c d e f g h : ℕ} → length xs ≡ 8
+    → set (set (set (set (set (set (set (set xs 0 a) 1 b) 2 c) 3 d) 4 e) 5 f) 6 g) 7 h
+    ≡ a ∷ b ∷ c ∷ d ∷ e ∷ f ∷ g ∷ h ∷ []
+eight [] l = absurd (omega arith)
+eight (x0 ∷ []) l = absurd (omega arith)
+eight (x0 ∷ x1 ∷ []) l = absurd (omega arith)
+eight (x0 ∷ x1 ∷ x2 ∷ []) l = absurd (omega arith)
+eight (x0 ∷ x1 ∷ x2 ∷ x3 ∷ []) l = absurd (omega arith)
+eight (x0 ∷ x1 ∷ x2 ∷ x3 ∷ x4 ∷ []) l = absurd (omega arith)
+eight (x0 ∷ x1 ∷ x2 ∷ x3 ∷ x4 ∷ x5 ∷ []) l = absurd (omega arith)
+eight (x0 ∷ x1 ∷ x2 ∷ x3 ∷ x4 ∷ x5 ∷ x6 ∷ []) l = absurd (omega arith)
+eight (x0 ∷ x1 ∷ x2 ∷ x3 ∷ x4 ∷ x5 ∷ x6 ∷ x7 ∷ []) l = refl
+eight (x0 ∷ x1 ∷ x2 ∷ x3 ∷ x4 ∷ x5 ∷ x6 ∷ x7 ∷ y ∷ ys) l = absurd (omega arith)
+
+returns : tie.Need-returns
+unfolding readAnswer figuresAfter
+returns c = rw (ne-eqb _ _ (c .if1 .taken)) (refl, refl)
+
+read-requires : tie.Need-read-requires
+read-requires c κs = search needs
+
+enum-known-verdict : tie.Need-enum-known-verdict
+enum-known-verdict c = search needs
+
+cast-figures : tie.Need-cast-figures
+cast-figures c = search needs
+
+slice-write-figures : tie.Need-slice-write-figures
+slice-write-figures c = search needs
+
+cast-figures-2 : tie.Need-cast-figures-2
+cast-figures-2 c = search needs
+
+slice-write-figures-2 : tie.Need-slice-write-figures-2
+slice-write-figures-2 c = search needs
+
+cast-figures-3 : tie.Need-cast-figures-3
+cast-figures-3 c = search needs
+
+slice-write-figures-3 : tie.Need-slice-write-figures-3
+slice-write-figures-3 c = simp length-set (omega arith)
+
+cast-figures-4 : tie.Need-cast-figures-4
+cast-figures-4 c = search needs
+
+slice-write-figures-4 : tie.Need-slice-write-figures-4
+slice-write-figures-4 c = simp length-set (omega arith)
+
+cast-figures-5 : tie.Need-cast-figures-5
+cast-figures-5 c = search needs
+
+slice-write-figures-5 : tie.Need-slice-write-figures-5
+slice-write-figures-5 c = simp length-set (omega arith)
+
+cast-figures-6 : tie.Need-cast-figures-6
+cast-figures-6 c = search needs
+
+slice-write-figures-6 : tie.Need-slice-write-figures-6
+slice-write-figures-6 c = simp length-set (omega arith)
+
+cast-figures-7 : tie.Need-cast-figures-7
+cast-figures-7 c = search needs
+
+slice-write-figures-7 : tie.Need-slice-write-figures-7
+slice-write-figures-7 c = simp length-set (omega arith)
+
+slice-write-figures-8 : tie.Need-slice-write-figures-8
+slice-write-figures-8 c = simp length-set (omega arith)
+
+enum-known-verdict-2 : tie.Need-enum-known-verdict-2
+enum-known-verdict-2 c = search needs
+
+cast-result : tie.Need-cast-result
+cast-result c = search needs
+
+same-length : tie.Need-same-length
+same-length c = simp length-set (omega arith)
+
+returns-2 : tie.Need-returns-2
+unfolding readAnswer figuresAfter
+returns-2 c =
+    let v = c .before .before .before .before .before .before .before .before in
+    let i = v .before .before .before in
+    rw (eq-eqb _ _ (i .if1 .left), sym (v .before .before .read .ensures) ∙ v .verdict .given .1)
+    (refl, eight (i .before .before .before .args .figures .now) (i .if1 .left))
+
+returns-3 : tie.Need-returns-3
+unfolding readAnswer figuresAfter
+returns-3 c =
+    let v = c .before in
+    rw (
+      eq-eqb _ _ (v .before .before .before .if1 .left),
+      sym (v .before .before .read .ensures) ∙ v .verdict2 .given .1,
+    )
+    (refl, refl)
+
+pub sawmauve-read-spec : {M : Type 1} → statement M
+sawmauve-read-spec =
+    tie.close
+    (tie.spec
+    returns
+    read-requires
+    enum-known-verdict
+    cast-figures
+    slice-write-figures
+    cast-figures-2
+    slice-write-figures-2
+    cast-figures-3
+    slice-write-figures-3
+    cast-figures-4
+    slice-write-figures-4
+    cast-figures-5
+    slice-write-figures-5
+    cast-figures-6
+    slice-write-figures-6
+    cast-figures-7
+    slice-write-figures-7
+    slice-write-figures-8
+    enum-known-verdict-2
+    cast-result
+    same-length
+    returns-2
+    returns-3)

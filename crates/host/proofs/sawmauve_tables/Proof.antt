@@ -1,0 +1,15 @@
+-- `sawmauve_tables`: the length of the part that `tables` gives.
+use mathlib.Core.Path.{ap}
+use lib.ListN.{length}
+use borrow.Author.Needs.{needs}
+use Rattle.host.proofs.sawmauve_tables.Statement.{statement}
+use Rattle.host.proofs.sawmauve_tables.Tie as tie
+
+tables-requires : tie.Need-tables-requires
+tables-requires c κs = search needs
+
+returns : tie.Need-returns
+returns c = ap length (c .tables .ensures)
+
+pub sawmauve-tables-spec : {M : Type 1} → statement M
+sawmauve-tables-spec = tie.close (tie.spec tables-requires returns)

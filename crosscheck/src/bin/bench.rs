@@ -1,0 +1,222 @@
+//! Times publishing, reading and delivering of both builds on the same books.
+
+use std::hint::black_box;
+use std::time::{Duration, Instant};
+
+use crosscheck::calls::Lists;
+use crosscheck::head::{DIAL, Head};
+use crosscheck::side::{Answer, Delivery, RegisterRead, Second, Side};
+
+/// Runs of each measurement; the median counts.
+const RUNS: usize = 9;
+/// Slots a run should go over at least, by repeating small books.
+const SLOTS_A_RUN: usize = 60_000;
+
+#[derive(Clone, Copy, Debug, PartialEq, Eq)]
+enum Kind {
+    Ordinary,
+    AllGap,
+    AlternateGaps,
+    NoReferences,
+}
+
+const KINDS: [(Kind, &str); 4] = [
+    (Kind::Ordinary, "ordinary"),
+    (Kind::AllGap, "all gap"),
+    (Kind::AlternateGaps, "alternate gaps"),
+    (Kind::NoReferences, "no references"),
+];
+
+/// A book as its calls, and as the lists and the file they come to.
+struct Sample {
+    head: Head,
+    slots: usize,
+    days: usize,
+    deliveries: Vec<Delivery>,
+    lists: Lists,
+    file: Vec<u8>,
+}
+
+impl Kind {
+    fn delivered(self, slot: usize) -> bool {
+        match self {
+            // Single losses and, now and then, a short run.
+            Kind::Ordinary => slot % 97 != 40 && slot % 1009 > 4,
+            Kind::AllGap => false,
+            Kind::AlternateGaps => slot.is_multiple_of(2),
+            // The same two of three positions are lost every day: no neighbours, no weeks.
+            Kind::NoReferences => slot.is_multiple_of(3),
+        }
+    }
+}
+
+/// What the meter would have shown, delivered or not.
+fn value(slot: usize, slots_a_day: usize) -> u32 {
+    let position = slot % slots_a_day;
+    let daytime = position.min(slots_a_day - position);
+    (20 + 3 * daytime + slot * 7 % 11) as u32
+}
+
+impl Sample {
+    fn new(kind: Kind, days: u32, interval: u32) -> Sample {
+        let head = Head {
+            year: 2024,
+            month: 1,
+            day: 1,
+            days,
+            interval,
+            kind: 2,
+            tolerance: 10,
+        };
+        let shape = head.shape().expect("a head in bounds");
+        let day = shape.slots_a_day;
+        let deliveries: Vec<Delivery> = (0..shape.slots)
+            .filter(|&slot| kind.delivered(slot))
+            .map(|slot| Delivery {
+                slot: slot as u32,
+                version: 1,
+                value: value(slot, day),
+                status: 0,
+            })
+            .collect();
+        let mut lists = Lists::zeroed(shape.slots, shape.days);
+        for &delivery in &deliveries {
+            Second.deliver(head, &mut lists, delivery);
+        }
+        if kind == Kind::Ordinary {
+            read_weekly(head, &mut lists, day);
+        }
+        let mut file = vec![0; 6 * shape.slots + 10 * shape.days + 32];
+        match Second.publish(head, &lists, &mut file) {
+            Answer::Length(length) => file.truncate(length as usize),
+            other => panic!("a sample is not published: {other:?}"),
+        }
+        Sample {
+            head,
+            slots: shape.slots,
+            days: shape.days,
+            deliveries,
+            lists,
+            file,
+        }
+    }
+
+    fn publish(&self, side: &dyn Side, out: &mut [u8]) -> Duration {
+        out.fill(0);
+        timed(|| side.publish(self.head, black_box(&self.lists), out))
+    }
+
+    fn read(&self, side: &dyn Side) -> Duration {
+        timed(|| side.read(black_box(&self.file)))
+    }
+
+    fn deliver(&self, side: &dyn Side, lists: &mut Lists) -> Duration {
+        lists.clear();
+        timed(|| {
+            for &delivery in black_box(&self.deliveries) {
+                black_box(side.deliver(self.head, lists, delivery));
+            }
+        })
+    }
+}
+
+fn read_weekly(head: Head, lists: &mut Lists, slots_a_day: usize) {
+    let days = head.days as usize;
+    let mut total = 0;
+    for boundary in 0..=days {
+        if boundary % 7 == 0 || boundary == days {
+            let read = RegisterRead {
+                boundary: boundary as u32,
+                version: 1,
+                reading: total % DIAL,
+            };
+            Second.register(head, lists, read);
+        }
+        let slots = boundary * slots_a_day..(boundary + 1) * slots_a_day;
+        total += slots.map(|slot| value(slot, slots_a_day)).sum::<u32>();
+    }
+}
+
+fn timed<T>(work: impl FnOnce() -> T) -> Duration {
+    let start = Instant::now();
+    black_box(work());
+    start.elapsed()
+}
+
+type Sides = Vec<(&'static str, &'static dyn Side)>;
+
+/// Median time per item in ns for each side; the sides take turns, so that a busy
+/// moment of the machine meets both.
+fn medians(
+    sides: &Sides,
+    items: usize,
+    repeats: usize,
+    mut measure: impl FnMut(&dyn Side) -> Duration,
+) -> Vec<Option<f64>> {
+    let mut runs = vec![Vec::new(); sides.len()];
+    for _ in 0..RUNS {
+        for ((_, side), runs) in sides.iter().zip(&mut runs) {
+            let run: Duration = (0..repeats).map(|_| measure(*side)).sum();
+            runs.push(run);
+        }
+    }
+    let median = |mut runs: Vec<Duration>| {
+        runs.sort();
+        let all = (items * repeats) as f64;
+        (items > 0).then(|| runs[RUNS / 2].as_nanos() as f64 / all)
+    };
+    runs.into_iter().map(median).collect()
+}
+
+#[cfg(feature = "host")]
+fn sides() -> Sides {
+    vec![("second", &Second), ("host", &crosscheck::host::Host)]
+}
+
+#[cfg(not(feature = "host"))]
+fn sides() -> Sides {
+    vec![("second", &Second)]
+}
+
+fn print_row(book: &str, head: &Head, call: &str, times: &[Option<f64>]) {
+    print!(
+        "{book:<15} {:>4} {:>3}  {call:<8}",
+        head.days, head.interval
+    );
+    for time in times {
+        match time {
+            Some(time) => print!(" {time:>10.2}"),
+            None => print!(" {:>10}", "-"),
+        }
+    }
+    if let [Some(second), Some(host)] = times {
+        print!(" {:>10.2}", host / second);
+    }
+    println!();
+}
+
+fn main() {
+    let sides = sides();
+    println!("median of {RUNS} runs, ns per slot (deliver: per delivery)");
+    print!("{:<15} {:>4} {:>3}  {:<8}", "book", "D", "L", "call");
+    sides.iter().for_each(|(name, _)| print!(" {name:>10}"));
+    println!("{}", if sides.len() > 1 { "  host/second" } else { "" });
+    for (kind, name) in KINDS {
+        for (days, interval) in [(1, 5), (1, 30), (31, 5), (31, 30), (400, 5), (400, 30)] {
+            let sample = Sample::new(kind, days, interval);
+            let repeats = SLOTS_A_RUN.div_ceil(sample.slots);
+            let mut out = vec![0; sample.file.len()];
+            let mut lists = Lists::zeroed(sample.slots, sample.days);
+            let publish = medians(&sides, sample.slots, repeats, |side| {
+                sample.publish(side, &mut out)
+            });
+            let read = medians(&sides, sample.slots, repeats, |side| sample.read(side));
+            let deliver = medians(&sides, sample.deliveries.len(), repeats, |side| {
+                sample.deliver(side, &mut lists)
+            });
+            print_row(name, &sample.head, "publish", &publish);
+            print_row(name, &sample.head, "read", &read);
+            print_row(name, &sample.head, "deliver", &deliver);
+        }
+    }
+}

@@ -1,0 +1,188 @@
+//! The calls over the six lent lists: opening, the three filling calls, publishing.
+
+use std::cmp::Ordering;
+
+use crate::file;
+use crate::head::{DIAL, Head};
+use crate::refusal;
+use crate::rules::{self, Cells};
+
+/// How an accepted filling call was taken.
+#[derive(Clone, Copy, Debug, PartialEq, Eq)]
+pub enum Filed {
+    Stored,
+    Late,
+    Repeat,
+}
+
+/// The highest status: three bits.
+pub const MOST_STATUS: u8 = 7;
+
+/// Sets all cells to 0.
+pub fn open(
+    head: Head,
+    values: &mut [u32],
+    versions: &mut [u32],
+    statuses: &mut [u8],
+    holidays: &mut [u8],
+    readings: &mut [u32],
+    read_versions: &mut [u32],
+) -> Result<(), u8> {
+    let shape = head.shape()?;
+    lengths(&[values.len(), versions.len(), statuses.len()], shape.slots)?;
+    lengths(&[holidays.len()], shape.days)?;
+    lengths(&[readings.len(), read_versions.len()], shape.days + 1)?;
+    values.fill(0);
+    versions.fill(0);
+    statuses.fill(0);
+    holidays.fill(0);
+    readings.fill(0);
+    read_versions.fill(0);
+    Ok(())
+}
+
+/// Takes a delivery for one slot.
+#[allow(clippy::too_many_arguments)] // the lists and the arguments as 01 names them
+pub fn deliver(
+    head: Head,
+    values: &mut [u32],
+    versions: &mut [u32],
+    statuses: &mut [u8],
+    slot: u32,
+    version: u32,
+    value: u32,
+    status: u8,
+) -> Result<Filed, u8> {
+    let shape = head.shape()?;
+    lengths(&[values.len(), versions.len(), statuses.len()], shape.slots)?;
+    let slot = slot as usize;
+    refuse_if(slot >= shape.slots, refusal::PLACE)?;
+    refuse_if(version == 0, refusal::VERSION)?;
+    refuse_if(status > MOST_STATUS, refusal::STATUS)?;
+    let cell = (values[slot], statuses[slot]);
+    refuse_if(
+        !slot_possible(values[slot], versions[slot], statuses[slot]),
+        refusal::CELL,
+    )?;
+    let filed = filed(version, versions[slot], (value, status) == cell)?;
+    if filed == Filed::Stored {
+        values[slot] = value;
+        versions[slot] = version;
+        statuses[slot] = status;
+    }
+    Ok(filed)
+}
+
+/// Marks a day as a holiday.
+pub fn holiday(head: Head, holidays: &mut [u8], day: u32) -> Result<Filed, u8> {
+    let shape = head.shape()?;
+    lengths(&[holidays.len()], shape.days)?;
+    let day = day as usize;
+    refuse_if(day >= shape.days, refusal::PLACE)?;
+    refuse_if(!holiday_possible(holidays[day]), refusal::CELL)?;
+    if holidays[day] == 1 {
+        return Ok(Filed::Repeat);
+    }
+    holidays[day] = 1;
+    Ok(Filed::Stored)
+}
+
+/// Takes a register read at one boundary.
+pub fn register(
+    head: Head,
+    readings: &mut [u32],
+    read_versions: &mut [u32],
+    boundary: u32,
+    version: u32,
+    reading: u32,
+) -> Result<Filed, u8> {
+    let shape = head.shape()?;
+    lengths(&[readings.len(), read_versions.len()], shape.days + 1)?;
+    let boundary = boundary as usize;
+    refuse_if(boundary > shape.days, refusal::PLACE)?;
+    refuse_if(version == 0, refusal::VERSION)?;
+    refuse_if(reading >= DIAL, refusal::READING)?;
+    refuse_if(
+        !register_possible(readings[boundary], read_versions[boundary]),
+        refusal::CELL,
+    )?;
+    let same = reading == readings[boundary];
+    let filed = filed(version, read_versions[boundary], same)?;
+    if filed == Filed::Stored {
+        readings[boundary] = reading;
+        read_versions[boundary] = version;
+    }
+    Ok(filed)
+}
+
+/// Writes the file to the front of `out` and answers its length.
+#[allow(clippy::too_many_arguments)] // the lists and the arguments as 01 names them
+pub fn publish(
+    head: Head,
+    values: &[u32],
+    versions: &[u32],
+    statuses: &[u8],
+    holidays: &[u8],
+    readings: &[u32],
+    read_versions: &[u32],
+    out: &mut [u8],
+) -> Result<usize, u8> {
+    let shape = head.shape()?;
+    lengths(&[values.len(), versions.len(), statuses.len()], shape.slots)?;
+    lengths(&[holidays.len()], shape.days)?;
+    lengths(&[readings.len(), read_versions.len()], shape.days + 1)?;
+    let cells = Cells {
+        values,
+        versions,
+        statuses,
+        holidays,
+        readings,
+        read_versions,
+    };
+    // In publishing, 11 goes before 7.
+    refuse_if(!all_possible(&cells), refusal::CELL)?;
+    let (slots, spans) = rules::outcomes(&shape, &cells);
+    let length = file::length(slots.len(), spans.len());
+    refuse_if(out.len() < length, refusal::BUFFER)?;
+    file::write(&shape, &slots, &spans, &mut out[..length]);
+    Ok(length)
+}
+
+fn refuse_if(applies: bool, number: u8) -> Result<(), u8> {
+    if applies { Err(number) } else { Ok(()) }
+}
+
+fn lengths(lent: &[usize], wanted: usize) -> Result<(), u8> {
+    refuse_if(lent.iter().any(|&len| len != wanted), refusal::LENGTH)
+}
+
+/// Higher is stored, lower is late, equal is repeat or, with other content, a conflict.
+fn filed(version: u32, kept: u32, same_content: bool) -> Result<Filed, u8> {
+    match version.cmp(&kept) {
+        Ordering::Greater => Ok(Filed::Stored),
+        Ordering::Less => Ok(Filed::Late),
+        Ordering::Equal if same_content => Ok(Filed::Repeat),
+        Ordering::Equal => Err(refusal::CONFLICT),
+    }
+}
+
+fn slot_possible(value: u32, version: u32, status: u8) -> bool {
+    status <= MOST_STATUS && (version != 0 || (value == 0 && status == 0))
+}
+
+fn holiday_possible(holiday: u8) -> bool {
+    holiday <= 1
+}
+
+fn register_possible(reading: u32, version: u32) -> bool {
+    reading < DIAL && (version != 0 || reading == 0)
+}
+
+fn all_possible(cells: &Cells) -> bool {
+    let slots = (0..cells.values.len())
+        .all(|i| slot_possible(cells.values[i], cells.versions[i], cells.statuses[i]));
+    let holidays = cells.holidays.iter().all(|&cell| holiday_possible(cell));
+    let registers = (0..cells.readings.len())
+        .all(|i| register_possible(cells.readings[i], cells.read_versions[i]));
+    slots && holidays && registers
+}

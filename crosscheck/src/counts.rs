@@ -1,0 +1,298 @@
+//! How often each class occurred; every class is listed from the start, with 0.
+
+use std::collections::BTreeMap;
+use std::fmt;
+
+use crate::book::Filed;
+use crate::calls::{Act, Book, List};
+use crate::head::Shape;
+use crate::reader::Fault;
+use crate::side::Answer;
+
+type Class = (&'static str, &'static str);
+
+#[derive(Clone, Debug)]
+pub struct Counts(BTreeMap<Class, u64>);
+
+const CLASSES: &[(&str, &[&str])] = &[
+    (
+        "book days",
+        &[
+            "1", "2", "7", "8", "29", "31", "64", "365", "366", "400", "other",
+        ],
+    ),
+    (
+        "book slots",
+        &["48", "to 1,500", "to 20,000", "to 115,199", "115,200"],
+    ),
+    (
+        "book head",
+        &["L 5", "L 15", "L 30", "kind 1", "kind 2", "refused"],
+    ),
+    ("book tolerance", &["0", "small", "1,000,000", "other"]),
+    (
+        "book first day",
+        &[
+            "2000-01-01",
+            "leap day",
+            "month end",
+            "ends 2099-12-31",
+            "other",
+        ],
+    ),
+    ("answer to open", &["done", "1", "2"]),
+    (
+        "answer to deliver",
+        &[
+            "stored", "late", "repeat", "1", "2", "3", "4", "5", "10", "11",
+        ],
+    ),
+    (
+        "answer to holiday",
+        &["stored", "repeat", "1", "2", "3", "11"],
+    ),
+    (
+        "answer to register",
+        &[
+            "stored", "late", "repeat", "1", "2", "3", "4", "6", "10", "11",
+        ],
+    ),
+    ("answer to publish", &["length", "1", "2", "7", "11"]),
+    ("answer of the reader", &["figures", "8", "9"]),
+    (
+        "list of a wrong length",
+        &[
+            "values",
+            "versions",
+            "statuses",
+            "holidays",
+            "readings",
+            "read versions",
+        ],
+    ),
+    (
+        "cause",
+        &["good", "gap", "time change", "partial", "demand"],
+    ),
+    ("quality", &["A", "S", "N"]),
+    ("method", &["0", "1", "2", "3", "18", "19"]),
+    ("span state", &["0", "1", "2", "3"]),
+    (
+        "outage zero",
+        &[
+            "before",
+            "after",
+            "both sides",
+            "run at the first slot",
+            "run at the last slot",
+        ],
+    ),
+    (
+        "linear",
+        &[
+            "beside an outage",
+            "of a delivered slot",
+            "not from a filled neighbour",
+        ],
+    ),
+    (
+        "references",
+        &[
+            "0",
+            "1",
+            "2",
+            "3",
+            "4",
+            "only 52 weeks back",
+            "only 53 weeks back",
+        ],
+    ),
+    (
+        "earlier week skipped",
+        &["holiday", "outage", "gap", "failed"],
+    ),
+    ("demand", &["at the limit", "one above", "highest value"]),
+    (
+        "span",
+        &[
+            "dial wrapped",
+            "R 0",
+            "E 0",
+            "R = V, scaled",
+            "R = V - 1, disagrees",
+            "R = V + t",
+            "R = V + t + 1",
+            "R = V - t",
+            "R = V - t - 1",
+            "slots outside",
+        ],
+    ),
+    (
+        "reader's fault",
+        &[
+            "Short",
+            "FirstDay",
+            "Days",
+            "Interval",
+            "Layout",
+            "Distance",
+            "Length",
+            "Record",
+            "SpanBounds",
+            "SpanChain",
+            "Advance",
+            "State",
+            "LastByte",
+            "OpenState",
+            "ScaledState",
+            "ScaledMixed",
+            "ScaledSum",
+            "AgreesWithSubstituted",
+            "ScaledOutside",
+            "Counts",
+            "Sum",
+        ],
+    ),
+];
+
+pub const NUMBERS: [&str; 12] = ["0", "1", "2", "3", "4", "5", "6", "7", "8", "9", "10", "11"];
+
+impl Default for Counts {
+    fn default() -> Counts {
+        let classes = CLASSES
+            .iter()
+            .flat_map(|&(group, names)| names.iter().map(move |&name| ((group, name), 0)));
+        Counts(classes.collect())
+    }
+}
+
+impl Counts {
+    pub fn add(&mut self, group: &'static str, name: &'static str) {
+        *self.0.entry((group, name)).or_insert(0) += 1;
+    }
+
+    pub fn add_if(&mut self, occurred: bool, group: &'static str, name: &'static str) {
+        if occurred {
+            self.add(group, name);
+        }
+    }
+
+    pub fn of(&self, group: &'static str, name: &'static str) -> u64 {
+        self.0.get(&(group, name)).copied().unwrap_or(0)
+    }
+
+    /// The classes that never occurred.
+    pub fn missing(&self) -> Vec<String> {
+        let unseen = self.0.iter().filter(|&(_, &count)| count == 0);
+        unseen
+            .map(|((group, name), _)| format!("{group}: {name}"))
+            .collect()
+    }
+
+    pub fn book(&mut self, book: &Book) {
+        let head = book.head;
+        let Ok(shape) = head.shape() else {
+            self.add("book head", "refused");
+            return;
+        };
+        let named = CLASSES[0].1.iter();
+        let days = named.copied().find(|name| *name == head.days.to_string());
+        self.add("book days", days.unwrap_or("other"));
+        let slots = match shape.slots {
+            ..=48 => "48",
+            49..=1500 => "to 1,500",
+            1501..=20_000 => "to 20,000",
+            20_001..115_200 => "to 115,199",
+            _ => "115,200",
+        };
+        self.add("book slots", slots);
+        let interval = match head.interval {
+            5 => "L 5",
+            15 => "L 15",
+            _ => "L 30",
+        };
+        self.add("book head", interval);
+        let kind = if head.kind == 1 { "kind 1" } else { "kind 2" };
+        self.add("book head", kind);
+        let tolerance = match head.tolerance {
+            0 => "0",
+            1..=100 => "small",
+            1_000_000 => "1,000,000",
+            _ => "other",
+        };
+        self.add("book tolerance", tolerance);
+        self.add("book first day", first_day_class(&shape));
+    }
+
+    pub fn answer(&mut self, act: &Act, answer: Answer) {
+        let group = match act {
+            Act::Open => "answer to open",
+            Act::Deliver { .. } => "answer to deliver",
+            Act::Holiday { .. } => "answer to holiday",
+            Act::Register { .. } => "answer to register",
+            Act::Publish { .. } => "answer to publish",
+            Act::Write { .. } => return,
+        };
+        let name = match answer {
+            Answer::Done => "done",
+            Answer::Filed(Filed::Stored) => "stored",
+            Answer::Filed(Filed::Late) => "late",
+            Answer::Filed(Filed::Repeat) => "repeat",
+            Answer::Length(_) => "length",
+            Answer::Refused(number) => NUMBERS.get(number as usize).unwrap_or(&"odd number"),
+        };
+        self.add(group, name);
+    }
+
+    pub fn resized(&mut self, list: List) {
+        let name = match list {
+            List::Values => "values",
+            List::Versions => "versions",
+            List::Statuses => "statuses",
+            List::Holidays => "holidays",
+            List::Readings => "readings",
+            List::ReadVersions => "read versions",
+        };
+        self.add("list of a wrong length", name);
+    }
+
+    pub fn fault(&mut self, fault: Option<Fault>) {
+        let Some(fault) = fault else {
+            self.add("answer of the reader", "figures");
+            return;
+        };
+        self.add("answer of the reader", NUMBERS[fault.number() as usize]);
+        let position = Fault::ALL.iter().position(|&other| other == fault);
+        let names = CLASSES[CLASSES.len() - 1].1;
+        self.add("reader's fault", names[position.unwrap_or(0)]);
+    }
+}
+
+fn first_day_class(shape: &Shape) -> &'static str {
+    let (_, month, day) = crate::head::date(shape.first_day);
+    let last = shape.first_day + shape.days as u32 - 1;
+    if last == crate::head::LAST_DAY {
+        "ends 2099-12-31"
+    } else if shape.first_day == 0 {
+        "2000-01-01"
+    } else if (month, day) == (2, 29) {
+        "leap day"
+    } else if crate::head::date(shape.first_day + 1).2 == 1 {
+        "month end"
+    } else {
+        "other"
+    }
+}
+
+impl fmt::Display for Counts {
+    fn fmt(&self, f: &mut fmt::Formatter) -> fmt::Result {
+        for &(group, names) in CLASSES {
+            write!(f, "{group}:")?;
+            for name in names.iter().copied() {
+                write!(f, "  {name} {},", self.of(group, name))?;
+            }
+            writeln!(f)?;
+        }
+        Ok(())
+    }
+}

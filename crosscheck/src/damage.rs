@@ -1,0 +1,397 @@
+//! Damaged files: a published file and a list of edits, from a seed.
+
+use crate::file::{SLOT_BYTES, SPAN_BYTES, TRAILER_BYTES};
+use crate::random;
+use crate::rng::Rng;
+
+/// A field of the trailer: its place in it and its bytes.
+pub type Field = (usize, usize);
+
+const FIRST_DAY: Field = (0, 2);
+const DAYS: Field = (2, 2);
+const INTERVAL: Field = (4, 1);
+const LAYOUT: Field = (5, 1);
+const SPANS: Field = (6, 2);
+const ACTUAL: Field = (8, 4);
+const SUBSTITUTED: Field = (12, 4);
+const NONE: Field = (16, 4);
+const SUM: Field = (20, 8);
+const DISTANCE: Field = (28, 4);
+
+const FIELDS: [Field; 10] = [
+    FIRST_DAY,
+    DAYS,
+    INTERVAL,
+    LAYOUT,
+    SPANS,
+    ACTUAL,
+    SUBSTITUTED,
+    NONE,
+    SUM,
+    DISTANCE,
+];
+
+/// The fields of a span's record; the state more than once, as most rules are about it.
+const SPAN_FIELDS: [Field; 8] = [
+    (0, 2),
+    (2, 2),
+    (4, 4),
+    (8, 1),
+    (8, 1),
+    (8, 1),
+    (8, 1),
+    (9, 1),
+];
+
+#[derive(Clone, Debug, PartialEq, Eq)]
+pub enum Edit {
+    Truncate(usize),
+    Cut {
+        at: usize,
+        len: usize,
+    },
+    Extend(Vec<u8>),
+    Prepend(Vec<u8>),
+    Flip {
+        at: usize,
+        bit: u8,
+    },
+    Byte {
+        at: usize,
+        value: u8,
+    },
+    Trailer(Vec<u8>),
+    TrailerField {
+        field: Field,
+        value: u64,
+    },
+    SwapSlots(usize, usize),
+    SwapSpans(usize, usize),
+    Slot {
+        at: usize,
+        value: u32,
+        letter: u8,
+        method: u8,
+    },
+    SpanField {
+        span: usize,
+        field: Field,
+        value: u64,
+    },
+    DropSpan(usize),
+    CopySpan(usize),
+    AllZero,
+    Bytes(Vec<u8>),
+    /// Sets the trailer's counts and sum to those of the slot table.
+    Mend,
+}
+
+/// A published file and what is done to it.
+#[derive(Clone, Debug)]
+pub struct Damaged {
+    pub base: Vec<u8>,
+    pub edits: Vec<Edit>,
+}
+
+impl Damaged {
+    pub fn file(&self) -> Vec<u8> {
+        edited(&self.base, &self.edits)
+    }
+}
+
+pub fn edited(base: &[u8], edits: &[Edit]) -> Vec<u8> {
+    let mut file = base.to_vec();
+    for edit in edits {
+        apply(&mut file, edit);
+    }
+    file
+}
+
+/// An edit that has no place in the file does nothing.
+fn apply(file: &mut Vec<u8>, edit: &Edit) {
+    match edit {
+        Edit::Truncate(len) => file.truncate(*len),
+        Edit::Cut { at, len } => {
+            let end = (at + len).min(file.len());
+            file.drain(*at.min(&end)..end);
+        }
+        Edit::Extend(bytes) => file.extend(bytes),
+        Edit::Prepend(bytes) => {
+            file.splice(0..0, bytes.iter().copied());
+        }
+        Edit::Flip { at, bit } => {
+            if let Some(byte) = file.get_mut(*at) {
+                *byte ^= 1 << (bit & 7);
+            }
+        }
+        Edit::Byte { at, value } => put(file, *at, &[*value]),
+        Edit::Trailer(bytes) => {
+            if let Some(start) = trailer_start(file) {
+                put(file, start, bytes);
+            }
+        }
+        Edit::TrailerField { field, value } => set_field(file, *field, *value),
+        Edit::SwapSlots(one, two) => swap(file, 0, SLOT_BYTES, *one, *two),
+        Edit::SwapSpans(one, two) => {
+            let (start, _) = span_table(file);
+            swap(file, start, SPAN_BYTES, *one, *two);
+        }
+        Edit::Slot {
+            at,
+            value,
+            letter,
+            method,
+        } => {
+            let record = [&value.to_le_bytes()[..], &[*letter, *method]].concat();
+            put(file, at * SLOT_BYTES, &record);
+        }
+        Edit::SpanField {
+            span,
+            field: (offset, len),
+            value,
+        } => {
+            let (start, _) = span_table(file);
+            let at = start + span * SPAN_BYTES + offset;
+            put(file, at, &value.to_le_bytes()[..*len]);
+        }
+        Edit::DropSpan(span) => change_spans(file, *span, false),
+        Edit::CopySpan(span) => change_spans(file, *span, true),
+        Edit::AllZero => file.fill(0),
+        Edit::Bytes(bytes) => file.clone_from(bytes),
+        Edit::Mend => mend(file),
+    }
+}
+
+fn trailer_start(file: &[u8]) -> Option<usize> {
+    file.len().checked_sub(TRAILER_BYTES)
+}
+
+fn put(file: &mut [u8], at: usize, bytes: &[u8]) {
+    if let Some(place) = file.get_mut(at..at + bytes.len()) {
+        place.copy_from_slice(bytes);
+    }
+}
+
+fn field(file: &[u8], (offset, len): Field) -> u64 {
+    let Some(start) = trailer_start(file) else {
+        return 0;
+    };
+    let mut bytes = [0; 8];
+    bytes[..len].copy_from_slice(&file[start + offset..start + offset + len]);
+    u64::from_le_bytes(bytes)
+}
+
+fn set_field(file: &mut [u8], (offset, len): Field, value: u64) {
+    if let Some(start) = trailer_start(file) {
+        put(file, start + offset, &value.to_le_bytes()[..len]);
+    }
+}
+
+/// Where the span table starts, and how many spans it has.
+fn span_table(file: &[u8]) -> (usize, usize) {
+    let spans = field(file, SPANS) as usize;
+    let end = trailer_start(file).unwrap_or(0);
+    (end.saturating_sub(spans * SPAN_BYTES), spans)
+}
+
+fn swap(file: &mut [u8], start: usize, len: usize, one: usize, two: usize) {
+    let (one, two) = (start + one * len, start + two * len);
+    if one.max(two) + len <= file.len() {
+        (0..len).for_each(|i| file.swap(one + i, two + i));
+    }
+}
+
+/// Drops or doubles a span's record, with M and the distance to match.
+fn change_spans(file: &mut Vec<u8>, span: usize, double: bool) {
+    let (start, spans) = span_table(file);
+    let at = start + span * SPAN_BYTES;
+    if span >= spans || at + SPAN_BYTES > file.len() {
+        return;
+    }
+    let spans = if double {
+        let record = file[at..at + SPAN_BYTES].to_vec();
+        file.splice(at..at, record);
+        spans + 1
+    } else {
+        file.drain(at..at + SPAN_BYTES);
+        spans - 1
+    };
+    set_field(file, SPANS, spans as u64);
+    set_field(file, DISTANCE, (SPAN_BYTES * spans) as u64);
+}
+
+fn mend(file: &mut [u8]) {
+    let (end, _) = span_table(file);
+    let records = file[..end].chunks_exact(SLOT_BYTES);
+    let count = |letter| records.clone().filter(|r| r[4] == letter).count() as u64;
+    let counts = [count(b'A'), count(b'S'), count(b'N')];
+    let value = |r: &[u8]| u64::from(u32::from_le_bytes([r[0], r[1], r[2], r[3]]));
+    let sum = records.map(value).sum();
+    set_field(file, ACTUAL, counts[0]);
+    set_field(file, SUBSTITUTED, counts[1]);
+    set_field(file, NONE, counts[2]);
+    set_field(file, SUM, sum);
+}
+
+/// The files the damage is done to.
+pub struct Bases(Vec<Vec<u8>>);
+
+impl Bases {
+    /// Every other file has a scaled span, as many rules are about those.
+    pub fn new(seed: u64, many: usize) -> Bases {
+        let mut bases = Vec::new();
+        for index in 0.. {
+            if bases.len() == many {
+                break;
+            }
+            let file = random::small_file(seed ^ 0xBA5E, index);
+            if bases.len() % 2 == 0 || has_scaled(&file) {
+                bases.push(file);
+            }
+        }
+        Bases(bases)
+    }
+
+    /// The `index`th damaged file of a seed.
+    pub fn damaged(&self, seed: u64, index: u64) -> Damaged {
+        let mut rng = Rng::new(seed ^ 0xDA3A_6ED0, index);
+        let base = self.0[rng.below(self.0.len())].clone();
+        let many = rng.pick(&[1, 1, 1, 2, 3]);
+        let mut edits: Vec<Edit> = (0..many).map(|_| self.edit(&mut rng, &base)).collect();
+        if rng.one_in(2) {
+            edits.push(Edit::Mend);
+        }
+        Damaged { base, edits }
+    }
+
+    fn edit(&self, rng: &mut Rng, base: &[u8]) -> Edit {
+        let (slot_end, spans) = span_table(base);
+        let slots = slot_end / SLOT_BYTES;
+        let span = rng.below(spans.max(1));
+        match rng.below(30) {
+            0 => Edit::Truncate(rng.below(base.len() + 1)),
+            1 => Edit::Truncate(rng.pick(&[0, 1, 31, 32, 33, base.len() - 1])),
+            2 => Edit::Cut {
+                at: rng.below(base.len()),
+                len: rng.pick(&[1, 6, 10, 32]),
+            },
+            3 => Edit::Extend(noise(rng, 40)),
+            4 => Edit::Prepend(noise(rng, 12)),
+            5 | 6 => Edit::Flip {
+                at: rng.below(base.len()),
+                bit: rng.byte(),
+            },
+            7 => Edit::Byte {
+                at: rng.below(base.len()),
+                value: rng.byte(),
+            },
+            8 => {
+                // A bit of the trailer.
+                Edit::Flip {
+                    at: base.len() - 1 - rng.below(TRAILER_BYTES),
+                    bit: rng.byte(),
+                }
+            }
+            9 => {
+                let other = &self.0[rng.below(self.0.len())];
+                Edit::Trailer(other[other.len() - TRAILER_BYTES..].to_vec())
+            }
+            10..=12 => trailer_edit(rng),
+            13 => Edit::SwapSlots(rng.below(slots), rng.below(slots)),
+            14 => Edit::SwapSpans(rng.below(spans + 1), rng.below(spans + 1)),
+            15..=19 => slot_edit(rng, base, slots),
+            20..=25 => span_edit(rng, span),
+            26 => Edit::DropSpan(rng.pick(&[span, 0, spans.max(1) - 1])),
+            27 => Edit::CopySpan(span),
+            28 => Edit::AllZero,
+            _ => Edit::Bytes(noise(rng, 700)),
+        }
+    }
+}
+
+fn has_scaled(file: &[u8]) -> bool {
+    let (end, _) = span_table(file);
+    file[..end]
+        .chunks_exact(SLOT_BYTES)
+        .any(|record| matches!(record[5], 18 | 19))
+}
+
+fn noise(rng: &mut Rng, most: usize) -> Vec<u8> {
+    let len = 1 + rng.below(most);
+    (0..len).map(|_| rng.byte()).collect()
+}
+
+fn trailer_edit(rng: &mut Rng) -> Edit {
+    let field = rng.pick(&FIELDS);
+    let any = u64::from(rng.word());
+    let extreme = [
+        0,
+        1,
+        2,
+        5,
+        15,
+        30,
+        400,
+        401,
+        36_524,
+        36_525,
+        65_535,
+        u64::from(u32::MAX),
+        u64::MAX,
+        any,
+    ];
+    Edit::TrailerField {
+        field,
+        value: rng.pick(&extreme),
+    }
+}
+
+/// A record set to one of the allowed kinds or near them, often with its old value.
+fn slot_edit(rng: &mut Rng, base: &[u8], slots: usize) -> Edit {
+    let mut at = rng.below(slots);
+    if rng.one_in(3) {
+        // The next substituted slot, as most rules are about those.
+        let substituted = |&slot: &usize| base[slot * SLOT_BYTES + 4] == b'S';
+        at = (at..slots).find(substituted).unwrap_or(at);
+    }
+    let record = &base[at * SLOT_BYTES..(at + 1) * SLOT_BYTES];
+    let old = u32::from_le_bytes([record[0], record[1], record[2], record[3]]);
+    let value = rng.pick(&[old, old, 0, 0, 1, old.wrapping_add(1), u32::MAX]);
+    let any = rng.byte();
+    let (letter, method) = rng.pick(&[
+        (b'A', 0),
+        (b'A', 1),
+        (b'S', 2),
+        (b'S', 3),
+        (b'S', 18),
+        (b'S', 19),
+        (b'N', 0),
+        (record[4], record[5]),
+        (record[4], record[5] ^ 16),
+        (record[4], any),
+        (any, record[5]),
+        (b'A', 2),
+        (b'S', 0),
+        (b'S', 1),
+        (b'N', 1),
+        (b'a', 0),
+    ]);
+    Edit::Slot {
+        at,
+        value,
+        letter,
+        method,
+    }
+}
+
+fn span_edit(rng: &mut Rng, span: usize) -> Edit {
+    let field = rng.pick(&SPAN_FIELDS);
+    let any = u64::from(rng.word());
+    let value = match field {
+        (8, _) => rng.pick(&[0, 0, 0, 1, 2, 3, 4, 255]),
+        (9, _) => rng.pick(&[0, 1, 255]),
+        (4, _) => rng.pick(&[0, 1, 99_999_999, 100_000_000, any, u64::MAX]),
+        _ => rng.pick(&[0, 1, 2, 3, 8, 400, 65_535, any]),
+    };
+    Edit::SpanField { span, field, value }
+}

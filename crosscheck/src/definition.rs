@@ -1,0 +1,210 @@
+//! The rules of 01 once more, each slot and span for itself, as the sentences have them.
+//!
+//! Slow (scaling sums a whole span anew for each of its slots): it is what `rules`
+//! is held against, in all but the largest books.
+
+use crate::head::{DIAL, Shape};
+use crate::rules::{Cells, Quality, Slot, Span, State};
+
+pub struct Definition<'a> {
+    shape: Shape,
+    cells: Cells<'a>,
+    /// The nearest delivered slot before and after each slot.
+    nearest: Vec<(Option<usize>, Option<usize>)>,
+    /// Value, quality and method of each slot before the step of the spans.
+    filled: Vec<(u64, Quality, u8)>,
+}
+
+impl<'a> Definition<'a> {
+    pub fn new(shape: Shape, cells: Cells<'a>) -> Definition<'a> {
+        let mut new = Definition {
+            shape,
+            cells,
+            nearest: nearest_delivered(cells.versions),
+            filled: Vec::new(),
+        };
+        new.filled = (0..shape.slots).map(|slot| new.fill(slot)).collect();
+        new
+    }
+
+    pub fn outcomes(&self) -> (Vec<Slot>, Vec<Span>) {
+        let spans = self.spans();
+        let slots = (0..self.shape.slots)
+            .map(|slot| self.outcome(slot, &spans))
+            .collect();
+        (slots, spans)
+    }
+
+    fn delivered(&self, slot: usize) -> bool {
+        self.cells.versions[slot] > 0
+    }
+
+    fn bit(&self, slot: usize, bit: u32) -> bool {
+        self.cells.statuses[slot] >> bit & 1 == 1
+    }
+
+    fn good(&self, slot: usize) -> bool {
+        let watts = u64::from(self.cells.values[slot]) * (60 / u64::from(self.shape.interval));
+        // L divides 60, so value × 60 > limit × L is value × (60 / L) > limit.
+        self.delivered(slot)
+            && !self.bit(slot, 0)
+            && !self.bit(slot, 2)
+            && watts <= u64::from(self.shape.limit)
+    }
+
+    /// The nearest delivered slots on both sides end a gap's longest unbroken run.
+    fn outage_zero(&self, slot: usize) -> bool {
+        let (before, after) = self.nearest[slot];
+        let outage = |end: Option<usize>| end.is_some_and(|end| self.bit(end, 1));
+        !self.delivered(slot) && (outage(before) || outage(after))
+    }
+
+    fn linear(&self, slot: usize) -> Option<u64> {
+        if slot == 0 || slot + 1 == self.shape.slots {
+            return None;
+        }
+        let value = |other: usize| u64::from(self.cells.values[other]);
+        (self.good(slot - 1) && self.good(slot + 1))
+            .then(|| (value(slot - 1) + value(slot + 1)) / 2)
+    }
+
+    fn same_day(&self, slot: usize) -> Option<u64> {
+        let position = slot % self.shape.slots_a_day;
+        let day = slot / self.shape.slots_a_day;
+        let mut sum = 0;
+        let mut found = 0;
+        let mut back = 7;
+        while back <= 364 && back <= day && found < 4 {
+            let earlier = (day - back) * self.shape.slots_a_day + position;
+            let holiday = self.cells.holidays[day - back] == 1;
+            if self.good(earlier) && !self.bit(earlier, 1) && !holiday {
+                sum += u64::from(self.cells.values[earlier]);
+                found += 1;
+            }
+            back += 7;
+        }
+        (found > 0).then(|| sum / found)
+    }
+
+    fn fill(&self, slot: usize) -> (u64, Quality, u8) {
+        if self.good(slot) {
+            (u64::from(self.cells.values[slot]), Quality::Actual, 0)
+        } else if self.outage_zero(slot) {
+            (0, Quality::Actual, 1)
+        } else if let Some(value) = self.linear(slot) {
+            (value, Quality::Substituted, 2)
+        } else if let Some(value) = self.same_day(slot) {
+            (value, Quality::Substituted, 3)
+        } else {
+            (0, Quality::None, 0)
+        }
+    }
+
+    fn spans(&self) -> Vec<Span> {
+        let read = |boundary: &usize| self.cells.read_versions[*boundary] > 0;
+        (0..self.shape.days)
+            .filter(read)
+            .filter_map(|first| {
+                let last = (first + 1..=self.shape.days).find(read)?;
+                Some(self.span(first, last))
+            })
+            .collect()
+    }
+
+    fn span(&self, first: usize, last: usize) -> Span {
+        let later = i64::from(self.cells.readings[last]);
+        let earlier = i64::from(self.cells.readings[first]);
+        let r = (later - earlier).rem_euclid(i64::from(DIAL));
+        let mut v = 0;
+        let mut substituted = false;
+        let mut none = false;
+        for slot in first * self.shape.slots_a_day..last * self.shape.slots_a_day {
+            match self.filled[slot] {
+                (value, Quality::Actual, _) => v += value as i64,
+                (_, Quality::Substituted, _) => substituted = true,
+                (_, Quality::None, _) => none = true,
+            }
+        }
+        let state = match (none, substituted) {
+            (true, _) => State::Open,
+            (false, true) if r >= v => State::Scaled,
+            (false, false) if (r - v).abs() <= i64::from(self.shape.tolerance) => State::Agrees,
+            _ => State::Disagrees,
+        };
+        Span {
+            first,
+            last,
+            advance: r as u32,
+            state,
+        }
+    }
+
+    fn outcome(&self, slot: usize, spans: &[Span]) -> Slot {
+        let day = slot / self.shape.slots_a_day;
+        let (value, quality, method) = self.filled[slot];
+        let scaled = spans
+            .iter()
+            .find(|span| (span.first..span.last).contains(&day) && span.state == State::Scaled);
+        match scaled {
+            Some(span) if quality == Quality::Substituted => Slot {
+                value: self.scaled(slot, span),
+                quality,
+                method: method + 16,
+            },
+            _ => Slot {
+                value: value as u32,
+                quality,
+                method,
+            },
+        }
+    }
+
+    /// floor(T × C / E) − floor(T × P / E).
+    fn scaled(&self, slot: usize, span: &Span) -> u32 {
+        let mut t = u128::from(span.advance);
+        let (mut e, mut c, mut p) = (0, 0, 0);
+        // The same three sums with each e counted as 1.
+        let (mut e1, mut c1, mut p1) = (0, 0, 0);
+        for other in span.first * self.shape.slots_a_day..span.last * self.shape.slots_a_day {
+            let (value, quality, _) = self.filled[other];
+            let value = u128::from(value);
+            if quality == Quality::Actual {
+                t -= value;
+                continue;
+            }
+            e += value;
+            e1 += 1;
+            if other <= slot {
+                c += value;
+                c1 += 1;
+            }
+            if other < slot {
+                p += value;
+                p1 += 1;
+            }
+        }
+        if e == 0 {
+            (e, c, p) = (e1, c1, p1);
+        }
+        (t * c / e - t * p / e) as u32
+    }
+}
+
+fn nearest_delivered(versions: &[u32]) -> Vec<(Option<usize>, Option<usize>)> {
+    let mut nearest = vec![(None, None); versions.len()];
+    for i in 1..versions.len() {
+        nearest[i].0 = if versions[i - 1] > 0 {
+            Some(i - 1)
+        } else {
+            nearest[i - 1].0
+        };
+    }
+    for i in (1..versions.len()).rev() {
+        nearest[i - 1].1 = if versions[i] > 0 {
+            Some(i)
+        } else {
+            nearest[i].1
+        };
+    }
+    nearest
+}

@@ -1,0 +1,161 @@
+//! The head of a book and the days it covers: 01, Opening.
+
+use crate::refusal;
+
+/// Day number of 2099-12-31; day 0 is 2000-01-01.
+pub const LAST_DAY: u32 = 36_524;
+/// The longest book.
+pub const MOST_DAYS: u32 = 400;
+/// The highest tolerance in Wh.
+pub const MOST_TOLERANCE: u32 = 1_000_000;
+/// An eight-digit dial shows 0 to `DIAL - 1`.
+pub const DIAL: u32 = 100_000_000;
+
+const MONTH_DAYS: [[u32; 12]; 2] = [
+    [31, 28, 31, 30, 31, 30, 31, 31, 30, 31, 30, 31],
+    [31, 29, 31, 30, 31, 30, 31, 31, 30, 31, 30, 31],
+];
+
+/// The head, as every call is given it; any numbers, in bounds or not.
+#[derive(Clone, Copy, Debug, PartialEq, Eq)]
+pub struct Head {
+    pub year: u32,
+    pub month: u32,
+    pub day: u32,
+    pub days: u32,
+    pub interval: u32,
+    pub kind: u32,
+    pub tolerance: u32,
+}
+
+/// What a head within Opening's bounds amounts to.
+#[derive(Clone, Copy, Debug, PartialEq, Eq)]
+pub struct Shape {
+    /// Day number of the first day.
+    pub first_day: u32,
+    /// D.
+    pub days: usize,
+    /// L in minutes.
+    pub interval: u32,
+    /// n = 1440 / L.
+    pub slots_a_day: usize,
+    /// N = n × D.
+    pub slots: usize,
+    /// Demand limit in W.
+    pub limit: u32,
+    /// t in Wh.
+    pub tolerance: u32,
+}
+
+impl Head {
+    /// The shape of a head in bounds; otherwise refused, 1.
+    pub fn shape(&self) -> Result<Shape, u8> {
+        let first_day = day_number(self.year, self.month, self.day).ok_or(refusal::HEAD)?;
+        let limit = demand_limit(self.kind).ok_or(refusal::HEAD)?;
+        if !days_fit(first_day, self.days)
+            || !interval_known(self.interval)
+            || self.tolerance > MOST_TOLERANCE
+        {
+            return Err(refusal::HEAD);
+        }
+        let slots_a_day = (1440 / self.interval) as usize;
+        let days = self.days as usize;
+        Ok(Shape {
+            first_day,
+            days,
+            interval: self.interval,
+            slots_a_day,
+            slots: slots_a_day * days,
+            limit,
+            tolerance: self.tolerance,
+        })
+    }
+}
+
+pub fn interval_known(interval: u32) -> bool {
+    matches!(interval, 5 | 15 | 30)
+}
+
+/// D is 1 to 400, and the last day is not after 2099-12-31.
+pub fn days_fit(first_day: u32, days: u32) -> bool {
+    (1..=MOST_DAYS).contains(&days) && first_day <= LAST_DAY && first_day + (days - 1) <= LAST_DAY
+}
+
+/// Kind 1 is single phase, kind 2 three phase (000, 4.1a).
+fn demand_limit(kind: u32) -> Option<u32> {
+    match kind {
+        1 => Some(40_000),
+        2 => Some(70_000),
+        _ => None,
+    }
+}
+
+fn is_leap(year: u32) -> bool {
+    year.is_multiple_of(4) && (!year.is_multiple_of(100) || year.is_multiple_of(400))
+}
+
+fn months_of(year: u32) -> &'static [u32; 12] {
+    &MONTH_DAYS[usize::from(is_leap(year))]
+}
+
+fn year_days(year: u32) -> u32 {
+    months_of(year).iter().sum()
+}
+
+/// The number of a day from 2000-01-01 to 2099-12-31; none for any other.
+pub fn day_number(year: u32, month: u32, day: u32) -> Option<u32> {
+    if !(2000..=2099).contains(&year) || !(1..=12).contains(&month) {
+        return None;
+    }
+    let months = months_of(year);
+    let month = month as usize - 1;
+    if !(1..=months[month]).contains(&day) {
+        return None;
+    }
+    // From 2000 to 2099 every fourth year is a leap year, 2000 the first.
+    let years = year - 2000;
+    let leap_days = years.div_ceil(4);
+    let before: u32 = months[..month].iter().sum();
+    Some(365 * years + leap_days + before + day - 1)
+}
+
+/// Year, month and day of a day number up to `LAST_DAY`.
+pub fn date(number: u32) -> (u32, u32, u32) {
+    let mut year = 2000;
+    let mut left = number;
+    while left >= year_days(year) {
+        left -= year_days(year);
+        year += 1;
+    }
+    let mut month = 0;
+    while left >= months_of(year)[month] {
+        left -= months_of(year)[month];
+        month += 1;
+    }
+    (year, month as u32 + 1, left + 1)
+}
+
+#[cfg(test)]
+mod tests {
+    use super::*;
+
+    #[test]
+    fn days_are_numbered_from_2000() {
+        assert_eq!(day_number(2000, 1, 1), Some(0));
+        assert_eq!(day_number(2000, 2, 29), Some(59));
+        assert_eq!(day_number(2024, 5, 1), Some(0x22B7));
+        assert_eq!(day_number(2099, 12, 31), Some(LAST_DAY));
+        assert_eq!(day_number(2001, 2, 29), None);
+        assert_eq!(day_number(1999, 12, 31), None);
+        assert_eq!(day_number(2100, 1, 1), None);
+        assert_eq!(day_number(u32::MAX, u32::MAX, u32::MAX), None);
+    }
+
+    #[test]
+    fn date_is_the_inverse() {
+        for number in 0..=LAST_DAY {
+            let (year, month, day) = date(number);
+            assert_eq!(day_number(year, month, day), Some(number));
+        }
+    }
+}

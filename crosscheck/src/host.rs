@@ -1,0 +1,359 @@
+//! The other build: `libhost.a`, behind safe functions. The only unsafe code.
+
+use crate::book::Filed;
+use crate::calls::Lists;
+use crate::head::Head;
+use crate::reader::Figures;
+use crate::side::{Answer, Delivery, RegisterRead, Side};
+
+unsafe extern "C" {
+    fn sawmauve_open(
+        year: u32,
+        month: u32,
+        day: u32,
+        days: u32,
+        interval: u32,
+        kind: u32,
+        tolerance: u32,
+        values: *mut u32,
+        values_len: usize,
+        versions: *mut u32,
+        versions_len: usize,
+        statuses: *mut u8,
+        statuses_len: usize,
+        holidays: *mut u8,
+        holidays_len: usize,
+        readings: *mut u32,
+        readings_len: usize,
+        read_versions: *mut u32,
+        read_versions_len: usize,
+    ) -> u32;
+
+    fn sawmauve_deliver(
+        year: u32,
+        month: u32,
+        day: u32,
+        days: u32,
+        interval: u32,
+        kind: u32,
+        tolerance: u32,
+        values: *mut u32,
+        values_len: usize,
+        versions: *mut u32,
+        versions_len: usize,
+        statuses: *mut u8,
+        statuses_len: usize,
+        slot: u32,
+        version: u32,
+        value: u32,
+        status: u8,
+    ) -> u32;
+
+    fn sawmauve_holiday(
+        year: u32,
+        month: u32,
+        day: u32,
+        days: u32,
+        interval: u32,
+        kind: u32,
+        tolerance: u32,
+        holidays: *mut u8,
+        holidays_len: usize,
+        holiday: u32,
+    ) -> u32;
+
+    fn sawmauve_register(
+        year: u32,
+        month: u32,
+        day: u32,
+        days: u32,
+        interval: u32,
+        kind: u32,
+        tolerance: u32,
+        readings: *mut u32,
+        readings_len: usize,
+        read_versions: *mut u32,
+        read_versions_len: usize,
+        boundary: u32,
+        version: u32,
+        reading: u32,
+    ) -> u32;
+
+    fn sawmauve_publish(
+        year: u32,
+        month: u32,
+        day: u32,
+        days: u32,
+        interval: u32,
+        kind: u32,
+        tolerance: u32,
+        values: *const u32,
+        values_len: usize,
+        versions: *const u32,
+        versions_len: usize,
+        statuses: *const u8,
+        statuses_len: usize,
+        holidays: *const u8,
+        holidays_len: usize,
+        readings: *const u32,
+        readings_len: usize,
+        read_versions: *const u32,
+        read_versions_len: usize,
+        out: *mut u8,
+        out_len: usize,
+    ) -> u64;
+
+    fn sawmauve_read(file: *const u8, file_len: usize, figures: *mut u64, len: usize) -> u32;
+
+    fn sawmauve_tables(file: *const u8, file_len: usize) -> u64;
+}
+
+// Every pointer below is a slice's own, with that slice's length, and is not kept
+// by the callee: that is what the calls ask for.
+
+pub fn open(head: Head, lists: &mut Lists) -> u32 {
+    unsafe {
+        sawmauve_open(
+            head.year,
+            head.month,
+            head.day,
+            head.days,
+            head.interval,
+            head.kind,
+            head.tolerance,
+            lists.values.as_mut_ptr(),
+            lists.values.len(),
+            lists.versions.as_mut_ptr(),
+            lists.versions.len(),
+            lists.statuses.as_mut_ptr(),
+            lists.statuses.len(),
+            lists.holidays.as_mut_ptr(),
+            lists.holidays.len(),
+            lists.readings.as_mut_ptr(),
+            lists.readings.len(),
+            lists.read_versions.as_mut_ptr(),
+            lists.read_versions.len(),
+        )
+    }
+}
+
+pub fn deliver(
+    head: Head,
+    values: &mut [u32],
+    versions: &mut [u32],
+    statuses: &mut [u8],
+    delivery: Delivery,
+) -> u32 {
+    unsafe {
+        sawmauve_deliver(
+            head.year,
+            head.month,
+            head.day,
+            head.days,
+            head.interval,
+            head.kind,
+            head.tolerance,
+            values.as_mut_ptr(),
+            values.len(),
+            versions.as_mut_ptr(),
+            versions.len(),
+            statuses.as_mut_ptr(),
+            statuses.len(),
+            delivery.slot,
+            delivery.version,
+            delivery.value,
+            delivery.status,
+        )
+    }
+}
+
+pub fn holiday(head: Head, holidays: &mut [u8], day: u32) -> u32 {
+    unsafe {
+        sawmauve_holiday(
+            head.year,
+            head.month,
+            head.day,
+            head.days,
+            head.interval,
+            head.kind,
+            head.tolerance,
+            holidays.as_mut_ptr(),
+            holidays.len(),
+            day,
+        )
+    }
+}
+
+pub fn register(
+    head: Head,
+    readings: &mut [u32],
+    read_versions: &mut [u32],
+    read: RegisterRead,
+) -> u32 {
+    unsafe {
+        sawmauve_register(
+            head.year,
+            head.month,
+            head.day,
+            head.days,
+            head.interval,
+            head.kind,
+            head.tolerance,
+            readings.as_mut_ptr(),
+            readings.len(),
+            read_versions.as_mut_ptr(),
+            read_versions.len(),
+            read.boundary,
+            read.version,
+            read.reading,
+        )
+    }
+}
+
+pub fn publish(head: Head, lists: &Lists, out: &mut [u8]) -> u64 {
+    unsafe {
+        sawmauve_publish(
+            head.year,
+            head.month,
+            head.day,
+            head.days,
+            head.interval,
+            head.kind,
+            head.tolerance,
+            lists.values.as_ptr(),
+            lists.values.len(),
+            lists.versions.as_ptr(),
+            lists.versions.len(),
+            lists.statuses.as_ptr(),
+            lists.statuses.len(),
+            lists.holidays.as_ptr(),
+            lists.holidays.len(),
+            lists.readings.as_ptr(),
+            lists.readings.len(),
+            lists.read_versions.as_ptr(),
+            lists.read_versions.len(),
+            out.as_mut_ptr(),
+            out.len(),
+        )
+    }
+}
+
+pub fn read(file: &[u8], figures: &mut [u64]) -> u32 {
+    unsafe {
+        sawmauve_read(
+            file.as_ptr(),
+            file.len(),
+            figures.as_mut_ptr(),
+            figures.len(),
+        )
+    }
+}
+
+pub fn tables(file: &[u8]) -> u64 {
+    unsafe { sawmauve_tables(file.as_ptr(), file.len()) }
+}
+
+/// The host as a side of the comparison.
+pub struct Host;
+
+/// What `figures` holds before the host's reader is called.
+const UNWRITTEN: u64 = 0xA5C3_96E1_5A3C_691E;
+
+/// None of 01's numbers: a refused file's figures were written all the same.
+pub const WRITTEN_ON_REFUSAL: u64 = 999;
+
+fn filed(code: u32) -> Answer {
+    match code {
+        0 => Answer::Filed(Filed::Stored),
+        100 => Answer::Filed(Filed::Late),
+        101 => Answer::Filed(Filed::Repeat),
+        number => Answer::Refused(number.into()),
+    }
+}
+
+impl Side for Host {
+    fn open(&self, head: Head, lists: &mut Lists) -> Answer {
+        match open(head, lists) {
+            0 => Answer::Done,
+            number => Answer::Refused(number.into()),
+        }
+    }
+
+    fn deliver(&self, head: Head, lists: &mut Lists, delivery: Delivery) -> Answer {
+        let Lists {
+            values,
+            versions,
+            statuses,
+            ..
+        } = lists;
+        filed(deliver(head, values, versions, statuses, delivery))
+    }
+
+    fn holiday(&self, head: Head, lists: &mut Lists, day: u32) -> Answer {
+        filed(holiday(head, &mut lists.holidays, day))
+    }
+
+    fn register(&self, head: Head, lists: &mut Lists, read: RegisterRead) -> Answer {
+        let Lists {
+            readings,
+            read_versions,
+            ..
+        } = lists;
+        filed(register(head, readings, read_versions, read))
+    }
+
+    fn publish(&self, head: Head, lists: &Lists, out: &mut [u8]) -> Answer {
+        match publish(head, lists, out) {
+            number @ 0..=31 => Answer::Refused(number),
+            length => Answer::Length(length),
+        }
+    }
+
+    fn read(&self, file: &[u8]) -> Result<Figures, u64> {
+        let mut figures = [UNWRITTEN; 8];
+        let number = read(file, &mut figures);
+        if number == 0 {
+            return Ok(figures_of(figures));
+        }
+        if figures == [UNWRITTEN; 8] {
+            Err(number.into())
+        } else {
+            Err(WRITTEN_ON_REFUSAL)
+        }
+    }
+
+    fn tables(&self, file: &[u8]) -> u64 {
+        tables(file)
+    }
+
+    /// A list of figures that is not 8 long is refused, 2, and not written.
+    fn keeps_convention(&self, file: &[u8]) -> bool {
+        [0, 1, 7, 9].into_iter().all(|len| {
+            let mut figures = [UNWRITTEN; 9];
+            read(file, &mut figures[..len]) == 2 && figures == [UNWRITTEN; 9]
+        })
+    }
+}
+
+fn figures_of(figures: [u64; 8]) -> Figures {
+    let [
+        first_day,
+        days,
+        interval,
+        spans,
+        actual,
+        substituted,
+        none,
+        sum,
+    ] = figures;
+    Figures {
+        first_day,
+        days,
+        interval,
+        spans,
+        actual,
+        substituted,
+        none,
+        sum,
+    }
+}

@@ -1,0 +1,31 @@
+//! A second build of the berth meter book, made from document 01 alone,
+//! and what is needed to compare it with another build.
+//!
+//! The build: `head`, `book`, `rules`, `file`, `reader`, `line`.
+//! What it is held against: `plain`, `definition`, `acceptance`, and `host` when linked.
+//! The comparison: `calls`, `random`, `heads`, `damage`, `side`, `run`, `shrink`, `counts`, `census`.
+#![deny(unsafe_code)]
+
+pub mod acceptance;
+pub mod book;
+pub mod calls;
+pub mod census;
+pub mod counts;
+pub mod damage;
+pub mod definition;
+pub mod file;
+pub mod head;
+pub mod heads;
+#[cfg(feature = "host")]
+#[allow(unsafe_code)]
+pub mod host;
+pub mod line;
+pub mod plain;
+pub mod random;
+pub mod reader;
+pub mod refusal;
+pub mod rng;
+pub mod rules;
+pub mod run;
+pub mod shrink;
+pub mod side;

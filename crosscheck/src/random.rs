@@ -1,0 +1,646 @@
+//! Random books: a head and a list of calls, from a seed.
+
+use crate::calls::{Act, Book, Call, List, Lists, Room};
+use crate::head::{DIAL, Head, Shape};
+use crate::heads;
+use crate::rng::Rng;
+use crate::rules::{self, OUTAGE, Quality, Slot};
+use crate::side::{Answer, Second, apply};
+
+/// A book gets at most about this many deliveries, so that most run in a moment.
+const MOST_DELIVERIES: usize = 3000;
+
+/// The `index`th book of a seed.
+pub fn book(seed: u64, index: u64) -> Book {
+    let mut rng = Rng::new(seed, index);
+    let (days, interval) = heads::size(&mut rng, index);
+    book_of(rng, days, interval)
+}
+
+/// The file of the `index`th small book of a seed.
+pub fn small_file(seed: u64, index: u64) -> Vec<u8> {
+    let mut rng = Rng::new(seed, index);
+    let days = rng.pick(&[1, 1, 2, 3, 8, 9, 15]);
+    let interval = if days == 1 {
+        rng.pick(&[5, 15, 30, 30])
+    } else {
+        30
+    };
+    let book = loop {
+        let book = book_of(rng.clone(), days, interval);
+        if book.head.shape().is_ok() {
+            break book;
+        }
+        rng.word();
+    };
+    let mut lists = Lists::unopened(book.slots, book.days);
+    let mut out = vec![0; 6 * book.slots + 10 * book.days + 32];
+    let mut file = Vec::new();
+    for call in book.calls.iter().filter(|call| call.resized.is_none()) {
+        let answer = apply(&Second, call, &mut lists, &mut out);
+        if let (Some(Answer::Length(length)), true) = (answer, file.is_empty()) {
+            file = out[..length as usize].to_vec();
+        }
+    }
+    file
+}
+
+fn book_of(mut rng: Rng, days: u32, interval: u32) -> Book {
+    let head = heads::random(&mut rng, days, interval);
+    let shape = head.shape().expect("a head made to be in bounds");
+    let mut maker = Maker {
+        rng,
+        head,
+        shape,
+        calls: Vec::new(),
+    };
+    if maker.rng.one_in(40) {
+        maker.refused_book()
+    } else {
+        maker.ordinary_book()
+    }
+}
+
+/// How the values of a book run.
+#[derive(Clone, Copy)]
+enum Profile {
+    Zero,
+    Tiny,
+    Flat(u32),
+    Daily,
+    Edge,
+    Any,
+}
+
+/// How a call comes again.
+#[derive(Clone, Copy, PartialEq, Eq)]
+enum Again {
+    Repeat,
+    OtherStatus,
+    OtherContent,
+    Late,
+    Newer,
+}
+
+struct Maker {
+    rng: Rng,
+    head: Head,
+    shape: Shape,
+    calls: Vec<Call>,
+}
+
+impl Maker {
+    fn call(&self, act: Act) -> Call {
+        Call {
+            head: self.head,
+            resized: None,
+            act,
+        }
+    }
+
+    fn push(&mut self, act: Act) {
+        self.calls.push(self.call(act));
+    }
+
+    fn insert_anywhere(&mut self, from: usize, call: Call) {
+        let at = from + self.rng.below(self.calls.len() - from + 1);
+        self.calls.insert(at, call);
+    }
+
+    fn finish(self) -> Book {
+        Book {
+            head: self.head,
+            slots: self.shape.slots,
+            days: self.shape.days,
+            calls: self.calls,
+        }
+    }
+
+    /// Every call is given the same head out of bounds.
+    fn refused_book(mut self) -> Book {
+        self.push(Act::Open);
+        self.wild_calls(12);
+        self.push(Act::Publish { room: Room::Exact });
+        self.head = heads::broken(&mut self.rng, self.head);
+        for call in &mut self.calls {
+            call.head = self.head;
+        }
+        self.finish()
+    }
+
+    fn ordinary_book(mut self) -> Book {
+        if self.rng.one_in(6) {
+            self.wild_calls(3);
+        }
+        if self.rng.one_in(5) {
+            let open = self.call(Act::Open);
+            let refused = self.refusable(open);
+            self.calls.push(refused);
+        }
+        self.push(Act::Open);
+        let opened = self.calls.len();
+        self.deliveries();
+        self.holidays(opened);
+        self.registers(opened);
+        self.wild_calls_among(opened);
+        self.publishing(opened);
+        if self.rng.one_in(6) {
+            self.corruption();
+        }
+        self.finish()
+    }
+
+    // Deliveries
+
+    fn deliveries(&mut self) {
+        let delivered = self.delivered_slots();
+        let profile = self.profile();
+        let failing = self.rng.pick(&[0, 0, 100, 30, 8]);
+        let outages = self.rng.pick(&[0, 0, 1, 2, 4]);
+        let repeating = self.rng.pick(&[0, 40, 15]);
+        let mut order: Vec<usize> = (0..delivered.len()).filter(|&i| delivered[i]).collect();
+        match self.rng.below(6) {
+            0 => order.reverse(),
+            1 => self.rng.shuffle(&mut order),
+            _ => {}
+        }
+        for slot in order {
+            let value = self.value(profile, slot);
+            let beside_gap = slot > 0 && !delivered[slot - 1]
+                || slot + 1 < delivered.len() && !delivered[slot + 1];
+            let mut status = 0;
+            if beside_gap && self.rng.one_in(outages) {
+                status |= OUTAGE;
+            }
+            if self.rng.one_in(failing) {
+                status |= self.rng.below(8) as u8;
+            }
+            let version = self.rng.pick(&[1, 1, 1, 2, 3, 7, u32::MAX]);
+            let act = Act::Deliver {
+                slot: slot as u32,
+                version,
+                value,
+                status,
+            };
+            self.push(act);
+            if self.rng.one_in(repeating) {
+                let again = self.again(act);
+                self.push(again);
+            }
+        }
+    }
+
+    /// Which slots get a delivery at all.
+    fn delivered_slots(&mut self) -> Vec<bool> {
+        let (slots, n) = (self.shape.slots, self.shape.slots_a_day);
+        let mut delivered = vec![true; slots];
+        if self.rng.one_in(25) {
+            delivered.fill(false);
+            return delivered;
+        }
+        self.keep_some_days(&mut delivered);
+        let most = if self.rng.one_in(12) {
+            6 * MOST_DELIVERIES
+        } else {
+            MOST_DELIVERIES
+        };
+        if delivered.iter().filter(|&&d| d).count() > most || self.rng.one_in(10) {
+            // A few positions of every day that is left.
+            let width = (most / self.shape.days).clamp(1, n);
+            let width = 1 + self.rng.below(width);
+            let start = self.rng.below(n);
+            for (slot, delivered) in delivered.iter_mut().enumerate() {
+                *delivered &= (slot + n - start) % n < width;
+            }
+        }
+        self.lose_slots(&mut delivered);
+        delivered
+    }
+
+    fn keep_some_days(&mut self, delivered: &mut [bool]) {
+        let n = self.shape.slots_a_day;
+        let early = 1 + self.rng.below(self.shape.days.min(9));
+        let ways = if self.shape.days > 364 { 2 } else { 6 };
+        match self.rng.below(ways) {
+            0 => {
+                // The first days only, so that references lie far back.
+                let late = self.rng.below(3);
+                for (day, slots) in delivered.chunks_mut(n).enumerate() {
+                    let last_day = day + 1 == self.shape.days;
+                    slots.fill(day < early || last_day && late == 0);
+                }
+            }
+            2 => {
+                for slots in delivered.chunks_mut(n) {
+                    slots.fill(self.rng.one_in(2));
+                }
+            }
+            _ => {}
+        }
+    }
+
+    fn lose_slots(&mut self, delivered: &mut [bool]) {
+        let slots = delivered.len();
+        match self.rng.below(8) {
+            0 => {}
+            1 => (0..slots)
+                .step_by(2)
+                .for_each(|slot| delivered[slot] = false),
+            _ => {
+                let singles = self.rng.pick(&[0, 3, 10, 50]);
+                for delivered in delivered.iter_mut() {
+                    *delivered &= !self.rng.one_in(singles);
+                }
+                for _ in 0..self.rng.below(5) {
+                    let start = self.rng.below(slots);
+                    let len = 1 + self.rng.below(self.shape.slots_a_day * 2);
+                    delivered[start..slots.min(start + len)].fill(false);
+                }
+                for _ in 0..self.rng.below(3) {
+                    let start = self.rng.below(slots);
+                    delivered[start..slots.min(start + 3)].fill(false);
+                }
+            }
+        }
+        if self.rng.one_in(4) {
+            let len = 1 + self.rng.below(6);
+            delivered[..len].fill(false);
+        }
+        if self.rng.one_in(4) {
+            let len = 1 + self.rng.below(6);
+            delivered[slots - len..].fill(false);
+        }
+    }
+
+    /// The highest value that passes the demand test.
+    fn most(&self) -> u32 {
+        self.shape.limit * self.shape.interval / 60
+    }
+
+    fn profile(&mut self) -> Profile {
+        let flat = self.rng.between(0, self.most());
+        self.rng.pick(&[
+            Profile::Zero,
+            Profile::Tiny,
+            Profile::Flat(flat),
+            Profile::Daily,
+            Profile::Daily,
+            Profile::Daily,
+            Profile::Edge,
+            Profile::Any,
+        ])
+    }
+
+    fn value(&mut self, profile: Profile, slot: usize) -> u32 {
+        let most = self.most();
+        if self.rng.one_in(400) {
+            return self.rng.pick(&[most + 1, u32::MAX, u32::MAX / 60 + 1]);
+        }
+        match profile {
+            Profile::Zero => 0,
+            Profile::Tiny => self.rng.between(0, 3),
+            Profile::Flat(value) => value,
+            Profile::Daily => {
+                let position = (slot % self.shape.slots_a_day) as u32;
+                position * 3 + self.rng.between(0, most / 4)
+            }
+            Profile::Edge => self.rng.pick(&[most, most, most, most - 1, most + 1]),
+            Profile::Any => self.rng.between(0, most),
+        }
+    }
+
+    /// A repeat, a late version, a conflict or a newer version of a call.
+    fn again(&mut self, act: Act) -> Act {
+        let way = self.rng.pick(&[
+            Again::Repeat,
+            Again::OtherStatus,
+            Again::OtherContent,
+            Again::Late,
+            Again::Newer,
+        ]);
+        let again = |version: u32| match way {
+            Again::Late => version.saturating_sub(1),
+            Again::Newer => version.saturating_add(1),
+            _ => version,
+        };
+        let same = matches!(way, Again::Repeat | Again::OtherStatus);
+        match act {
+            Act::Deliver {
+                slot,
+                version,
+                value,
+                status,
+            } => Act::Deliver {
+                slot,
+                version: again(version),
+                value: if same { value } else { value ^ 2 },
+                status: status ^ u8::from(way == Again::OtherStatus),
+            },
+            Act::Register {
+                boundary,
+                version,
+                reading,
+            } => Act::Register {
+                boundary,
+                version: again(version),
+                reading: if same { reading } else { reading ^ 1 },
+            },
+            other => other,
+        }
+    }
+
+    // Holidays and registers
+
+    fn holidays(&mut self, opened: usize) {
+        let days = self.shape.days;
+        let many = self.rng.pick(&[0, 1, 3, days / 3, days]);
+        for _ in 0..many {
+            let day = self.rng.below(days) as u32;
+            let call = self.call(Act::Holiday { day });
+            self.insert_anywhere(opened, call);
+        }
+    }
+
+    fn registers(&mut self, opened: usize) {
+        let boundaries = self.boundaries();
+        let filled = self.filled_so_far();
+        let mut reading = self.rng.word() % DIAL;
+        reading = self.rng.pick(&[0, DIAL - 1, DIAL - 10, reading, reading]);
+        let mut acts = Vec::new();
+        for (i, &boundary) in boundaries.iter().enumerate() {
+            if i > 0 {
+                let range = rules::span_slots(&self.shape, boundaries[i - 1], boundary);
+                let advance = self.advance(&filled[range]);
+                reading = (reading + advance) % DIAL;
+            }
+            let act = Act::Register {
+                boundary: boundary as u32,
+                version: self.rng.pick(&[1, 1, 2, 5, u32::MAX]),
+                reading,
+            };
+            acts.push(act);
+            if self.rng.one_in(6) {
+                acts.push(self.again(act));
+            }
+        }
+        for act in acts {
+            let call = self.call(act);
+            self.insert_anywhere(opened, call);
+        }
+    }
+
+    fn boundaries(&mut self) -> Vec<usize> {
+        let days = self.shape.days;
+        match self.rng.below(7) {
+            0 => Vec::new(),
+            1 => vec![self.rng.below(days + 1)],
+            2 => vec![0, days],
+            3 => (0..=days).step_by(7).collect(),
+            4 => (0..=days).collect(),
+            _ => (0..=days).filter(|_| self.rng.one_in(3)).collect(),
+        }
+    }
+
+    /// The slots as the calls so far would be filled, for choosing register reads.
+    fn filled_so_far(&self) -> Vec<Slot> {
+        let mut lists = Lists::zeroed(self.shape.slots, self.shape.days);
+        for call in &self.calls {
+            let usual = call.head == self.head && call.resized.is_none();
+            if usual && matches!(call.act, Act::Deliver { .. } | Act::Holiday { .. }) {
+                apply(&Second, call, &mut lists, &mut []);
+            }
+        }
+        let cells = lists.cells();
+        let causes = rules::causes(&self.shape, &cells);
+        rules::fill(&self.shape, &cells, &causes)
+    }
+
+    /// R for a span of these slots: at and around the edges of each state.
+    fn advance(&mut self, slots: &[Slot]) -> u32 {
+        let v = rules::actual_sum(slots);
+        let t = u64::from(self.shape.tolerance);
+        let e: u64 = slots
+            .iter()
+            .filter(|slot| slot.quality == Quality::Substituted)
+            .map(|slot| u64::from(slot.value))
+            .sum();
+        let share = u64::from(self.rng.between(0, 200));
+        let r = match self.rng.below(14) {
+            0 => v,
+            1 => v + t,
+            2 => v + t + 1,
+            3 => v.saturating_sub(t),
+            4 => v.saturating_sub(t + 1),
+            5 => v.saturating_sub(1),
+            6 => v + 1,
+            7 => 0,
+            8 => u64::from(self.rng.word() % DIAL),
+            9 => v + e,
+            _ => v + e * share / 100 + self.rng.below(10) as u64,
+        };
+        (r % u64::from(DIAL)) as u32
+    }
+
+    // Calls that are mostly refused
+
+    fn wild_calls_among(&mut self, opened: usize) {
+        for _ in 0..self.rng.below(12) {
+            let call = self.wild_call();
+            self.insert_anywhere(opened, call);
+        }
+        if self.rng.one_in(3) {
+            let open = self.call(Act::Open);
+            let refused = self.refusable(open);
+            self.insert_anywhere(opened, refused);
+        }
+        if self.rng.one_in(30) {
+            let open = self.call(Act::Open);
+            self.insert_anywhere(opened, open);
+        }
+    }
+
+    fn wild_calls(&mut self, many: usize) {
+        for _ in 0..many {
+            let call = self.wild_call();
+            self.calls.push(call);
+        }
+    }
+
+    /// A filling call or publishing with any arguments, a strange head or list now and then.
+    fn wild_call(&mut self) -> Call {
+        let act = self.wild_act();
+        let call = self.call(act);
+        if self.rng.one_in(3) {
+            self.refusable(call)
+        } else {
+            call
+        }
+    }
+
+    /// The same call with another head, a list of another length, or both.
+    fn refusable(&mut self, mut call: Call) -> Call {
+        match self.rng.below(5) {
+            0 => call.head = heads::broken(&mut self.rng, call.head),
+            1 => call.head = heads::other(&mut self.rng, call.head),
+            2 => {
+                call.head = heads::broken(&mut self.rng, call.head);
+                call.resized = self.wrong_list(call.act);
+            }
+            _ => call.resized = self.wrong_list(call.act),
+        }
+        // An opening must be refused here, or it would end the book so far.
+        if call.act == Act::Open && call.head.shape().is_ok() {
+            call.resized = self.wrong_list(call.act);
+        }
+        call
+    }
+
+    fn wrong_list(&mut self, act: Act) -> Option<(List, usize)> {
+        let list = self.rng.pick(act.lent());
+        let len = match list {
+            List::Values | List::Versions | List::Statuses => self.shape.slots,
+            List::Holidays => self.shape.days,
+            List::Readings | List::ReadVersions => self.shape.days + 1,
+        };
+        let day = self.shape.slots_a_day;
+        Some((
+            list,
+            self.rng
+                .pick(&[len - 1, len + 1, 0, len / 2, len + day, 2 * len]),
+        ))
+    }
+
+    fn wild_act(&mut self) -> Act {
+        let (slots, days) = (self.shape.slots as u32, self.shape.days as u32);
+        let rng = &mut self.rng;
+        let version = {
+            let any = rng.word();
+            rng.pick(&[0, 1, 1, 2, 3, u32::MAX, any])
+        };
+        match rng.below(8) {
+            0..=2 => {
+                let slot = rng.below(slots as usize) as u32;
+                Act::Deliver {
+                    slot: rng.pick(&[slot, slot, 0, slots - 1, slots, slots + 1, u32::MAX]),
+                    version,
+                    value: rng.pick(&[0, 1, 100, 40_000, u32::MAX]),
+                    status: rng.pick(&[0, 0, 1, 2, 4, 7, 8, 9, 255]),
+                }
+            }
+            3 | 4 => {
+                let day = rng.below(days as usize) as u32;
+                Act::Holiday {
+                    day: rng.pick(&[day, day, days - 1, days, days + 1, u32::MAX]),
+                }
+            }
+            5 | 6 => {
+                let boundary = rng.below(days as usize + 1) as u32;
+                Act::Register {
+                    boundary: rng.pick(&[boundary, boundary, days, days + 1, u32::MAX]),
+                    version,
+                    reading: rng.pick(&[0, 5, DIAL - 1, DIAL, DIAL + 1, u32::MAX]),
+                }
+            }
+            _ => Act::Publish {
+                room: rng.pick(&[Room::Exact, Room::Under(1), Room::Of(0), Room::Over(9)]),
+            },
+        }
+    }
+
+    // Publishing
+
+    fn publishing(&mut self, opened: usize) {
+        if self.rng.one_in(4) && self.calls.len() < 2000 {
+            let call = self.call(Act::Publish { room: Room::Exact });
+            self.insert_anywhere(opened, call);
+        }
+        if self.rng.one_in(4) {
+            let room = self.rng.pick(&[
+                Room::Under(1),
+                Room::Under(10),
+                Room::Under(33),
+                Room::Of(31),
+                Room::Of(0),
+            ]);
+            self.push(Act::Publish { room });
+        }
+        let more = self.rng.below(100);
+        let room = self
+            .rng
+            .pick(&[Room::Exact, Room::Over(1), Room::Over(more)]);
+        self.push(Act::Publish { room });
+    }
+
+    /// Cells no calls could leave, the calls that meet them, and a new opening.
+    fn corruption(&mut self) {
+        let slot = self.rng.below(self.shape.slots);
+        let day = self.rng.below(self.shape.days);
+        let boundary = self.rng.below(self.shape.days + 1);
+        let byte = u32::from(self.rng.byte());
+        let word = self.rng.word();
+        let (list, index, value) = match self.rng.below(10) {
+            0 => (List::Statuses, slot, 8 + byte % 248),
+            1 => (List::Statuses, slot, 8),
+            2 => (List::Versions, slot, 0),
+            3 => (List::Values, slot, word),
+            4 => (List::Statuses, slot, byte % 8),
+            5 => (List::Holidays, day, 2 + byte % 254),
+            6 => (List::Readings, boundary, over_the_dial(word)),
+            7 => (List::ReadVersions, boundary, 0),
+            8 => (List::Readings, boundary, 1),
+            _ => (List::Holidays, day, 2),
+        };
+        self.push(Act::Write { list, index, value });
+        for version in [1, 2, 0, u32::MAX] {
+            let status = self.rng.pick(&[0, 0, 8]);
+            let reading = self.rng.pick(&[0, 1, DIAL]);
+            self.push(match list {
+                List::Values | List::Versions | List::Statuses => Act::Deliver {
+                    slot: slot as u32,
+                    version,
+                    value: word,
+                    status,
+                },
+                List::Holidays => Act::Holiday { day: day as u32 },
+                List::Readings | List::ReadVersions => Act::Register {
+                    boundary: boundary as u32,
+                    version,
+                    reading,
+                },
+            });
+        }
+        self.push(Act::Publish { room: Room::Exact });
+        self.push(Act::Publish { room: Room::Of(5) });
+        self.wild_calls(3);
+        if self.rng.one_in(2) {
+            self.push(Act::Open);
+            self.wild_calls(3);
+            self.push(Act::Publish { room: Room::Exact });
+        }
+    }
+}
+
+/// A reading over the dial.
+fn over_the_dial(word: u32) -> u32 {
+    DIAL.saturating_add(word % 3)
+}
+
+#[cfg(test)]
+mod tests {
+    use super::*;
+
+    #[test]
+    fn a_seed_gives_the_same_book() {
+        let (one, two) = (book(5, 9), book(5, 9));
+        assert_eq!(one.calls, two.calls);
+        assert_ne!(one.calls, book(6, 9).calls);
+    }
+
+    #[test]
+    fn small_files_are_accepted() {
+        for index in 0..40 {
+            let file = small_file(3, index);
+            assert!(crate::reader::read(&file).is_ok(), "{index}");
+        }
+    }
+}

@@ -1,0 +1,13 @@
+//! 01, Numbers of a refusal.
+
+pub const HEAD: u8 = 1;
+pub const LENGTH: u8 = 2;
+pub const PLACE: u8 = 3;
+pub const VERSION: u8 = 4;
+pub const STATUS: u8 = 5;
+pub const READING: u8 = 6;
+pub const BUFFER: u8 = 7;
+pub const LAYOUT: u8 = 8;
+pub const CONTENT: u8 = 9;
+pub const CONFLICT: u8 = 10;
+pub const CELL: u8 = 11;

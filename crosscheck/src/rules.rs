@@ -1,0 +1,264 @@
+//! 01, Tests of a slot, Filling and Spans: from the cells to the outcomes.
+
+use std::ops::Range;
+
+use crate::head::{DIAL, Shape};
+
+pub const TIME_CHANGE: u8 = 1;
+pub const OUTAGE: u8 = 2;
+pub const PARTIAL: u8 = 4;
+
+/// Added to a method when its span was scaled.
+pub const SCALED: u8 = 16;
+
+/// The cells of a book, of the lengths its head asks for.
+#[derive(Clone, Copy, Debug)]
+pub struct Cells<'a> {
+    pub values: &'a [u32],
+    pub versions: &'a [u32],
+    pub statuses: &'a [u8],
+    pub holidays: &'a [u8],
+    pub readings: &'a [u32],
+    pub read_versions: &'a [u32],
+}
+
+#[derive(Clone, Copy, Debug, PartialEq, Eq)]
+pub enum Cause {
+    Gap,
+    TimeChange,
+    Partial,
+    Demand,
+}
+
+#[derive(Clone, Copy, Debug, PartialEq, Eq)]
+pub enum Quality {
+    Actual,
+    Substituted,
+    None,
+}
+
+/// A slot's outcome.
+#[derive(Clone, Copy, Debug, PartialEq, Eq)]
+pub struct Slot {
+    pub value: u32,
+    pub quality: Quality,
+    pub method: u8,
+}
+
+#[derive(Clone, Copy, Debug, PartialEq, Eq)]
+pub enum State {
+    Agrees,
+    Scaled,
+    Open,
+    Disagrees,
+}
+
+/// A span's outcome.
+#[derive(Clone, Copy, Debug, PartialEq, Eq)]
+pub struct Span {
+    pub first: usize,
+    pub last: usize,
+    /// R.
+    pub advance: u32,
+    pub state: State,
+}
+
+/// The outcomes of all slots and spans.
+pub fn outcomes(shape: &Shape, cells: &Cells) -> (Vec<Slot>, Vec<Span>) {
+    let causes = causes(shape, cells);
+    let mut slots = fill(shape, cells, &causes);
+    let spans = advances(cells)
+        .into_iter()
+        .map(|(first, last, advance)| {
+            let part = &mut slots[span_slots(shape, first, last)];
+            let state = state(shape, part, advance);
+            if state == State::Scaled {
+                scale(part, advance);
+            }
+            Span {
+                first,
+                last,
+                advance,
+                state,
+            }
+        })
+        .collect();
+    (slots, spans)
+}
+
+/// The slots between two boundaries.
+pub fn span_slots(shape: &Shape, first: usize, last: usize) -> Range<usize> {
+    first * shape.slots_a_day..last * shape.slots_a_day
+}
+
+/// The first cause that applies to each slot; a slot without one is good.
+pub fn causes(shape: &Shape, cells: &Cells) -> Vec<Option<Cause>> {
+    (0..shape.slots)
+        .map(|i| cause(shape, cells.values[i], cells.versions[i], cells.statuses[i]))
+        .collect()
+}
+
+pub fn cause(shape: &Shape, value: u32, version: u32, status: u8) -> Option<Cause> {
+    if version == 0 {
+        Some(Cause::Gap)
+    } else if status & TIME_CHANGE != 0 {
+        Some(Cause::TimeChange)
+    } else if status & PARTIAL != 0 {
+        Some(Cause::Partial)
+    } else if u64::from(value) * 60 > u64::from(shape.limit) * u64::from(shape.interval) {
+        Some(Cause::Demand)
+    } else {
+        None
+    }
+}
+
+/// Every slot filled, before the step of the spans.
+pub fn fill(shape: &Shape, cells: &Cells, causes: &[Option<Cause>]) -> Vec<Slot> {
+    let outage_gaps = outage_gaps(cells, causes);
+    (0..shape.slots)
+        .map(|slot| {
+            if causes[slot].is_none() {
+                filled(cells.values[slot], Quality::Actual, 0)
+            } else if outage_gaps[slot] {
+                filled(0, Quality::Actual, 1)
+            } else if let Some(value) = linear(cells, causes, slot) {
+                filled(value, Quality::Substituted, 2)
+            } else if let Some(value) = mean(&references(shape, cells, causes, slot)) {
+                filled(value, Quality::Substituted, 3)
+            } else {
+                filled(0, Quality::None, 0)
+            }
+        })
+        .collect()
+}
+
+fn filled(value: u32, quality: Quality, method: u8) -> Slot {
+    Slot {
+        value,
+        quality,
+        method,
+    }
+}
+
+/// Rule 1: marks the gaps whose longest unbroken run has an outage just before or after.
+fn outage_gaps(cells: &Cells, causes: &[Option<Cause>]) -> Vec<bool> {
+    // A slot beside a longest run is no gap, so it was delivered.
+    let outage = |slot: usize| cells.statuses[slot] & OUTAGE != 0;
+    let is_gap = |slot: usize| causes[slot] == Some(Cause::Gap);
+    let mut marks = vec![false; causes.len()];
+    let mut start = 0;
+    while start < causes.len() {
+        let mut end = start;
+        while end < causes.len() && is_gap(end) {
+            end += 1;
+        }
+        let before = start > 0 && outage(start - 1);
+        let after = end < causes.len() && outage(end);
+        marks[start..end].fill(before || after);
+        // Slot `end` is delivered, so the next run begins after it.
+        start = end + 1;
+    }
+    marks
+}
+
+/// Rule 2: half the sum of both neighbours, where both exist and are good.
+fn linear(cells: &Cells, causes: &[Option<Cause>], slot: usize) -> Option<u32> {
+    let before = slot.checked_sub(1)?;
+    let after = slot + 1;
+    if after >= causes.len() || causes[before].is_some() || causes[after].is_some() {
+        return None;
+    }
+    let sum = u64::from(cells.values[before]) + u64::from(cells.values[after]);
+    Some((sum / 2) as u32)
+}
+
+/// Rule 3: up to four values of the same position, whole weeks earlier, nearest day first.
+pub fn references(shape: &Shape, cells: &Cells, causes: &[Option<Cause>], slot: usize) -> Vec<u32> {
+    (1..=52)
+        .map_while(|week| slot.checked_sub(week * 7 * shape.slots_a_day))
+        .filter(|&earlier| {
+            causes[earlier].is_none()
+                && cells.statuses[earlier] & OUTAGE == 0
+                && cells.holidays[earlier / shape.slots_a_day] == 0
+        })
+        .map(|earlier| cells.values[earlier])
+        .take(4)
+        .collect()
+}
+
+/// The mean rounded down; none of no values.
+pub fn mean(values: &[u32]) -> Option<u32> {
+    let sum: u64 = values.iter().map(|&value| u64::from(value)).sum();
+    sum.checked_div(values.len() as u64).map(|mean| mean as u32)
+}
+
+/// First boundary, last boundary and R between neighbouring boundaries that were read.
+fn advances(cells: &Cells) -> Vec<(usize, usize, u32)> {
+    let read: Vec<usize> = (0..cells.read_versions.len())
+        .filter(|&boundary| cells.read_versions[boundary] != 0)
+        .collect();
+    read.windows(2)
+        .map(|pair| {
+            let (first, last) = (pair[0], pair[1]);
+            (
+                first,
+                last,
+                advance(cells.readings[first], cells.readings[last]),
+            )
+        })
+        .collect()
+}
+
+/// (later − earlier) mod 100,000,000, of two readings of the dial.
+pub fn advance(earlier: u32, later: u32) -> u32 {
+    (later + DIAL - earlier) % DIAL
+}
+
+/// V: the sum of the A slots.
+pub fn actual_sum(slots: &[Slot]) -> u64 {
+    slots
+        .iter()
+        .filter(|slot| slot.quality == Quality::Actual)
+        .map(|slot| u64::from(slot.value))
+        .sum()
+}
+
+fn state(shape: &Shape, slots: &[Slot], advance: u32) -> State {
+    let has = |quality| slots.iter().any(|slot| slot.quality == quality);
+    let r = u64::from(advance);
+    let v = actual_sum(slots);
+    if has(Quality::None) {
+        State::Open
+    } else if has(Quality::Substituted) {
+        if r >= v {
+            State::Scaled
+        } else {
+            State::Disagrees
+        }
+    } else if r.abs_diff(v) <= u64::from(shape.tolerance) {
+        State::Agrees
+    } else {
+        State::Disagrees
+    }
+}
+
+/// Shares T = R − V out over the S slots by running sums, so that no Wh is lost.
+fn scale(slots: &mut [Slot], advance: u32) {
+    let t = u128::from(advance) - u128::from(actual_sum(slots));
+    let mut substituted: Vec<&mut Slot> = slots
+        .iter_mut()
+        .filter(|slot| slot.quality == Quality::Substituted)
+        .collect();
+    let mut e: Vec<u128> = substituted.iter().map(|s| u128::from(s.value)).collect();
+    if e.iter().sum::<u128>() == 0 {
+        e.fill(1);
+    }
+    let total: u128 = e.iter().sum();
+    let mut before = 0;
+    for (slot, e) in substituted.iter_mut().zip(e) {
+        let with = before + e;
+        slot.value = (t * with / total - t * before / total) as u32;
+        slot.method += SCALED;
+        before = with;
+    }
+}

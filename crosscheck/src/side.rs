@@ -1,0 +1,166 @@
+//! One build of the book, as the comparison sees it.
+
+use crate::book::{self, Filed};
+use crate::calls::{Act, Call, Lists};
+use crate::head::Head;
+use crate::reader::{self, Figures};
+
+#[derive(Clone, Copy, Debug, PartialEq, Eq)]
+pub enum Answer {
+    Done,
+    Filed(Filed),
+    Length(u64),
+    Refused(u64),
+}
+
+/// The calls of a build; the lists not lent to a call are not looked at.
+pub trait Side {
+    fn open(&self, head: Head, lists: &mut Lists) -> Answer;
+    fn deliver(&self, head: Head, lists: &mut Lists, delivery: Delivery) -> Answer;
+    fn holiday(&self, head: Head, lists: &mut Lists, day: u32) -> Answer;
+    fn register(&self, head: Head, lists: &mut Lists, read: RegisterRead) -> Answer;
+    fn publish(&self, head: Head, lists: &Lists, out: &mut [u8]) -> Answer;
+    fn read(&self, file: &[u8]) -> Result<Figures, u64>;
+    /// The length of the tables' part.
+    fn tables(&self, file: &[u8]) -> u64;
+    /// What else a side promises of its reader, beside 01.
+    fn keeps_convention(&self, _file: &[u8]) -> bool {
+        true
+    }
+}
+
+#[derive(Clone, Copy, Debug, PartialEq, Eq)]
+pub struct Delivery {
+    pub slot: u32,
+    pub version: u32,
+    pub value: u32,
+    pub status: u8,
+}
+
+#[derive(Clone, Copy, Debug, PartialEq, Eq)]
+pub struct RegisterRead {
+    pub boundary: u32,
+    pub version: u32,
+    pub reading: u32,
+}
+
+/// Makes one call; none for what is no call.
+pub fn apply(side: &dyn Side, call: &Call, lists: &mut Lists, out: &mut [u8]) -> Option<Answer> {
+    let head = call.head;
+    match call.act {
+        Act::Open => Some(side.open(head, lists)),
+        Act::Deliver {
+            slot,
+            version,
+            value,
+            status,
+        } => {
+            let delivery = Delivery {
+                slot,
+                version,
+                value,
+                status,
+            };
+            Some(side.deliver(head, lists, delivery))
+        }
+        Act::Holiday { day } => Some(side.holiday(head, lists, day)),
+        Act::Register {
+            boundary,
+            version,
+            reading,
+        } => {
+            let read = RegisterRead {
+                boundary,
+                version,
+                reading,
+            };
+            Some(side.register(head, lists, read))
+        }
+        Act::Publish { .. } => Some(side.publish(head, lists, out)),
+        Act::Write { list, index, value } => {
+            lists.write(list, index, value);
+            None
+        }
+    }
+}
+
+/// The second build itself.
+pub struct Second;
+
+pub fn filed_answer(result: Result<Filed, u8>) -> Answer {
+    match result {
+        Ok(filed) => Answer::Filed(filed),
+        Err(number) => Answer::Refused(number.into()),
+    }
+}
+
+impl Side for Second {
+    fn open(&self, head: Head, lists: &mut Lists) -> Answer {
+        let result = book::open(
+            head,
+            &mut lists.values,
+            &mut lists.versions,
+            &mut lists.statuses,
+            &mut lists.holidays,
+            &mut lists.readings,
+            &mut lists.read_versions,
+        );
+        match result {
+            Ok(()) => Answer::Done,
+            Err(number) => Answer::Refused(number.into()),
+        }
+    }
+
+    fn deliver(&self, head: Head, lists: &mut Lists, delivery: Delivery) -> Answer {
+        filed_answer(book::deliver(
+            head,
+            &mut lists.values,
+            &mut lists.versions,
+            &mut lists.statuses,
+            delivery.slot,
+            delivery.version,
+            delivery.value,
+            delivery.status,
+        ))
+    }
+
+    fn holiday(&self, head: Head, lists: &mut Lists, day: u32) -> Answer {
+        filed_answer(book::holiday(head, &mut lists.holidays, day))
+    }
+
+    fn register(&self, head: Head, lists: &mut Lists, read: RegisterRead) -> Answer {
+        filed_answer(book::register(
+            head,
+            &mut lists.readings,
+            &mut lists.read_versions,
+            read.boundary,
+            read.version,
+            read.reading,
+        ))
+    }
+
+    fn publish(&self, head: Head, lists: &Lists, out: &mut [u8]) -> Answer {
+        let result = book::publish(
+            head,
+            &lists.values,
+            &lists.versions,
+            &lists.statuses,
+            &lists.holidays,
+            &lists.readings,
+            &lists.read_versions,
+            out,
+        );
+        match result {
+            Ok(length) => Answer::Length(length as u64),
+            Err(number) => Answer::Refused(number.into()),
+        }
+    }
+
+    fn read(&self, file: &[u8]) -> Result<Figures, u64> {
+        reader::read(file).map_err(u64::from)
+    }
+
+    fn tables(&self, file: &[u8]) -> u64 {
+        reader::tables(file).len() as u64
+    }
+}

@@ -1,0 +1,108 @@
+/* The berth meter book for C: the seven exports of the crate host.
+ *
+ * A list is a pointer and its number of elements. The lists of one call must not overlap, and no other thread may write
+ * them meanwhile: the proofs rest on it. A refused call changes no list.
+ *
+ * Refusals, the same numbers in every call:
+ *    1  head outside its bounds
+ *    2  a lent list of the wrong length
+ *    3  slot >= N, day >= D or boundary > D
+ *    4  version 0
+ *    5  status over 7
+ *    6  reading over 99,999,999
+ *    7  output buffer shorter than the file
+ *    8  reader: length, distance or a trailer's head field or layout wrong
+ *    9  reader: anything else in the file broken
+ *   10  conflict: equal version, other content
+ *   11  a cell that no calls could leave
+ */
+#ifndef SAWMAUVE_H
+#define SAWMAUVE_H
+
+#include <stddef.h>
+#include <stdint.h>
+
+#ifdef __cplusplus
+extern "C" {
+#endif
+
+/* Codes of accepted calls; any other code is a refusal's number. */
+#define SAWMAUVE_DONE 0   /* opened, or the file is accepted */
+#define SAWMAUVE_STORED 0 /* the call is stored */
+#define SAWMAUVE_LATE 100 /* a lower version than the cell's: nothing changes */
+#define SAWMAUVE_REPEAT 101 /* an equal version with equal content: nothing changes */
+
+/* What is published is longer than every refusal's number. */
+#define SAWMAUVE_SHORTEST 32
+
+/* Places of the figures that sawmauve_read gives. */
+#define SAWMAUVE_FIRST 0       /* number of the first day, 0 for 2000-01-01 */
+#define SAWMAUVE_DAYS 1        /* D */
+#define SAWMAUVE_INTERVAL 2    /* L */
+#define SAWMAUVE_SPANS 3       /* M */
+#define SAWMAUVE_ACTUAL 4      /* count of A slots */
+#define SAWMAUVE_SUBSTITUTED 5 /* count of S slots */
+#define SAWMAUVE_NONE 6        /* count of N slots */
+#define SAWMAUVE_SUM 7         /* sum of all slot values, in Wh */
+#define SAWMAUVE_FIGURES 8     /* how many there are */
+
+/* The head, which every call of a book is given: first day, D (1 to 400), L (5, 15 or 30), kind (1 or 2), tolerance in Wh. */
+#define SAWMAUVE_HEAD \
+    uint32_t year, uint32_t month, uint32_t day, uint32_t days, uint32_t interval, uint32_t kind, uint32_t tolerance
+
+/* Opens a book: sets all cells to 0. values, versions and statuses are N = 1440 / L * D long, holidays D, readings and
+ * reads (the register versions) D + 1. 0, or 1 or 2. */
+uint32_t sawmauve_open(
+    SAWMAUVE_HEAD,
+    uint32_t *values, size_t values_len,
+    uint32_t *versions, size_t versions_len,
+    uint8_t *statuses, size_t statuses_len,
+    uint8_t *holidays, size_t holidays_len,
+    uint32_t *readings, size_t readings_len,
+    uint32_t *reads, size_t reads_len);
+
+/* A delivery for a slot. Status bits: 0 time change, 1 power outage, 2 partial interval. 0, 100 or 101, or 1 to 5, 10, 11. */
+uint32_t sawmauve_deliver(
+    SAWMAUVE_HEAD,
+    uint32_t *values, size_t values_len,
+    uint32_t *versions, size_t versions_len,
+    uint8_t *statuses, size_t statuses_len,
+    uint32_t slot, uint32_t version, uint32_t value, uint8_t status);
+
+/* A holiday: day `at` of the book, from 0. 0 or 101, or 1, 2, 3, 11. */
+uint32_t sawmauve_holiday(
+    SAWMAUVE_HEAD,
+    uint8_t *holidays, size_t holidays_len,
+    uint32_t at);
+
+/* A register read at a boundary, 0 to D. 0, 100 or 101, or 1 to 4, 6, 10, 11. */
+uint32_t sawmauve_register(
+    SAWMAUVE_HEAD,
+    uint32_t *readings, size_t readings_len,
+    uint32_t *reads, size_t reads_len,
+    uint32_t boundary, uint32_t version, uint32_t reading);
+
+/* Writes the file into the first bytes of out: its length, 6 N + 10 M + 32, or 1, 2, 7, 11. */
+uint64_t sawmauve_publish(
+    SAWMAUVE_HEAD,
+    const uint32_t *values, size_t values_len,
+    const uint32_t *versions, size_t versions_len,
+    const uint8_t *statuses, size_t statuses_len,
+    const uint8_t *holidays, size_t holidays_len,
+    const uint32_t *readings, size_t readings_len,
+    const uint32_t *reads, size_t reads_len,
+    uint8_t *out, size_t out_len);
+
+/* Reads a file: 0 and the figures; or 8 or 9, or 2 where figures_len is not 8, and the figures stay as they were. */
+uint32_t sawmauve_read(
+    const uint8_t *bytes, size_t bytes_len,
+    uint64_t *figures, size_t figures_len);
+
+/* How many of the file's first bytes are its two tables; 0 for a refused file. */
+uint64_t sawmauve_tables(const uint8_t *bytes, size_t bytes_len);
+
+#ifdef __cplusplus
+}
+#endif
+
+#endif
