@@ -49,15 +49,3 @@ module _ (h : Head) (b : Cells) (p : Packed) (r : ℕ) (a : Answer) (byte : r �
   registered readings reads n m e s u =
       rw (ne-eqb _ _ n, ne-eqb _ _ m)
       (byte ∙ ap answerCode e, λ t. record { slots = b .slots; holidays = b .holidays; readings = s t; readVersions = u t })
-
--- cells are equal where their six lists are
-pub same-cells : {b b' : Cells} → b .slots .values ≡ b' .slots .values → b .slots .versions ≡ b' .slots .versions
-    → b .slots .statuses ≡ b' .slots .statuses → b .holidays ≡ b' .holidays → b .readings ≡ b' .readings
-    → b .readVersions ≡ b' .readVersions → b ≡ b'
-same-cells values versions statuses holidays readings reads =
-    λ t. record {
-      slots = record { values = values t; versions = versions t; statuses = statuses t };
-      holidays = holidays t;
-      readings = readings t;
-      readVersions = reads t;
-    }

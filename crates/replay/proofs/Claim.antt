@@ -1,32 +1,31 @@
 -- What the calls answer and leave one after another is what the plain book says of the whole list.
-use mathlib.Core.Bool.{Bool, true, false, not, cond}
-use mathlib.Core.List.{List, [], _∷_, _++_, map}
+use mathlib.Core.Bool.{Bool, true, false, not}
+use mathlib.Core.List.{List, [], _∷_, map}
 use mathlib.Core.Path.{_≡_, refl, ap, _∙_}
-use Prim.Native.Nat.{ℕ, _/_}
+use Prim.Native.Nat.{ℕ}
 use native.Mathlib.Omega.{arith}
 use lib.Dec.{ltb}
-use lib.ListN.{length, drop}
-use borrow.Author.Tests.{eq-eqb, ne-eqb}
+use lib.ListN.{length}
 use Rattle.rules.specs.declared.Head.{Head}
 use Rattle.rules.specs.Opening.{Cells, headOk}
 use Rattle.rules.specs.Lists.{every}
 use Rattle.book.specs.Answers.{Answer, Rule, unless}
 use Rattle.book.specs.Answers.Answer.{done, refused}
 use Rattle.book.specs.Answers.Rule.{rule}
-use Rattle.book.specs.Cells.{cellsFit, cellsOk}
+use Rattle.book.specs.Cells.{cellsFit}
 use Rattle.book.specs.Opening.{openAnswer, openedIn, openAfter}
 use Rattle.book.specs.Filling.{answers as answersOf, afterAll}
 use Rattle.book.proofs.Agreement.{answers-agree, cells-agree}
 use Rattle.book.proofs.Soundness.{cells-sound}
 use Rattle.file.specs.declared.publish.Published.the-variants as published
-use Rattle.file.specs.Layout.{Content, fileOf}
-use Rattle.file.specs.Publishing.{published as publishedOf, fileLength, bytesAfter, publishAnswer, publishAfter}
+use Rattle.file.specs.Publishing.{fileLength, publishAnswer, publishAfter}
 use Rattle.replay.specs.declared.Replayed.{Replayed}
-use Rattle.replay.specs.declared.Replayed.the-variants.{Malformed, Refused, Length}
-use Rattle.replay.specs.Packing.{packedOk, unpack}
+use Rattle.replay.specs.declared.Replayed.the-variants.{Malformed, Refused}
+use Rattle.replay.specs.Packing.{unpack}
 use Rattle.replay.specs.Replaying.{packingOk, plainBook, isPlayed, lengthUnless, replayAnswer, answersAfter, cellsAfter, outAfter}
 use Rattle.book.specs.Answers.{answerCode}
 use Rattle.replay.specs.Inner.Playing.{publishedMeant}
+use Rattle.replay.proofs.Last.{told-last, bytes-last}
 
 -- opening is done exactly where neither rule is broken
 done-tests : (x y : Bool) → unless (rule 1 (not x) ∷ rule 2 (not y) ∷ []) done ≡ done → (x ≡ true) × (y ≡ true)
@@ -40,41 +39,17 @@ refused-tests true true n rules m e = let z : _≡_ {A = ℕ} 0 1 = cc in absurd
 refused-tests true false n rules m e = ((cc), refl)
 refused-tests false y n rules m e = ((cc), refl)
 
--- after sound calls publishing refuses only for a short buffer
-module _ (h : Head) (b : Cells) (out : List ℕ) (good : headOk h ≡ true) (fit : cellsFit h b ≡ true) (ok : cellsOk h b ≡ true) where
-  pub answer-last : publishAnswer h b out ≡ cond (ltb (length out) (fileLength h b)) (published.Refused 7) (published.Length (fileLength h b))
-  unfolding publishAnswer
-  answer-last = rw (good, fit, ok)
-
-  pub told-last : publishedMeant (publishAnswer h b out) ≡ cond (ltb (length out) (fileLength h b)) (Refused 7) (Length (fileLength h b))
-  told-last = rw answer-last (go (ltb (length out) (fileLength h b)) (fileLength h b))
-    where
-      go : (short : Bool) (n : ℕ) → publishedMeant (cond short (published.Refused 7) (published.Length n)) ≡ cond short (Refused 7) (Length n)
-      go true n = refl
-      go false n = refl
-
-  pub bytes-last : publishAfter h b out
-      ≡ cond (not (ltb (length out) (fileLength h b))) (fileOf (publishedOf h b) ++ drop (fileLength h b) out) out
-  unfolding publishAfter
-  bytes-last = rw answer-last (go (ltb (length out) (fileLength h b)) (fileLength h b) (publishedOf h b))
-    where
-      go : (short : Bool) (n : ℕ) (f : Content)
-          → bytesAfter (cond short (published.Refused 7) (published.Length n)) f out ≡ cond (not short) (fileOf f ++ drop n out) out
-      go true n f = refl
-      go false n f = refl
-
--- the two tests of a packing
-pub bad-words : (calls answers : List ℕ) → packedOk calls ≡ false → packingOk calls answers ≡ false
-unfolding packingOk
-bad-words calls answers e = rw e
-
-pub bad-count : (calls answers : List ℕ) → packedOk calls ≡ true → (length answers ≡ length calls / 5 → ⊥) → packingOk calls answers ≡ false
-unfolding packingOk
-bad-count calls answers e n = rw (e, ne-eqb _ _ n)
-
-pub good-packing : (calls answers : List ℕ) → packedOk calls ≡ true → length answers ≡ length calls / 5 → packingOk calls answers ≡ true
-unfolding packingOk
-good-packing calls answers e n = rw (e, eq-eqb _ _ n)
+-- cells are equal where their six lists are
+pub same-cells : {b b' : Cells} → b .slots .values ≡ b' .slots .values → b .slots .versions ≡ b' .slots .versions
+    → b .slots .statuses ≡ b' .slots .statuses → b .holidays ≡ b' .holidays → b .readings ≡ b' .readings
+    → b .readVersions ≡ b' .readVersions → b ≡ b'
+same-cells values versions statuses holidays readings reads =
+    λ t. record {
+      slots = record { values = values t; versions = versions t; statuses = statuses t };
+      holidays = holidays t;
+      readings = readings t;
+      readVersions = reads t;
+    }
 
 -- what the contract says
 pub record Meant (h : Head) (calls answers : List ℕ) (b : Cells) (out : List ℕ) (r : Replayed) (answers' : List ℕ) (b' : Cells)

@@ -27,7 +27,7 @@ use Rattle.file.specs.Publishing.{published, fileLength, bytesAfter, publishAns
 use Rattle.file.proofs.Content.{length-file}
 use Rattle.file.proofs.Lists.{length-upTo, getD-upTo, upTo-cong}
 use Rattle.file.proofs.Published.{files-equal}
-use Rattle.replay.proofs.Claim.{answer-last}
+use Rattle.replay.proofs.Last.{answer-last}
 use Rattle.replay.specs.Claim.{cellsOf, plainOf, plainFile, noSpan, SameOutcomes, AcceptedIn, Claim}
 
 -- the file's length as publishing computes it

@@ -1,4 +1,4 @@
--- Words five at a time: a call's words in front of the rest, and too few words.
+-- Words five at a time: a call's words in front of the rest, too few words, and the two tests of a packing.
 use mathlib.Core.Bool.{true, false, false≢true}
 use mathlib.Core.List.{List, [], _∷_}
 use mathlib.Core.Path.{_≡_, refl, _∙_}
@@ -9,8 +9,9 @@ use native.Mathlib.Omega.{arith}
 use lib.Dec.{eqb}
 use lib.ListN.{length, drop, getD, length-drop}
 use lib.Seq.{drop-cons, drop-length}
-use borrow.Author.Tests.{eqb-true, eqb-false}
+use borrow.Author.Tests.{eqb-true, eqb-false, eq-eqb, ne-eqb}
 use Rattle.rules.proofs.Logic.{and-parts, either}
+use Rattle.replay.specs.Replaying.{packingOk}
 use Rattle.replay.specs.Packing.{callOk, packed, packedOk, unpack}
 
 next-word : (l : List ℕ) (k m : ℕ) → m ≡ suc k → k < length l → drop k l ≡ getD l k 0 ∷ drop m l
@@ -65,3 +66,16 @@ all-words l n ok e =
     let five = five-each l ok in
     let same : n ≡ length (unpack l) = e ∙ rw five (mul-div-cancel-left (length (unpack l)) (omega arith)) in
     omega arith
+
+-- the two tests of a packing
+pub bad-words : (calls answers : List ℕ) → packedOk calls ≡ false → packingOk calls answers ≡ false
+unfolding packingOk
+bad-words calls answers e = rw e
+
+pub bad-count : (calls answers : List ℕ) → packedOk calls ≡ true → (length answers ≡ length calls / 5 → ⊥) → packingOk calls answers ≡ false
+unfolding packingOk
+bad-count calls answers e n = rw (e, ne-eqb _ _ n)
+
+pub good-packing : (calls answers : List ℕ) → packedOk calls ≡ true → length answers ≡ length calls / 5 → packingOk calls answers ≡ true
+unfolding packingOk
+good-packing calls answers e n = rw (e, eq-eqb _ _ n)

@@ -1,5 +1,5 @@
 // A whole list of calls in one call: opening, the filling calls in order, publishing (01, The plain book).
-pub mod packing;
+mod packing;
 mod playing;
 
 use book::Opened;
@@ -82,6 +82,7 @@ fn play_and_publish(
     ))
 }
 
+// A bad packing and a refused opening change nothing; a short buffer leaves `out` alone.
 pub fn replay(
     head: Head,
     calls: &[u32],

@@ -1,3 +1,4 @@
+-- `play_and_publish`: publishing is given the cells that the calls left.
 use mathlib.Core.Path.{ap, _∙_}
 use Rattle.rules.specs.Opening.{Cells}
 use Rattle.file.specs.Publishing.{publishAnswer, publishAfter}
@@ -41,12 +42,14 @@ same-length-8 c = search needs
 
 returns : tie.Need-returns
 returns c =
-    let a = c .before .before .before .before .before .before .before .before .before .before .before .before .before .before .before .before .before .before .before .before .before .before .before .before .before .before .before .before .before .before .before .before .before .before .before .before .before .before .before .before .before .before .args in
-    let same = c .before .before .before .before .before .before .before .before .before .before .before .before .before .before .before .before .before .before .before .before .before .before .before .before .before .play-all .ensures .1 in (
-      c .told .ensures ∙ ap publishedMeant (c .before .before .before .publish .ensures .0 ∙ ap (λ (b : Cells). publishAnswer (a .head) b (a .out .now)) same),
-      c .before .before .before .before .before .before .before .before .before .before .before .before .before .before .before .before .before .before .before .before .before .before .before .before .before .play-all .ensures .0,
+    let at-publish = c .before .before .before in
+    let at-play-all = at-publish .before .before .before .before .before .before .before .before .before .before .before .before .before .before .before .before .before .before .before .before .before .before in
+    let a = at-play-all .before .before .before .before .before .before .before .before .before .before .before .before .before .before .before .before .before .args in
+    let same = at-play-all .play-all .ensures .1 in (
+      c .told .ensures ∙ ap publishedMeant (at-publish .publish .ensures .0 ∙ ap (λ (b : Cells). publishAnswer (a .head) b (a .out .now)) same),
+      at-play-all .play-all .ensures .0,
       same,
-      c .before .before .before .publish .ensures .1 ∙ ap (λ (b : Cells). publishAfter (a .head) b (a .out .now)) same,
+      at-publish .publish .ensures .1 ∙ ap (λ (b : Cells). publishAfter (a .head) b (a .out .now)) same,
     )
 
 pub play-and-publish-spec : {M : Type 1} → statement M

@@ -1,11 +1,9 @@
-use Rattle.replay.proofs.Calls.{same-cells}
-use Rattle.replay.proofs.Claim.{bad-words, bad-count, good-packing}
+-- `replay`: a bad packing and a refused opening change nothing; else the calls and publishing are those of the plain book.
 use mathlib.Core.Path.{sym, ap, _∙_}
 use borrow.Author.Tests.{not-true, not-false}
-use Rattle.rules.specs.Inner.Lent.{slots, cells}
 use Rattle.book.specs.Answers.{openedMeant}
-use Rattle.replay.proofs.Words.{all-words}
-use Rattle.replay.proofs.Claim.{each, malformed, refused-open, played}
+use Rattle.replay.proofs.Claim.{same-cells, each, malformed, refused-open, played}
+use Rattle.replay.proofs.Words.{bad-words, bad-count, good-packing, all-words}
 use borrow.Author.Needs.{needs}
 use Rattle.replay.proofs.replay.Statement.{statement}
 use Rattle.replay.proofs.replay.Tie as tie
@@ -27,8 +25,9 @@ enum-told c = search needs
 
 play-and-publish-requires : tie.Need-play-and-publish-requires
 play-and-publish-requires c κs =
-    let ok = sym (c .before .before .before .before .before .before .before .before .before .before .before .before .before .before .before .before .before .before .before .before .before .before .before .before .before .before .before .before .before .before .before .packed-ok .ensures) ∙ not-false _ (c .before .before .before .before .before .before .before .before .before .before .before .before .before .before .before .before .before .before .before .before .before .before .before .before .before .before .before .before .before .before .if1 .left) in
-    (ok, all-words _ _ ok (c .before .before .before .before .before .before .before .before .before .before .before .before .before .before .before .before .before .before .before .before .before .before .before .before .before .before .before .before .before .if2 .left))
+    let at-if2 = c .before .before .before .before .before .before .before .before .before .before .before .before .before .before .before .before .before .before .before .before .before .before .before .before .before .before .before .before .before in
+    let ok = sym (at-if2 .before .before .packed-ok .ensures) ∙ not-false _ (at-if2 .before .if1 .left) in
+    (ok, all-words _ _ ok (at-if2 .if2 .left))
 
 enum-known-opened : tie.Need-enum-known-opened
 enum-known-opened c = search needs
@@ -59,9 +58,13 @@ same-length-8 c = search needs
 
 returns-3 : tie.Need-returns-3
 returns-3 c =
-    let e = c .before .before .before .before .before .before .before .before .before .before .before .before .before .before .before .before .before .before .before .before .before .before .before .before .before .before .before .before .before .before .before .before .before .before .before .before .before .before .before .«open» .ensures in
-    let good = good-packing _ _ (sym (c .before .before .before .before .before .before .before .before .before .before .before .before .before .before .before .before .before .before .before .before .before .before .before .before .before .before .before .before .before .before .before .before .before .before .before .before .before .before .before .before .before .before .before .before .before .before .before .before .packed-ok .ensures) ∙ not-false _ (c .before .before .before .before .before .before .before .before .before .before .before .before .before .before .before .before .before .before .before .before .before .before .before .before .before .before .before .before .before .before .before .before .before .before .before .before .before .before .before .before .before .before .before .before .before .before .before .if1 .left)) (c .before .before .before .before .before .before .before .before .before .before .before .before .before .before .before .before .before .before .before .before .before .before .before .before .before .before .before .before .before .before .before .before .before .before .before .before .before .before .before .before .before .before .before .before .before .before .if2 .left) in
-    each (played good (sym (e .0) ∙ ap openedMeant (c .before .before .before .before .before .before .before .before .before .before .before .before .before .before .before .before .before .before .before .before .before .before .before .before .before .enum-told .given .1)) (same-cells (e .1) (e .2) (e .3) (e .4) (e .5) (e .6)) (c .before .before .before .before .before .before .before .before .before .before .before .before .before .before .before .before .play-and-publish .ensures))
+    let at-play-and-publish = c .before .before .before .before .before .before .before .before .before .before .before .before .before .before .before .before in
+    let at-enum-told = at-play-and-publish .before .before .before .before .before .before .before .before .before in
+    let at-open = at-enum-told .before .before .before .before .before .before .before .before .before .before .before .before .before .before in
+    let at-if2 = at-open .before .before .before .before .before .before .before in
+    let e = at-open .«open» .ensures in
+    let good = good-packing _ _ (sym (at-if2 .before .before .packed-ok .ensures) ∙ not-false _ (at-if2 .before .if1 .left)) (at-if2 .if2 .left) in
+    each (played good (sym (e .0) ∙ ap openedMeant (at-enum-told .enum-told .given .1)) (same-cells (e .1) (e .2) (e .3) (e .4) (e .5) (e .6)) (at-play-and-publish .play-and-publish .ensures))
 
 same-length-9 : tie.Need-same-length-9
 same-length-9 c = search needs
@@ -83,8 +86,10 @@ same-length-14 c = search needs
 
 returns-4 : tie.Need-returns-4
 returns-4 c =
-    let e = c .before .before .before .before .before .before .before .before .before .before .before .before .before .before .before .«open» .ensures in
-    let good = good-packing _ _ (sym (c .before .before .before .before .before .before .before .before .before .before .before .before .before .before .before .before .before .before .before .before .before .before .before .before .packed-ok .ensures) ∙ not-false _ (c .before .before .before .before .before .before .before .before .before .before .before .before .before .before .before .before .before .before .before .before .before .before .before .if1 .left)) (c .before .before .before .before .before .before .before .before .before .before .before .before .before .before .before .before .before .before .before .before .before .before .if2 .left) in
+    let at-open = c .before .before .before .before .before .before .before .before .before .before .before .before .before .before .before in
+    let at-if2 = at-open .before .before .before .before .before .before .before in
+    let e = at-open .«open» .ensures in
+    let good = good-packing _ _ (sym (at-if2 .before .before .packed-ok .ensures) ∙ not-false _ (at-if2 .before .if1 .left)) (at-if2 .if2 .left) in
     each (refused-open good (sym (e .0) ∙ ap openedMeant (c .before .opened .given .1)) (same-cells (e .1) (e .2) (e .3) (e .4) (e .5) (e .6)))
 
 pub replay-spec : {M : Type 1} → statement M

@@ -1,3 +1,4 @@
+-- `told`: the case of one enum for that of the other.
 use mathlib.Core.Path.{sym, ap}
 use Rattle.replay.specs.Inner.Playing.{publishedMeant}
 use borrow.Author.Needs.{needs}

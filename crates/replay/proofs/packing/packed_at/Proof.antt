@@ -1,3 +1,4 @@
+-- `packing::packed_at`: five words stand in front of the rest.
 use Rattle.replay.proofs.Words.{next-words}
 use borrow.Author.Needs.{needs}
 use Rattle.replay.proofs.packing.packed_at.Statement.{statement}
@@ -46,7 +47,9 @@ shared-slice-read-t21 : tie.Need-shared-slice-read-t21
 shared-slice-read-t21 c = search needs
 
 returns : tie.Need-returns
-returns c = next-words (c .before .before .before .before .before .args .calls .now) (c .before .before .before .before .before .args .at) (c .before .before .before .before .before .pre)
+returns c =
+    let at-start = c .before .before .before .before .before in
+    next-words (at-start .args .calls .now) (at-start .args .at) (at-start .pre)
 
 pub packed-at-spec : {M : Type 1} → statement M
 packed-at-spec =

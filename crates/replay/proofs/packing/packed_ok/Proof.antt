@@ -1,17 +1,18 @@
-use borrow.Author.Needs.{needs}
+-- `packing::packed_ok`: before each turn the words that are left decide.
 use mathlib.Core.Path.{_≡_, refl, sym, ap, _∙_}
 use Prim.Native.Nat.{_≤_, _-_, zero-le}
 use native.Mathlib.Omega.{arith}
-use borrow.Author.Tests.{not-true, not-false}
 use lib.ListN.{length, drop}
+use borrow.Author.Tests.{not-true, not-false}
 use Rattle.replay.specs.Packing.{packedOk}
 use Rattle.replay.proofs.Words.{left-over}
-use Rattle.replay.proofs.packing.packed_ok.Statement.{statement}
-use Rattle.replay.proofs.packing.packed_ok.Tie as tie
 use Rattle.replay.proofs.packing.packed_ok.Reads as reads
 use Rattle.replay.proofs.packing.packed_ok.Lts as lts
 use Rattle.replay.proofs.packing.call_ok.Reads as call-ok-reads
 use Rattle.replay.proofs.packing.packed_at.Reads as packed-at-reads
+use borrow.Author.Needs.{needs}
+use Rattle.replay.proofs.packing.packed_ok.Statement.{statement}
+use Rattle.replay.proofs.packing.packed_ok.Tie as tie
 
 abbrev Inv-loop : tie.InvT-loop
 Inv-loop calls at₀ at = (at ≤ length calls) × (packedOk calls ≡ packedOk (drop at calls))

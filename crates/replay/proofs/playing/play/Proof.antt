@@ -1,13 +1,14 @@
+-- `playing::play`: the call of each kind is lent its own lists, and the others stay.
 use native.Mathlib.Omega.{arith}
-use Rattle.rules.specs.Inner.Lent.{slots, cells}
-use Rattle.book.specs.Answers.{filedMeant}
 use Rattle.replay.proofs.Calls.{status-fits, delivered, named, registered}
 use borrow.Author.Needs.{needs}
 use Rattle.replay.proofs.playing.play.Statement.{statement}
 use Rattle.replay.proofs.playing.play.Tie as tie
 
 cast-status : tie.Need-cast-status
-cast-status c = let s = status-fits (c .before .before .before .before .before .before .before .before .before .args .call) (c .before .if1 .taken) ((c .before .before .before .before .before .before .before .before .before) .pre) in omega arith
+cast-status c =
+    let at-start = c .before .before .before .before .before .before .before .before .before in
+    let s = status-fits (at-start .args .call) (c .before .if1 .taken) (at-start .pre) in omega arith
 
 deliver-requires : tie.Need-deliver-requires
 deliver-requires c κs = search needs
@@ -26,10 +27,10 @@ same-length-3 c = search needs
 
 returns : tie.Need-returns
 returns c =
-    let a = c .before .before .before .before .before .before .before .before .before .before .before .before .before .before .before .before .before .before .before .before .args in
-    let b = cells (slots (a .values .now) (a .versions .now) (a .statuses .now)) (a .holidays .now) (a .readings .now) (a .reads .now) in
-    let e = c .before .before .before .before .before .before .before .deliver .ensures in
-    delivered (a .head) b (a .call) (c .byte-of .result) (filedMeant (c .before .before .before .before .before .before .before .deliver .result)) (c .byte-of .ensures) _ _ _ (c .before .before .before .before .before .before .before .before .before .before .before .before .if1 .taken) (e .0)
+    let at-deliver = c .before .before .before .before .before .before .before in
+    let at-if1 = at-deliver .before .before .before .before .before in
+    let e = at-deliver .deliver .ensures in
+    delivered _ _ _ _ _ (c .byte-of .ensures) _ _ _ (at-if1 .if1 .taken) (e .0)
     (λ t. record { values = e .1 t; versions = e .2 t; statuses = e .3 t })
 
 holiday-requires : tie.Need-holiday-requires
@@ -43,9 +44,9 @@ same-length-4 c = search needs
 
 returns-2 : tie.Need-returns-2
 returns-2 c =
-    let a = c .before .before .before .before .before .before .before .before .before .before .before .before .before .before .before .args in
-    let b = cells (slots (a .values .now) (a .versions .now) (a .statuses .now)) (a .holidays .now) (a .readings .now) (a .reads .now) in
-    named (a .head) b (a .call) (c .byte-of2 .result) (filedMeant (c .before .before .before .holiday .result)) (c .byte-of2 .ensures) _ (c .before .before .before .before .before .before .before .if1 .left) (c .before .before .before .before .before .if2 .taken) (c .before .before .before .holiday .ensures .0) (c .before .before .before .holiday .ensures .1)
+    let at-holiday = c .before .before .before in
+    let at-if1 = at-holiday .before .before .before .before in
+    named _ _ _ _ _ (c .byte-of2 .ensures) _ (at-if1 .if1 .left) (at-holiday .before .before .if2 .taken) (at-holiday .holiday .ensures .0) (at-holiday .holiday .ensures .1)
 
 register-requires : tie.Need-register-requires
 register-requires c κs = search needs
@@ -61,10 +62,10 @@ same-length-6 c = search needs
 
 returns-3 : tie.Need-returns-3
 returns-3 c =
-    let a = c .before .before .before .before .before .before .before .before .before .before .before .before .before .before .before .before .before .before .args in
-    let b = cells (slots (a .values .now) (a .versions .now) (a .statuses .now)) (a .holidays .now) (a .readings .now) (a .reads .now) in
-    let e = c .before .before .before .before .before .register .ensures in
-    registered (a .head) b (a .call) (c .byte-of3 .result) (filedMeant (c .before .before .before .before .before .register .result)) (c .byte-of3 .ensures) _ _ (c .before .before .before .before .before .before .before .before .before .before .if1 .left) (c .before .before .before .before .before .before .before .before .if2 .left) (e .0) (e .1) (e .2)
+    let at-register = c .before .before .before .before .before in
+    let at-if2 = at-register .before .before .before in
+    let e = at-register .register .ensures in
+    registered _ _ _ _ _ (c .byte-of3 .ensures) _ _ (at-if2 .before .before .if1 .left) (at-if2 .if2 .left) (e .0) (e .1) (e .2)
 
 pub play-spec : {M : Type 1} → statement M
 play-spec =

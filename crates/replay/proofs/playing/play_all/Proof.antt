@@ -1,10 +1,11 @@
-use borrow.Author.Needs.{needs}
+-- `playing::play_all`: before call i, what is still to come from the present cells completes what was told.
 use mathlib.Core.Path.{_≡_, refl}
 use Prim.Native.Nat.{_-_}
 use native.Mathlib.Omega.{arith}
 use lib.ListN.{length}
 use Rattle.rules.specs.Inner.Lent.{slots, cells}
 use Rattle.replay.proofs.Walk.{Walked, walk-first, walk-call, walk-next, walk-last}
+use borrow.Author.Needs.{needs}
 use Rattle.replay.proofs.playing.play_all.Statement.{statement}
 use Rattle.replay.proofs.playing.play_all.Tie as tie
 
@@ -24,7 +25,9 @@ abbrev μ-loop : tie.MeasureT-loop
     length answers₀ - i
 
 loop-holds : tie.Need-loop-holds Inv-loop μ-loop
-loop-holds c = (walk-first _ _ _ _ ((c .before .before .before .before .before .before .before .before) .pre .0), refl, refl, refl, refl, refl, refl, refl)
+loop-holds c =
+    let at-start = c .before .before .before .before .before .before .before .before in
+    (walk-first _ _ _ _ (at-start .pre .0), refl, refl, refl, refl, refl, refl, refl)
 
 mul-packed-at : tie.Need-mul-packed-at Inv-loop μ-loop
 mul-packed-at c = omega arith
@@ -33,19 +36,29 @@ packed-at-requires : tie.Need-packed-at-requires Inv-loop μ-loop
 packed-at-requires c κs = omega arith
 
 play-requires : tie.Need-play-requires Inv-loop μ-loop
-play-requires c κs = walk-call _ _ _ _ _ _ (c .before .before .before .before .before .before .before .before .loop .inv .0) (c .before .before .before .before .before .before .packed-at .result) (c .before .before .before .before .before .before .packed-at .ensures)
+play-requires c κs =
+    let at-packed-at = c .before .before .before .before .before .before in
+    walk-call _ _ _ _ _ _ (at-packed-at .before .before .loop .inv .0) (at-packed-at .packed-at .result) (at-packed-at .packed-at .ensures)
 
 slice-write-answers : tie.Need-slice-write-answers Inv-loop μ-loop
 slice-write-answers c = omega arith
 
 add-i : tie.Need-add-i Inv-loop μ-loop
-add-i c = let g = c .before .before .before .before .before .before .before .before .before .before .before .before .before .before .before .before .before .before .before .before .before .before .before .before .before .before .before .before .before .before .good in omega (arith, c .before .before .before .before .before .before .before .before .before .before .before .before .before .before .before .before .before .before .before .before .before .loop .inv .1, c .before .before .before .before .before .before .before .before .before .before .before .before .before .before .before .before .before .before .before .before .loop-test .taken)
+add-i c =
+    let at-loop-test = c .before .before .before .before .before .before .before .before .before .before .before .before .before .before .before .before .before .before .before .before in
+    let at-start = at-loop-test .before .before .before .before .before .before .before .before .before .before in
+    let g = at-start .good in omega (arith, at-loop-test .before .loop .inv .1, at-loop-test .loop-test .taken)
 
 loop-less : tie.Need-loop-less Inv-loop μ-loop
-loop-less c = omega (arith, c .before .before .before .before .before .before .before .before .before .before .before .before .before .before .before .before .before .before .before .before .before .loop .inv .1, c .before .before .before .before .before .before .before .before .before .before .before .before .before .before .before .before .before .before .before .before .loop-test .taken)
+loop-less c =
+    let at-loop-test = c .before .before .before .before .before .before .before .before .before .before .before .before .before .before .before .before .before .before .before .before in
+    omega (arith, at-loop-test .before .loop .inv .1, at-loop-test .loop-test .taken)
 
 loop-again : tie.Need-loop-again Inv-loop μ-loop
-loop-again c = (walk-next _ _ _ _ _ _ (c .before .before .before .before .before .before .before .before .before .before .before .before .before .before .before .before .before .before .before .before .before .loop .inv .0) (c .before .before .before .before .before .before .before .before .before .before .before .before .before .before .before .before .before .before .before .packed-at .result) (c .before .before .before .before .before .before .before .before .before .before .before .before .before .before .before .before .before .before .before .packed-at .ensures) (c .before .before .before .before .before .before .before .before .before .before .before .before .play .result) _ (c .before .before .before .before .before .before .before .before .before .before .before .before .before .before .before .before .before .before .before .before .loop-test .taken) (c .before .before .before .before .before .before .before .before .before .before .before .before .play .ensures .0) (c .before .before .before .before .before .before .before .before .before .before .before .before .play .ensures .1), search needs, search needs, search needs, search needs, search needs, search needs, search needs)
+loop-again c =
+    let at-play = c .before .before .before .before .before .before .before .before .before .before .before .before in
+    let at-packed-at = at-play .before .before .before .before .before .before .before in
+    (walk-next _ _ _ _ _ _ (at-packed-at .before .before .loop .inv .0) (at-packed-at .packed-at .result) (at-packed-at .packed-at .ensures) (at-play .play .result) _ (at-packed-at .before .loop-test .taken) (at-play .play .ensures .0) (at-play .play .ensures .1), search needs, search needs, search needs, search needs, search needs, search needs, search needs)
 
 same-length : tie.Need-same-length Inv-loop μ-loop
 same-length c = search needs

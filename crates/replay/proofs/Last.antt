@@ -1,0 +1,37 @@
+-- Publishing comes last, and then refuses only for a short buffer.
+use mathlib.Core.Bool.{Bool, true, false, not, cond}
+use mathlib.Core.List.{List, _++_}
+use mathlib.Core.Path.{_≡_, refl}
+use Prim.Native.Nat.{ℕ}
+use lib.Dec.{ltb}
+use lib.ListN.{length, drop}
+use Rattle.rules.specs.declared.Head.{Head}
+use Rattle.rules.specs.Opening.{Cells, headOk}
+use Rattle.book.specs.Cells.{cellsFit, cellsOk}
+use Rattle.file.specs.declared.publish.Published.the-variants as published
+use Rattle.file.specs.Layout.{Content, fileOf}
+use Rattle.file.specs.Publishing.{published as publishedOf, fileLength, bytesAfter, publishAnswer, publishAfter}
+use Rattle.replay.specs.declared.Replayed.the-variants.{Refused, Length}
+use Rattle.replay.specs.Inner.Playing.{publishedMeant}
+
+module _ (h : Head) (b : Cells) (out : List ℕ) (good : headOk h ≡ true) (fit : cellsFit h b ≡ true) (ok : cellsOk h b ≡ true) where
+  pub answer-last : publishAnswer h b out ≡ cond (ltb (length out) (fileLength h b)) (published.Refused 7) (published.Length (fileLength h b))
+  unfolding publishAnswer
+  answer-last = rw (good, fit, ok)
+
+  pub told-last : publishedMeant (publishAnswer h b out) ≡ cond (ltb (length out) (fileLength h b)) (Refused 7) (Length (fileLength h b))
+  told-last = rw answer-last (go (ltb (length out) (fileLength h b)) (fileLength h b))
+    where
+      go : (short : Bool) (n : ℕ) → publishedMeant (cond short (published.Refused 7) (published.Length n)) ≡ cond short (Refused 7) (Length n)
+      go true n = refl
+      go false n = refl
+
+  pub bytes-last : publishAfter h b out
+      ≡ cond (not (ltb (length out) (fileLength h b))) (fileOf (publishedOf h b) ++ drop (fileLength h b) out) out
+  unfolding publishAfter
+  bytes-last = rw answer-last (go (ltb (length out) (fileLength h b)) (fileLength h b) (publishedOf h b))
+    where
+      go : (short : Bool) (n : ℕ) (f : Content)
+          → bytesAfter (cond short (published.Refused 7) (published.Length n)) f out ≡ cond (not short) (fileOf f ++ drop n out) out
+      go true n f = refl
+      go false n f = refl
