@@ -70,6 +70,7 @@ impl Census<'_> {
         };
         self.counts.add("method", method);
         self.demand(slot);
+        self.scaled_over(outcome);
         match outcome.method {
             1 => self.outage_zero(slot),
             2 | 18 => self.linear(slot),
@@ -88,6 +89,12 @@ impl Census<'_> {
         counts.add_if(good && value == most, "demand", "at the limit");
         counts.add_if(demand && value == most + 1, "demand", "one above");
         counts.add_if(demand && value == u32::MAX, "demand", "highest value");
+    }
+
+    fn scaled_over(&mut self, outcome: &Slot) {
+        let most = self.shape.limit * self.shape.interval / 60;
+        let over = outcome.method >= 18 && outcome.value > most;
+        self.counts.add_if(over, "span", "new value over the limit");
     }
 
     fn outage_zero(&mut self, slot: usize) {

@@ -125,6 +125,7 @@ const CLASSES: &[(&str, &[&str])] = &[
             "R = V - t",
             "R = V - t - 1",
             "slots outside",
+            "new value over the limit",
         ],
     ),
     (
