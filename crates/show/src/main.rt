@@ -1,10 +1,8 @@
 // Reads a file of at most 65,536 bytes on standard input and writes one line of it (01, The published file).
-mod line;
-
 use libc::STDIN_FILENO;
 use libc::STDOUT_FILENO;
 ghost use lib.ListN.{length};
-ghost use Rattle.show.specs.Inner.Adding.{AtMost};
+ghost use Rattle.show.specs.Reading.{AtMost};
 
 // What reading to the end of the input gave: so many bytes, or an error.
 enum Input {

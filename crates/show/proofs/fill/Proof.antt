@@ -1,4 +1,4 @@
--- `show::fill` meets its contract.
+-- `show::fill`: what was read never passes the buffer.
 use mathlib.Core.Path.{_≡_}
 use Prim.Native.Nat.{_≤_, _-_}
 use borrow.Author.Needs.{needs}

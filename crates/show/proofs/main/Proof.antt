@@ -1,7 +1,7 @@
--- `show::main` meets its contract.
+-- `show::main`: the part that was read is lent to `line`, and the line that it put is written.
 use mathlib.Core.Path.{sym}
-use borrow.Author.Needs.{needs}
 use lib.Seq.{length-take-le}
+use borrow.Author.Needs.{needs}
 use Rattle.show.proofs.main.Statement.{statement}
 use Rattle.show.proofs.main.Tie as tie
 
@@ -19,9 +19,6 @@ array-share-prefix-buf c = rw (c .before .n .given .1) at (c .before .before .be
 
 slice-aggregate-line : tie.Need-slice-aggregate-line
 slice-aggregate-line c = sym (length-take-le _ _ (rw (c .before .before .n .given .1) at (c .before .before .before .before .before .fill .ensures)))
-
-slice-aggregate-line-2 : tie.Need-slice-aggregate-line-2
-slice-aggregate-line-2 c = search needs
 
 line-requires : tie.Need-line-requires
 line-requires c κs = search needs
@@ -68,7 +65,6 @@ main-spec =
     enum-known-n
     array-share-prefix-buf
     slice-aggregate-line
-    slice-aggregate-line-2
     line-requires
     array-share-prefix-out
     slice-aggregate-write-all

@@ -1,4 +1,4 @@
--- `show::line::put_text` meets its contract.
+-- `line::put_text` meets its contract.
 use mathlib.Core.List.{_++_, append-nil}
 use mathlib.Core.Path.{_≡_, refl, sym, ap, _∙_}
 use Prim.Native.Nat.{_≤_, _-_, _+_}
@@ -7,9 +7,9 @@ use native.Mathlib.Omega.{arith}
 use borrow.Author.Needs.{needs}
 use lib.ListN.{length, take, length-set}
 use lib.Seq.{take-length}
-use Rattle.show.proofs.Texts.{text-more}
-use Rattle.show.proofs.line.put_text.Statement.{statement}
-use Rattle.show.proofs.line.put_text.Tie as tie
+use Rattle.line.proofs.Texts.{text-more}
+use Rattle.line.proofs.put_text.Statement.{statement}
+use Rattle.line.proofs.put_text.Tie as tie
 
 abbrev Inv-loop : tie.InvT-loop
 Inv-loop out₀ at text i₀ out i = (i ≤ length text) × (length out ≡ length out₀) × (take (at + i) out ≡ take at out₀ ++ take i text)

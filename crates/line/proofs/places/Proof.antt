@@ -1,12 +1,12 @@
--- `show::line::places` meets its contract.
+-- `line::places` meets its contract.
 use mathlib.Core.Path.{_≡_}
 use Prim.Native.Nat.{_≤_, _-_, _+_}
 use native.Mathlib.Omega.{arith}
 use borrow.Author.Needs.{needs}
-use Rattle.show.specs.Line.{places}
-use Rattle.show.proofs.Digits.{places-small, places-more, places-last}
-use Rattle.show.proofs.line.places.Statement.{statement}
-use Rattle.show.proofs.line.places.Tie as tie
+use Rattle.line.specs.Line.{places}
+use Rattle.line.proofs.Digits.{places-small, places-more, places-last}
+use Rattle.line.proofs.places.Statement.{statement}
+use Rattle.line.proofs.places.Tie as tie
 
 abbrev Inv-loop : tie.InvT-loop
 Inv-loop n k₀ rest₀ k rest = (1 ≤ k) × (k ≤ 20) × (places 19 n + 1 ≡ k + places (20 - k) rest)

@@ -7,7 +7,7 @@ use native.Mathlib.Omega.{arith}
 use borrow.Author.Tests.{lt-ltb, le-ltb}
 use lib.ListN.{length, take, drop, set, length-append, length-set}
 use lib.Seq.{take-add, drop-cons, getD-set-same, drop-set-lt}
-use Rattle.show.specs.Line.{digits, places}
+use Rattle.line.specs.Line.{digits, places}
 
 pub length-digits : (k n : ℕ) → length (digits k n) ≡ k
 unfolding digits

@@ -1,12 +1,12 @@
--- `show::line::put_field` meets its contract.
+-- `line::put_field` meets its contract.
 use mathlib.Core.Path.{ap}
 use mathlib.Core.List.{_∷_}
 use native.Mathlib.Omega.{arith}
 use borrow.Author.Needs.{needs}
-use Rattle.show.specs.Line.{digits, decimal, field}
-use Rattle.show.proofs.Adding.{then, same}
-use Rattle.show.proofs.line.put_field.Statement.{statement}
-use Rattle.show.proofs.line.put_field.Tie as tie
+use Rattle.line.specs.Line.{digits, decimal, field}
+use Rattle.line.proofs.Adding.{then, same}
+use Rattle.line.proofs.put_field.Statement.{statement}
+use Rattle.line.proofs.put_field.Tie as tie
 
 slice-aggregate-put-text : tie.Need-slice-aggregate-put-text
 slice-aggregate-put-text c = search needs

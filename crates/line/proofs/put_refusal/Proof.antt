@@ -1,9 +1,9 @@
--- `show::line::put_refusal` meets its contract.
+-- `line::put_refusal` meets its contract.
 use native.Mathlib.Omega.{arith}
 use borrow.Author.Needs.{needs}
-use Rattle.show.proofs.Adding.{then}
-use Rattle.show.proofs.line.put_refusal.Statement.{statement}
-use Rattle.show.proofs.line.put_refusal.Tie as tie
+use Rattle.line.proofs.Adding.{then}
+use Rattle.line.proofs.put_refusal.Statement.{statement}
+use Rattle.line.proofs.put_refusal.Tie as tie
 
 slice-aggregate-put-text : tie.Need-slice-aggregate-put-text
 slice-aggregate-put-text c = search needs

@@ -1,4 +1,4 @@
-// The line that is written of a file, put into a lent buffer.
+// The line that is written of a file (01, The published file: 'A program reads a file'), put into a lent buffer.
 use calendar::Date;
 use file::Figures;
 use file::Verdict;
@@ -7,8 +7,8 @@ ghost use mathlib.Core.List.{_++_};
 ghost use Prim.Native.Nat.{_+_, _<_, _≤_};
 ghost use lib.ListN.{length, take};
 ghost use Rattle.calendar.specs.Calendar.{dateOf};
-ghost use Rattle.show.specs.Line.{digits, places as Line·places, dateText, field, figuresText, refused, newline, line as Line·line};
-ghost use Rattle.show.specs.Inner.Adding.{Added};
+ghost use Rattle.line.specs.Line.{digits, places as Line·places, dateText, field, figuresText, refused, newline, line as Line·line};
+ghost use Rattle.line.specs.Inner.Adding.{Added};
 
 // Copies `text` to `at` and on, and answers the place after it.
 fn put_text(out: &mut [u8], at: usize, text: &[u8]) -> usize
@@ -117,9 +117,8 @@ fn put_refusal(out: &mut [u8], number: u8) -> usize
 }
 
 // Puts the line of `bytes` at the start of `out`, and answers its length.
-pub fn line(bytes: &[u8], out: &mut [u8]) -> usize
-    requires { ⌜ 160 ≤ length (now out) ⌝ }
-    ensures { λ r. ⌜ (take r (now (out .exit)) ≡ Line·line (now (bytes .entry))) × (r ≤ 160) ⌝ }
+pub fn line(bytes: &[u8], out: &mut [u8; 160]) -> usize
+    ensures { λ r. ⌜ (take r (now (out .exit)) ≡ Line·line (now (bytes .entry))) × (r ≤ length (now (out .exit))) ⌝ }
 {
     if 65536 < bytes.len() {
         return put_text(out, 0, b"too long\n");

@@ -1,4 +1,4 @@
--- `show::line::put_digits` meets its contract.
+-- `line::put_digits` meets its contract.
 use mathlib.Core.List.{_++_}
 use mathlib.Core.Path.{_≡_, refl, sym, ap, _∙_}
 use Prim.Native.Nat.{_≤_, _-_, _+_}
@@ -6,10 +6,10 @@ use native.Mathlib.Omega.{arith}
 use borrow.Author.Needs.{needs}
 use lib.ListN.{length, take, drop, length-set}
 use lib.Seq.{take-set-le}
-use Rattle.show.specs.Line.{digits}
-use Rattle.show.proofs.Digits.{length-digits, digits-down, digits-start, digits-end}
-use Rattle.show.proofs.line.put_digits.Statement.{statement}
-use Rattle.show.proofs.line.put_digits.Tie as tie
+use Rattle.line.specs.Line.{digits}
+use Rattle.line.proofs.Digits.{length-digits, digits-down, digits-start, digits-end}
+use Rattle.line.proofs.put_digits.Statement.{statement}
+use Rattle.line.proofs.put_digits.Tie as tie
 
 abbrev Inv-loop : tie.InvT-loop
 Inv-loop out₀ at width n rest₀ j₀ out rest j = (j ≤ width) × (length out ≡ length out₀) × (take at out ≡ take at out₀) × (digits width n ≡ digits j rest ++ take (width - j) (drop (at + j) out))

@@ -1,9 +1,9 @@
--- `show::line::put_counts` meets its contract.
+-- `line::put_counts` meets its contract.
 use native.Mathlib.Omega.{arith}
 use borrow.Author.Needs.{needs}
-use Rattle.show.proofs.Adding.{then}
-use Rattle.show.proofs.line.put_counts.Statement.{statement}
-use Rattle.show.proofs.line.put_counts.Tie as tie
+use Rattle.line.proofs.Adding.{then}
+use Rattle.line.proofs.put_counts.Statement.{statement}
+use Rattle.line.proofs.put_counts.Tie as tie
 
 cast-put-field : tie.Need-cast-put-field
 cast-put-field c = search needs

@@ -4,7 +4,7 @@ use mathlib.Core.Path.{_≡_, ap, _∙_}
 use Prim.Native.Nat.{ℕ}
 use native.Mathlib.Omega.{arith}
 use lib.ListN.{take, length-append}
-use Rattle.show.specs.Inner.Adding.{Added}
+use Rattle.line.specs.Inner.Adding.{Added}
 
 pub then : {a b c s t : List ℕ} {i j k : ℕ} → Added a i b j s → Added b j c k t → Added a i c k (s ++ t)
 then {a} {b} {c} {s} {t} {i} {j} {k} p q = record {

@@ -1,18 +1,11 @@
 -- What the functions that fill a buffer leave in it.
 use mathlib.Core.List.{List, _++_}
 use mathlib.Core.Path.{_≡_}
-use Prim.Native.Nat.{ℕ, _+_, _≤_}
+use Prim.Native.Nat.{ℕ, _+_}
 use lib.ListN.{length, take}
-use Rattle.show.specs.declared.Input.{Input}
-use Rattle.show.specs.declared.Input.the-variants.{Bytes, Failed}
 
 -- a text was added from place at on, and the next place is r
 pub record Added (before : List ℕ) (at : ℕ) (after : List ℕ) (r : ℕ) (text : List ℕ) : Type 0 where
   pub long : length after ≡ length before
   pub end : r ≡ at + length text
   pub has : take r after ≡ take at before ++ text
-
--- at most so many bytes were read
-abbrev pub AtMost : Input → ℕ → Type 0
-AtMost (Bytes n) most = n ≤ most
-AtMost Failed most = Unit {0}

@@ -1,11 +1,11 @@
--- `show::line::put_date` meets its contract.
+-- `line::put_date` meets its contract.
 use mathlib.Core.List.{[], _∷_}
 use native.Mathlib.Omega.{arith}
 use borrow.Author.Needs.{needs}
-use Rattle.show.specs.Line.{digits, dateText}
-use Rattle.show.proofs.Adding.{then, same, date-parts}
-use Rattle.show.proofs.line.put_date.Statement.{statement}
-use Rattle.show.proofs.line.put_date.Tie as tie
+use Rattle.line.specs.Line.{digits, dateText}
+use Rattle.line.proofs.Adding.{then, same, date-parts}
+use Rattle.line.proofs.put_date.Statement.{statement}
+use Rattle.line.proofs.put_date.Tie as tie
 
 cast-put-digits : tie.Need-cast-put-digits
 cast-put-digits c = search needs

@@ -1,12 +1,12 @@
--- `show::line::put_figures` meets its contract.
+-- `line::put_figures` meets its contract.
 use mathlib.Core.List.{[], _∷_}
 use native.Mathlib.Omega.{arith}
 use borrow.Author.Needs.{needs}
 use Rattle.calendar.specs.Calendar.{dateOf}
-use Rattle.show.specs.Line.{field, dateText, figuresText}
-use Rattle.show.proofs.Adding.{then, same, line-parts}
-use Rattle.show.proofs.line.put_figures.Statement.{statement}
-use Rattle.show.proofs.line.put_figures.Tie as tie
+use Rattle.line.specs.Line.{field, dateText, figuresText}
+use Rattle.line.proofs.Adding.{then, same, line-parts}
+use Rattle.line.proofs.put_figures.Statement.{statement}
+use Rattle.line.proofs.put_figures.Tie as tie
 
 put-head-requires : tie.Need-put-head-requires
 put-head-requires c κs = search needs

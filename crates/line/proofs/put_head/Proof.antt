@@ -1,11 +1,11 @@
--- `show::line::put_head` meets its contract.
+-- `line::put_head` meets its contract.
 use mathlib.Core.Path.{ap}
 use native.Mathlib.Omega.{arith}
 use borrow.Author.Needs.{needs}
-use Rattle.show.specs.Line.{dateText}
-use Rattle.show.proofs.Adding.{then, same}
-use Rattle.show.proofs.line.put_head.Statement.{statement}
-use Rattle.show.proofs.line.put_head.Tie as tie
+use Rattle.line.specs.Line.{dateText}
+use Rattle.line.proofs.Adding.{then, same}
+use Rattle.line.proofs.put_head.Statement.{statement}
+use Rattle.line.proofs.put_head.Tie as tie
 
 date-of-requires : tie.Need-date-of-requires
 date-of-requires c κs = search needs

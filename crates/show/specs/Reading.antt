@@ -1,0 +1,9 @@
+-- What reading the input says of itself.
+use Prim.Native.Nat.{ℕ, _≤_}
+use Rattle.show.specs.declared.Input.{Input}
+use Rattle.show.specs.declared.Input.the-variants.{Bytes, Failed}
+
+-- at most so many bytes were read
+abbrev pub AtMost : Input → ℕ → Type 0
+AtMost (Bytes n) most = n ≤ most
+AtMost Failed most = Unit {0}
