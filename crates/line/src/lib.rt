@@ -63,6 +63,13 @@ fn put_field(out: &mut [u8], at: usize, n: u64) -> usize
     put_digits(out, from, places(n), n)
 }
 
+// Puts a space and `n` at the start of `out`, and answers their length.
+pub fn number(n: u64, out: &mut [u8; 21]) -> usize
+    ensures { λ r. ⌜ (take r (now (out .exit)) ≡ field n) × (r ≤ length (now (out .exit))) ⌝ }
+{
+    put_field(out, 0, n)
+}
+
 // A date, at the start.
 fn put_date(out: &mut [u8], date: Date) -> usize
     requires { ⌜ 10 ≤ length (now out) ⌝ }

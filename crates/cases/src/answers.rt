@@ -1,0 +1,33 @@
+// A case that is told by the answers of the calls.
+use crate::books;
+use crate::say;
+
+// Delivers slot 10 of a day and writes the answer.
+fn deliver_ten(
+    values: &mut [u32],
+    versions: &mut [u32],
+    statuses: &mut [u8],
+    version: u32,
+    value: u32,
+) {
+    let head = books::head_of(1, 30, 1);
+    say::answer(book::deliver(head, values, versions, statuses, 10, version, value, 0));
+}
+
+// A lower version is late and accepted; the same call again is repeat; an equal version with other content conflicts.
+fn four_deliveries(values: &mut [u32], versions: &mut [u32], statuses: &mut [u8]) {
+    deliver_ten(values, versions, statuses, 2, 100);
+    deliver_ten(values, versions, statuses, 1, 900);
+    deliver_ten(values, versions, statuses, 2, 100);
+    deliver_ten(values, versions, statuses, 2, 900);
+}
+
+// A book of zeros is an open one.
+pub fn late() {
+    let mut values = [0u32; 48];
+    let mut versions = [0u32; 48];
+    let mut statuses = [0u8; 48];
+    say::text(b"late as a refusal:");
+    four_deliveries(&mut values, &mut versions, &mut statuses);
+    say::text(b"\n");
+}

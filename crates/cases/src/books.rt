@@ -1,0 +1,216 @@
+// Small books: opened, filled by a list of rows, published.
+use book::Opened;
+use file::publish;
+use file::publish::Published;
+use rules::Head;
+ghost use Prim.Native.Nat.{_≤_};
+
+// A book of tolerance 0 that begins on 2024-05-01.
+pub fn head_of(days: u32, interval: u32, kind: u32) -> Head {
+    Head {
+        year: 2024,
+        month: 5,
+        day: 1,
+        days: days,
+        interval: interval,
+        kind: kind,
+        tolerance: 0,
+    }
+}
+
+// The three sizes of book in use: a day of five minutes, 29 days of half hours, a day of half hours.
+fn slots_of(head: Head) -> usize
+    ensures { λ r. ⌜ r ≤ 1392 ⌝ }
+{
+    if head.interval == 5 {
+        return 288;
+    }
+    if head.days == 29 {
+        return 1392;
+    }
+    48
+}
+
+fn days_of(head: Head) -> usize
+    ensures { λ r. ⌜ r ≤ 29 ⌝ }
+{
+    if head.days == 29 {
+        return 29;
+    }
+    1
+}
+
+// Delivers the slots from `first` up to `end` as version 1.
+fn deliver_run(
+    head: Head,
+    values: &mut [u32],
+    versions: &mut [u32],
+    statuses: &mut [u8],
+    first: u32,
+    end: u32,
+    value: u32,
+    status: u8,
+) {
+    let mut slot = first;
+    while slot < end {
+        book::deliver(head, values, versions, statuses, slot, 1, value, status);
+        slot += 1;
+    }
+}
+
+// One row of five numbers: 1 first end value status | 2 day 0 0 0 | 3 boundary version reading 0.
+fn fill_row(
+    head: Head,
+    values: &mut [u32],
+    versions: &mut [u32],
+    statuses: &mut [u8],
+    holidays: &mut [u8],
+    readings: &mut [u32],
+    reads: &mut [u32],
+    row: [u32; 5],
+) {
+    if row[0] == 1 {
+        let status = (row[4] % 256) as u8;
+        return deliver_run(
+            head,
+            values,
+            versions,
+            statuses,
+            row[1],
+            row[2],
+            row[3],
+            status,
+        );
+    }
+    if row[0] == 2 {
+        book::holiday(head, holidays, row[1]);
+        return;
+    }
+    book::register(head, readings, reads, row[1], row[2], row[3]);
+}
+
+fn fill(
+    head: Head,
+    values: &mut [u32],
+    versions: &mut [u32],
+    statuses: &mut [u8],
+    holidays: &mut [u8],
+    readings: &mut [u32],
+    reads: &mut [u32],
+    rows: &[[u32; 5]],
+) {
+    let mut i = 0;
+    while i < rows.len() {
+        let row = rows[i];
+        fill_row(
+            head,
+            values,
+            versions,
+            statuses,
+            holidays,
+            readings,
+            reads,
+            row,
+        );
+        i += 1;
+    }
+}
+
+fn fill_and_publish(
+    head: Head,
+    values: &mut [u32],
+    versions: &mut [u32],
+    statuses: &mut [u8],
+    holidays: &mut [u8],
+    readings: &mut [u32],
+    reads: &mut [u32],
+    rows: &[[u32; 5]],
+    file: &mut [u8],
+) -> Published {
+    fill(
+        head,
+        values,
+        versions,
+        statuses,
+        holidays,
+        readings,
+        reads,
+        rows,
+    );
+    publish::publish(
+        head,
+        values,
+        versions,
+        statuses,
+        holidays,
+        readings,
+        reads,
+        file,
+    )
+}
+
+// A refused opening gives its number.
+fn publish_lent(
+    head: Head,
+    values: &mut [u32],
+    versions: &mut [u32],
+    statuses: &mut [u8],
+    holidays: &mut [u8],
+    readings: &mut [u32],
+    reads: &mut [u32],
+    rows: &[[u32; 5]],
+    file: &mut [u8],
+) -> Published {
+    let opened = book::open(head, values, versions, statuses, holidays, readings, reads);
+    if let Opened::Refused(n) = opened {
+        return Published::Refused(n);
+    }
+    fill_and_publish(
+        head,
+        values,
+        versions,
+        statuses,
+        holidays,
+        readings,
+        reads,
+        rows,
+        file,
+    )
+}
+
+// Publishes the book of a list of rows into `file`.
+pub fn publish_rows(head: Head, rows: &[[u32; 5]], file: &mut [u8]) -> Published {
+    let mut values = [0u32; 1392];
+    let mut versions = [0u32; 1392];
+    let mut statuses = [0u8; 1392];
+    let mut holidays = [0u8; 29];
+    let mut readings = [0u32; 30];
+    let mut reads = [0u32; 30];
+    let n = slots_of(head);
+    let d = days_of(head);
+    publish_lent(
+        head,
+        &mut values[..n],
+        &mut versions[..n],
+        &mut statuses[..n],
+        &mut holidays[..d],
+        &mut readings[..d + 1],
+        &mut reads[..d + 1],
+        rows,
+        file,
+    )
+}
+
+// Four deliveries of e with a gap between each two, then `rest`, so that V is 100; the dial goes from 0 to 110.
+pub fn scaled_rows(e: u32, rest: u32) -> [[u32; 5]; 8] {
+    [
+        [1, 0, 1, e, 0],
+        [1, 2, 3, e, 0],
+        [1, 4, 5, e, 0],
+        [1, 6, 7, e, 0],
+        [1, 7, 8, rest, 0],
+        [1, 8, 48, 0, 0],
+        [3, 0, 1, 0, 0],
+        [3, 1, 1, 110, 0],
+    ]
+}

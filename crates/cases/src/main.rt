@@ -1,0 +1,19 @@
+// 01's section Cases as run code: each case is a small book, filled and published by the public calls, and a line of output.
+mod answers;
+mod books;
+mod files;
+mod outcomes;
+mod say;
+
+fn main() {
+    files::whole();
+    outcomes::demands();
+    outcomes::linear();
+    outcomes::references();
+    files::dial();
+    outcomes::scaled();
+    files::dates();
+    outcomes::slips();
+    files::slot_alone();
+    answers::late();
+}
