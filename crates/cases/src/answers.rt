@@ -1,4 +1,4 @@
-// A case that is told by the answers of the calls.
+// Cases that are told by the answers of the calls.
 use crate::books;
 use crate::say;
 
@@ -29,5 +29,22 @@ pub fn late() {
     let mut statuses = [0u8; 48];
     say::text(b"late as a refusal:");
     four_deliveries(&mut values, &mut versions, &mut statuses);
+    say::text(b"\n");
+}
+
+// A delivery that is wrong in its status, and with it in what stands before: the lowest number that applies is given.
+fn three_refusals(values: &mut [u32], versions: &mut [u32], statuses: &mut [u8]) {
+    let head = books::head_of(1, 30, 1);
+    say::answer(book::deliver(head, values, versions, statuses, 48, 0, 100, 8));
+    say::answer(book::deliver(head, values, versions, statuses, 10, 0, 100, 8));
+    say::answer(book::deliver(head, values, versions, statuses, 10, 1, 100, 8));
+}
+
+pub fn lowest() {
+    let mut values = [0u32; 48];
+    let mut versions = [0u32; 48];
+    let mut statuses = [0u8; 48];
+    say::text(b"lowest number of 3 4 5:");
+    three_refusals(&mut values, &mut versions, &mut statuses);
     say::text(b"\n");
 }

@@ -16,4 +16,5 @@ fn main() {
     outcomes::slips();
     files::slot_alone();
     answers::late();
+    answers::lowest();
 }
