@@ -1,4 +1,4 @@
-// Small books: opened, filled by a list of rows, published.
+// Small books: opened, filled by rows, published.
 use book::Opened;
 use file::publish;
 use file::publish::Published;
