@@ -1,0 +1,4 @@
+pub mod Reading
+pub mod Splitting
+pub mod Fields
+pub mod Calls

@@ -1,0 +1,112 @@
+-- `log::number::date_of` meets its contract.
+use mathlib.Core.Path.{sym, _∙_}
+use lib.Seq.{length-take-le}
+use Rattle.log.proofs.Reading.{date-length, date-first, date-second, date-year, date-month, date-day, date-whole}
+use borrow.Author.Needs.{needs}
+use Rattle.log.proofs.number.date_of.Statement.{statement}
+use Rattle.log.proofs.number.date_of.Tie as tie
+
+returns : tie.Need-returns
+returns c = sym (date-length _ (c .if1 .taken))
+
+shared-slice-read-if2 : tie.Need-shared-slice-read-if2
+shared-slice-read-if2 c = search needs
+
+returns-2 : tie.Need-returns-2
+returns-2 c = sym (date-first _ (c .before .before .if1 .left) (c .if2 .taken))
+
+shared-slice-read-if3 : tie.Need-shared-slice-read-if3
+shared-slice-read-if3 c = search needs
+
+returns-3 : tie.Need-returns-3
+returns-3 c = sym (date-second _ (c .before .before .before .before .if1 .left) (c .before .before .if2 .left) (c .if3 .taken))
+
+slice-aggregate-number-of : tie.Need-slice-aggregate-number-of
+slice-aggregate-number-of c = sym (length-take-le 4 (c .before .before .before .before .before .before .before .args .word .now) (search needs))
+
+number-of-requires : tie.Need-number-of-requires
+number-of-requires c κs = search needs
+
+enum-known-year : tie.Need-enum-known-year
+enum-known-year c = search needs
+
+enum-told : tie.Need-enum-told
+enum-told c = search needs
+
+returns-4 : tie.Need-returns-4
+returns-4 c = sym (date-year _ (c .before .before .before .before .before .before .before .before .if1 .left) (c .before .before .before .before .before .before .if2 .left) (c .before .before .before .before .if3 .left) (sym (c .before .before .number-of .ensures) ∙ c .enum-told .given .1))
+
+sub-number-of : tie.Need-sub-number-of
+sub-number-of c = search needs
+
+part-number-of-start : tie.Need-part-number-of-start
+part-number-of-start c = search needs
+
+part-number-of-end : tie.Need-part-number-of-end
+part-number-of-end c = search needs
+
+number-of-requires-2 : tie.Need-number-of-requires-2
+number-of-requires-2 c κs = search needs
+
+enum-known-month : tie.Need-enum-known-month
+enum-known-month c = search needs
+
+enum-told-2 : tie.Need-enum-told-2
+enum-told-2 c = search needs
+
+returns-5 : tie.Need-returns-5
+returns-5 c = sym (date-month _ (c .before .before .before .before .before .before .before .before .before .before .before .before .before .if1 .left) (c .before .before .before .before .before .before .before .before .before .before .before .if2 .left) (c .before .before .before .before .before .before .before .before .before .if3 .left) _ (sym (c .before .before .before .before .before .before .before .number-of .ensures) ∙ c .before .before .before .before .before .year .given .1) (sym (c .before .before .number-of2 .ensures) ∙ c .enum-told2 .given .1))
+
+sub-number-of-2 : tie.Need-sub-number-of-2
+sub-number-of-2 c = search needs
+
+part-number-of-start-2 : tie.Need-part-number-of-start-2
+part-number-of-start-2 c = search needs
+
+part-number-of-end-2 : tie.Need-part-number-of-end-2
+part-number-of-end-2 c = search needs
+
+number-of-requires-3 : tie.Need-number-of-requires-3
+number-of-requires-3 c κs = search needs
+
+enum-known-day : tie.Need-enum-known-day
+enum-known-day c = search needs
+
+enum-told-3 : tie.Need-enum-told-3
+enum-told-3 c = search needs
+
+returns-6 : tie.Need-returns-6
+returns-6 c = sym (date-day _ (c .before .before .before .before .before .before .before .before .before .before .before .before .before .before .before .before .before .before .if1 .left) (c .before .before .before .before .before .before .before .before .before .before .before .before .before .before .before .before .if2 .left) (c .before .before .before .before .before .before .before .before .before .before .before .before .before .before .if3 .left) _ (sym (c .before .before .before .before .before .before .before .before .before .before .before .before .number-of .ensures) ∙ c .before .before .before .before .before .before .before .before .before .before .year .given .1) _ (sym (c .before .before .before .before .before .before .before .number-of2 .ensures) ∙ c .before .before .before .before .before .month .given .1) (sym (c .before .before .number-of3 .ensures) ∙ c .enum-told3 .given .1))
+
+returns-7 : tie.Need-returns-7
+returns-7 c = sym (date-whole _ (c .before .before .before .before .before .before .before .before .before .before .before .before .before .before .before .before .before .before .before .if1 .left) (c .before .before .before .before .before .before .before .before .before .before .before .before .before .before .before .before .before .if2 .left) (c .before .before .before .before .before .before .before .before .before .before .before .before .before .before .before .if3 .left) _ (sym (c .before .before .before .before .before .before .before .before .before .before .before .before .before .number-of .ensures) ∙ c .before .before .before .before .before .before .before .before .before .before .before .year .given .1) _ (sym (c .before .before .before .before .before .before .before .before .number-of2 .ensures) ∙ c .before .before .before .before .before .before .month .given .1) _ (sym (c .before .before .before .number-of3 .ensures) ∙ c .before .day .given .1))
+
+pub date-of-spec : {M : Type 1} → statement M
+date-of-spec =
+    tie.close
+    (tie.spec
+    returns
+    shared-slice-read-if2
+    returns-2
+    shared-slice-read-if3
+    returns-3
+    slice-aggregate-number-of
+    number-of-requires
+    enum-known-year
+    enum-told
+    returns-4
+    sub-number-of
+    part-number-of-start
+    part-number-of-end
+    number-of-requires-2
+    enum-known-month
+    enum-told-2
+    returns-5
+    sub-number-of-2
+    part-number-of-start-2
+    part-number-of-end-2
+    number-of-requires-3
+    enum-known-day
+    enum-told-3
+    returns-6
+    returns-7)

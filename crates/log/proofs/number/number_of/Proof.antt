@@ -1,0 +1,79 @@
+-- `log::number::number_of` meets its contract.
+use borrow.Author.Needs.{needs}
+use mathlib.Core.Path.{_≡_, sym, _∙_}
+use Prim.Native.Nat.{_≤_, _-_}
+use native.Mathlib.Omega.{arith}
+use lib.ListN.{length, drop}
+use Rattle.log.specs.Numbers.{numberOf}
+use Rattle.log.proofs.Reading.{numberAfter, number-empty, number-starts, number-digit, number-below, number-above, number-over, number-ends}
+use Rattle.log.proofs.number.number_of.Statement.{statement}
+use Rattle.log.proofs.number.number_of.Tie as tie
+
+abbrev Inv-loop : tie.InvT-loop
+Inv-loop word value₀ i₀ value i = (i ≤ length word) × (value ≤ 4294967295) × (numberOf word ≡ numberAfter value (drop i word))
+
+abbrev μ-loop : tie.MeasureT-loop
+μ-loop word value₀ i₀ value i = length word - i
+
+returns : tie.Need-returns Inv-loop μ-loop
+returns c = sym (number-empty _ (c .if1 .taken))
+
+loop-holds : tie.Need-loop-holds Inv-loop μ-loop
+loop-holds c = (search needs, search needs, number-starts _ (c .if1 .left))
+
+shared-slice-read-byte : tie.Need-shared-slice-read-byte Inv-loop μ-loop
+shared-slice-read-byte c = search needs
+
+returns-2 : tie.Need-returns-2 Inv-loop μ-loop
+returns-2 c = sym (c .before .before .before .loop .inv .2 ∙ number-below (c .before .before .before .before .before .args .word .now) (c .before .before .before .loop .i) (c .before .before .before .loop .value) (search needs) (c .if2 .taken))
+
+returns-3 : tie.Need-returns-3 Inv-loop μ-loop
+returns-3 c = sym (c .before .before .before .before .loop .inv .2 ∙ number-above (c .before .before .before .before .before .before .args .word .now) (c .before .before .before .before .loop .i) (c .before .before .before .before .loop .value) (search needs) (c .before .if2 .left) (c .if3 .taken))
+
+mul-value : tie.Need-mul-value Inv-loop μ-loop
+mul-value c = search needs
+
+cast-value : tie.Need-cast-value Inv-loop μ-loop
+cast-value c = search needs
+
+add-value : tie.Need-add-value Inv-loop μ-loop
+add-value c = search needs
+
+returns-4 : tie.Need-returns-4 Inv-loop μ-loop
+returns-4 c = sym (c .before .before .before .before .before .loop .inv .2 ∙ number-digit (c .before .before .before .before .before .before .before .args .word .now) (c .before .before .before .before .before .loop .i) (c .before .before .before .before .before .loop .value) (search needs) (c .before .before .if2 .left) (c .before .if3 .left) ∙ number-over _ _ (c .if4 .taken))
+
+add-i : tie.Need-add-i Inv-loop μ-loop
+add-i c = search needs
+
+loop-less : tie.Need-loop-less Inv-loop μ-loop
+loop-less c = search needs
+
+loop-again : tie.Need-loop-again Inv-loop μ-loop
+loop-again c = (search needs, search needs, c .before .before .before .before .before .loop .inv .2 ∙ number-digit (c .before .before .before .before .before .before .before .args .word .now) (c .before .before .before .before .before .loop .i) (c .before .before .before .before .before .loop .value) (search needs) (c .before .before .if2 .left) (c .before .if3 .left))
+
+cast-t13 : tie.Need-cast-t13 Inv-loop μ-loop
+cast-t13 c = search needs
+
+returns-5 : tie.Need-returns-5 Inv-loop μ-loop
+returns-5 c = sym (c .before .loop .inv .2 ∙ number-ends (c .before .before .before .args .word .now) (c .before .loop .value) (c .before .loop .i) (omega arith) (search needs))
+
+pub number-of-spec : {M : Type 1} → statement M
+number-of-spec =
+    tie.close
+    (tie.spec
+    Inv-loop
+    μ-loop
+    returns
+    loop-holds
+    shared-slice-read-byte
+    returns-2
+    returns-3
+    mul-value
+    cast-value
+    add-value
+    returns-4
+    add-i
+    loop-less
+    loop-again
+    cast-t13
+    returns-5)

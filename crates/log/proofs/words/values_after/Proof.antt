@@ -1,0 +1,94 @@
+-- `log::words::values_after` meets its contract.
+use Rattle.log.proofs.Fields.{no-good, numbers-start, no-words, more-words, numbers-short, numbers-not, numbers-next, values-next, numbers-end, values-end}
+use borrow.Author.Needs.{needs}
+use mathlib.Core.List.{_++_, map}
+use mathlib.Core.Path.{_≡_, refl, sym, _∙_}
+use Prim.Native.Nat.{_≤_, _-_}
+use native.Mathlib.Omega.{arith}
+use lib.ListN.{length, take, length-set}
+use Rattle.log.specs.Numbers.{valueOf}
+use Rattle.log.specs.Words.{areNumbers}
+use Rattle.log.specs.Inner.Parsing.{wordsAfter}
+use Rattle.log.proofs.words.values_after.Statement.{statement}
+use Rattle.log.proofs.words.values_after.Tie as tie
+
+abbrev Inv-loop : tie.InvT-loop
+Inv-loop line end count values₀ at₀ i₀ values at i = (at ≤ length line) × (i ≤ count) × (length values ≡ 4) × (areNumbers count (wordsAfter line end) ≡ areNumbers (count - i) (wordsAfter line at)) × (map valueOf (wordsAfter line end) ≡ take i values ++ map valueOf (wordsAfter line at))
+
+abbrev μ-loop : tie.MeasureT-loop
+μ-loop line end count values₀ at₀ i₀ values at i = count - i
+
+loop-holds : tie.Need-loop-holds Inv-loop μ-loop
+loop-holds c = (search needs, search needs, search needs, numbers-start _ _, refl)
+
+returns : tie.Need-returns Inv-loop μ-loop
+returns c = (sym (c .before .before .loop .inv .3 ∙ numbers-short (c .before .before .before .before .args .count) (c .before .before .loop .i) _ (search needs) (no-words (c .before .before .before .before .args .line .now) (c .before .before .loop .at) (c .if1 .taken))), no-good)
+
+add-from : tie.Need-add-from Inv-loop μ-loop
+add-from c = search needs
+
+word-end-requires : tie.Need-word-end-requires Inv-loop μ-loop
+word-end-requires c κs = search needs
+
+sub-number-of : tie.Need-sub-number-of Inv-loop μ-loop
+sub-number-of c = search needs
+
+part-number-of-start : tie.Need-part-number-of-start Inv-loop μ-loop
+part-number-of-start c = search needs
+
+part-number-of-end : tie.Need-part-number-of-end Inv-loop μ-loop
+part-number-of-end c = search needs
+
+number-of-requires : tie.Need-number-of-requires Inv-loop μ-loop
+number-of-requires c κs = search needs
+
+enum-known-value : tie.Need-enum-known-value Inv-loop μ-loop
+enum-known-value c = search needs
+
+enum-told : tie.Need-enum-told Inv-loop μ-loop
+enum-told c = search needs
+
+returns-2 : tie.Need-returns-2 Inv-loop μ-loop
+returns-2 c = (sym (c .before .before .before .before .before .before .before .loop .inv .3 ∙ numbers-not (c .before .before .before .before .before .before .before .before .before .args .count) (c .before .before .before .before .before .before .before .loop .i) _ _ _ (search needs) (more-words (c .before .before .before .before .before .before .before .before .before .args .line .now) (c .before .before .before .before .before .before .before .loop .at) (search needs) ∙ c .before .before .before .before .word-end .ensures .2) (sym (c .before .before .number-of .ensures) ∙ c .enum-told .given .1)), no-good)
+
+mul-values : tie.Need-mul-values Inv-loop μ-loop
+mul-values c = search needs
+
+array-write-values : tie.Need-array-write-values Inv-loop μ-loop
+array-write-values c = search needs
+
+add-i : tie.Need-add-i Inv-loop μ-loop
+add-i c = search needs
+
+loop-less : tie.Need-loop-less Inv-loop μ-loop
+loop-less c = search needs
+
+loop-again : tie.Need-loop-again Inv-loop μ-loop
+loop-again c = (search needs, search needs, simp length-set (c .before .before .before .before .before .before .before .before .loop .inv .2), c .before .before .before .before .before .before .before .before .loop .inv .3 ∙ numbers-next (c .before .before .before .before .before .before .before .before .before .before .args .count) (c .before .before .before .before .before .before .before .before .loop .i) _ _ _ (search needs) (more-words (c .before .before .before .before .before .before .before .before .before .before .args .line .now) (c .before .before .before .before .before .before .before .before .loop .at) (search needs) ∙ c .before .before .before .before .before .word-end .ensures .2) _ (sym (c .before .before .before .number-of .ensures) ∙ c .before .value .given .1), c .before .before .before .before .before .before .before .before .loop .inv .4 ∙ values-next (c .before .before .before .before .before .before .before .before .before .before .args .count) (c .before .before .before .before .before .before .before .before .loop .i) _ _ _ (search needs) (more-words (c .before .before .before .before .before .before .before .before .before .before .args .line .now) (c .before .before .before .before .before .before .before .before .loop .at) (search needs) ∙ c .before .before .before .before .before .word-end .ensures .2) (c .before .before .before .before .before .before .before .before .loop .values) _ (search needs) (sym (c .before .before .before .number-of .ensures) ∙ c .before .value .given .1))
+
+returns-3 : tie.Need-returns-3 Inv-loop μ-loop
+returns-3 c = (sym (c .before .loop .inv .3 ∙ numbers-end (c .before .before .before .args .line .now) (c .before .loop .at) (c .before .before .before .args .count) (c .before .loop .i) (search needs) (search needs)), λ e. sym (c .before .loop .inv .4 ∙ values-end (c .before .before .before .args .line .now) (c .before .loop .values) (c .before .loop .at) (c .before .before .before .args .count) (c .before .loop .i) (omega arith) e))
+
+pub values-after-spec : {M : Type 1} → statement M
+values-after-spec =
+    tie.close
+    (tie.spec
+    Inv-loop
+    μ-loop
+    loop-holds
+    returns
+    add-from
+    word-end-requires
+    sub-number-of
+    part-number-of-start
+    part-number-of-end
+    number-of-requires
+    enum-known-value
+    enum-told
+    returns-2
+    mul-values
+    array-write-values
+    add-i
+    loop-less
+    loop-again
+    returns-3)

@@ -1,0 +1,81 @@
+-- Which lines of a log are calls, and which call.
+use mathlib.Core.Bool.{Bool, cond, _&&_, _||_}
+use mathlib.Core.List.{List, [], _∷_}
+use Prim.Native.Nat.{ℕ, _-_, min}
+use lib.Dec.{ltb, eqb}
+use lib.ListN.{length, getD, take}
+use Rattle.rules.specs.declared.Head.{Head}
+use Rattle.log.specs.declared.line.Line.{Line}
+use Rattle.log.specs.declared.line.Line.the-variants.{Passed, Open, Delivery, Holiday, Register, NoCall}
+use Rattle.log.specs.Numbers.{valueOf, isDate, yearPart, monthPart, dayPart}
+use Rattle.log.specs.Words.{words, same, areNumbers}
+
+-- `open`, `delivery`, `holiday` and `register` in ASCII
+abbrev pub openWord : List ℕ
+openWord = 111 ∷ 112 ∷ 101 ∷ 110 ∷ []
+
+abbrev pub deliveryWord : List ℕ
+deliveryWord = 100 ∷ 101 ∷ 108 ∷ 105 ∷ 118 ∷ 101 ∷ 114 ∷ 121 ∷ []
+
+abbrev pub holidayWord : List ℕ
+holidayWord = 104 ∷ 111 ∷ 108 ∷ 105 ∷ 100 ∷ 97 ∷ 121 ∷ []
+
+abbrev pub registerWord : List ℕ
+registerWord = 114 ∷ 101 ∷ 103 ∷ 105 ∷ 115 ∷ 116 ∷ 101 ∷ 114 ∷ []
+
+-- the value of field i, where the first is 0
+abbrev pub value : List (List ℕ) → ℕ → ℕ
+value fields i = valueOf (getD fields i [])
+
+-- date, days, interval, kind, tolerance
+abbrev pub headOf : List ℕ → List (List ℕ) → Head
+headOf date fields = record {
+  year = valueOf (yearPart date);
+  month = valueOf (monthPart date);
+  day = valueOf (dayPart date);
+  days = value fields 0;
+  interval = value fields 1;
+  kind = value fields 2;
+  tolerance = value fields 3;
+}
+
+unfoldable pub openOf : List (List ℕ) → Line
+openOf [] = NoCall
+openOf (date ∷ fields) = cond (isDate date && areNumbers 4 fields) (Open (headOf date fields)) NoCall
+
+-- slot, version, value, status; the call takes a byte as status, so one over 255 is given as 255: both are over 7 and refused with 5
+unfoldable pub deliveryOf : List (List ℕ) → Line
+deliveryOf fields =
+    cond (areNumbers 4 fields) (Delivery (value fields 0) (value fields 1) (value fields 2) (min (value fields 3) 255)) NoCall
+
+-- day
+unfoldable pub holidayOf : List (List ℕ) → Line
+holidayOf fields = cond (areNumbers 1 fields) (Holiday (value fields 0)) NoCall
+
+-- boundary, version, reading
+unfoldable pub registerOf : List (List ℕ) → Line
+registerOf fields = cond (areNumbers 3 fields) (Register (value fields 0) (value fields 1) (value fields 2)) NoCall
+
+-- the keyword, then its fields; a line has at least one word
+unfoldable pub callOf : List (List ℕ) → Line
+callOf [] = NoCall
+callOf (word ∷ fields) =
+    cond (same word openWord) (openOf fields)
+    (cond (same word deliveryWord) (deliveryOf fields)
+    (cond (same word holidayWord) (holidayOf fields)
+    (cond (same word registerWord) (registerOf fields)
+    NoCall)))
+
+-- a line may end in CR LF
+unfoldable pub withoutCr : List ℕ → List ℕ
+withoutCr bytes = cond (eqb (getD bytes (length bytes - 1) 0) 13) (take (length bytes - 1) bytes) bytes
+
+-- an empty line, and one that begins with `#`
+unfoldable pub isPassed : List ℕ → Bool
+isPassed line = eqb (length line) 0 || eqb (getD line 0 0) 35
+
+-- the bytes of a line without its LF
+unfoldable pub lineOf : List ℕ → Line
+lineOf bytes =
+    cond (isPassed (withoutCr bytes)) Passed
+    (cond (ltb 255 (length (withoutCr bytes))) NoCall (callOf (words (withoutCr bytes))))

@@ -1,0 +1,157 @@
+// One line of a log: passed over, a call, or no call.
+use crate::number;
+use crate::number::Date;
+use crate::words;
+use rules::Head;
+ghost use mathlib.Core.Path.{_≡_};
+ghost use Prim.Native.Nat.{_≤_, min};
+ghost use lib.ListN.{length};
+ghost use Rattle.log.specs.Words.{words as wordsOf};
+ghost use Rattle.log.specs.Line.{openOf, deliveryOf, holidayOf, registerOf, callOf, lineOf};
+ghost use Rattle.log.specs.Inner.Parsing.{wordsAfter, cutAt};
+
+// What a line is.
+pub enum Line {
+    Passed,
+    Open(Head),
+    Delivery {
+        slot: u32,
+        version: u32,
+        value: u32,
+        status: u8,
+    },
+    Holiday(u32),
+    Register {
+        boundary: u32,
+        version: u32,
+        reading: u32,
+    },
+    NoCall,
+}
+
+fn status_byte(status: u32) -> u8
+    ensures { λ r. ⌜ r ≡ min status 255 ⌝ }
+{
+    if 255 < status { 255 } else { status as u8 }
+}
+
+// The fields after a keyword that ends at `end`, in each of these.
+fn open_after(line: &[u8], end: usize) -> Line
+    requires { ⌜ end ≤ length (now line) ⌝ }
+    ensures { λ r. ⌜ r ≡ openOf (wordsAfter (now (line .entry)) end) ⌝ }
+{
+    if line.len() <= end {
+        return Line::NoCall;
+    }
+    let from = end + 1;
+    let date = words::word_end(line, from);
+    let Date::Is(year, month, day) = number::date_of(&line[from..date]) else {
+        return Line::NoCall;
+    };
+    let fields = words::values_after(line, date, 4);
+    if !fields.good {
+        return Line::NoCall;
+    }
+    Line::Open(Head {
+        year,
+        month,
+        day,
+        days: fields.values[0],
+        interval: fields.values[1],
+        kind: fields.values[2],
+        tolerance: fields.values[3],
+    })
+}
+
+fn delivery_after(line: &[u8], end: usize) -> Line
+    requires { ⌜ end ≤ length (now line) ⌝ }
+    ensures { λ r. ⌜ r ≡ deliveryOf (wordsAfter (now (line .entry)) end) ⌝ }
+{
+    let fields = words::values_after(line, end, 4);
+    if !fields.good {
+        return Line::NoCall;
+    }
+    Line::Delivery {
+        slot: fields.values[0],
+        version: fields.values[1],
+        value: fields.values[2],
+        status: status_byte(fields.values[3]),
+    }
+}
+
+fn holiday_after(line: &[u8], end: usize) -> Line
+    requires { ⌜ end ≤ length (now line) ⌝ }
+    ensures { λ r. ⌜ r ≡ holidayOf (wordsAfter (now (line .entry)) end) ⌝ }
+{
+    let fields = words::values_after(line, end, 1);
+    if !fields.good {
+        return Line::NoCall;
+    }
+    Line::Holiday(fields.values[0])
+}
+
+fn register_after(line: &[u8], end: usize) -> Line
+    requires { ⌜ end ≤ length (now line) ⌝ }
+    ensures { λ r. ⌜ r ≡ registerOf (wordsAfter (now (line .entry)) end) ⌝ }
+{
+    let fields = words::values_after(line, end, 3);
+    if !fields.good {
+        return Line::NoCall;
+    }
+    Line::Register {
+        boundary: fields.values[0],
+        version: fields.values[1],
+        reading: fields.values[2],
+    }
+}
+
+fn call_of(line: &[u8]) -> Line
+    ensures { λ r. ⌜ r ≡ callOf (wordsOf (now (line .entry))) ⌝ }
+{
+    let end = words::word_end(line, 0);
+    let word = &line[..end];
+    if words::is_same(word, b"open") {
+        return open_after(line, end);
+    }
+    if words::is_same(word, b"delivery") {
+        return delivery_after(line, end);
+    }
+    if words::is_same(word, b"holiday") {
+        return holiday_after(line, end);
+    }
+    if words::is_same(word, b"register") {
+        return register_after(line, end);
+    }
+    Line::NoCall
+}
+
+// The length of a line without its CR.
+fn without_cr(bytes: &[u8]) -> usize
+    ensures { λ r. ⌜ cutAt (now (bytes .entry)) r ⌝ }
+{
+    if bytes.len() == 0 {
+        return 0;
+    }
+    let last = bytes.len() - 1;
+    if bytes[last] == b'\r' {
+        return last;
+    }
+    bytes.len()
+}
+
+// What the bytes of a line, without its LF, are.
+pub fn line_of(bytes: &[u8]) -> Line
+    ensures { λ r. ⌜ r ≡ lineOf (now (bytes .entry)) ⌝ }
+{
+    let n = without_cr(bytes);
+    if n == 0 {
+        return Line::Passed;
+    }
+    if bytes[0] == b'#' {
+        return Line::Passed;
+    }
+    if 255 < n {
+        return Line::NoCall;
+    }
+    call_of(&bytes[..n])
+}
