@@ -8,7 +8,8 @@ use borrow.Author.Tests.{eq-eqb, ne-eqb, lt-ltb, le-ltb}
 use lib.ListN.{length, getD, take, drop, List·getD-map}
 use lib.Seq.{getD-take, length-take-le, take-length}
 use Rattle.log.specs.declared.number.Date.the-variants as date
-use Rattle.log.specs.declared.line.Line.the-variants.{Passed, Open, Delivery, Holiday, Register, NoCall}
+use Rattle.log.specs.declared.line.Line.the-variants.{Passed, Open, Fill, NoCall}
+use Rattle.log.specs.declared.line.Call.the-variants.{Delivery, Holiday, Register}
 use Rattle.log.specs.Numbers.{valueAfter, valueOf, isDate, dateOf, yearPart, monthPart, dayPart}
 use Rattle.log.specs.Words.{words, same, areNumbers}
 use Rattle.log.specs.Line.{openWord, deliveryWord, holidayWord, registerWord, openOf, deliveryOf, holidayOf, registerOf, callOf, withoutCr, isPassed, lineOf}
@@ -34,18 +35,18 @@ no-register fields n = rw n
 
 module _ (fields : List (List ℕ)) (vs : List ℕ) where
   pub is-delivery : (status : ℕ) → status ≡ min (getD vs 3 0) 255 → areNumbers 4 fields ≡ true → take 4 vs ≡ map valueOf fields
-      → Delivery (getD vs 0 0) (getD vs 1 0) (getD vs 2 0) status ≡ deliveryOf fields
+      → Fill (Delivery (getD vs 0 0) (getD vs 1 0) (getD vs 2 0) status) ≡ deliveryOf fields
   unfolding deliveryOf
   is-delivery status s n e =
       let at = value-at fields 4 vs e in
       rw (n, s, at 0 (omega arith), at 1 (omega arith), at 2 (omega arith), at 3 (omega arith))
 
-  pub is-holiday : areNumbers 1 fields ≡ true → take 1 vs ≡ map valueOf fields → Holiday (getD vs 0 0) ≡ holidayOf fields
+  pub is-holiday : areNumbers 1 fields ≡ true → take 1 vs ≡ map valueOf fields → Fill (Holiday (getD vs 0 0)) ≡ holidayOf fields
   unfolding holidayOf
   is-holiday n e = rw (n, value-at fields 1 vs e 0 (omega arith))
 
   pub is-register : areNumbers 3 fields ≡ true → take 3 vs ≡ map valueOf fields
-      → Register (getD vs 0 0) (getD vs 1 0) (getD vs 2 0) ≡ registerOf fields
+      → Fill (Register (getD vs 0 0) (getD vs 1 0) (getD vs 2 0)) ≡ registerOf fields
   unfolding registerOf
   is-register n e =
       let at = value-at fields 3 vs e in rw (n, at 0 (omega arith), at 1 (omega arith), at 2 (omega arith))

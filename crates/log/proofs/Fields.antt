@@ -12,15 +12,15 @@ use lib.Seq.{take-suc-set}
 use Rattle.log.specs.declared.number.Number.the-variants.{Is, Not}
 use Rattle.log.specs.Numbers.{valueOf, numberOf}
 use Rattle.log.specs.Words.{split, words, areNumbers}
-use Rattle.log.specs.Inner.Parsing.{wordsAfter}
+use Rattle.log.specs.Inner.Parsing.{piecesAfter}
 use Rattle.log.proofs.Reading.{not-number, is-number}
 
-pub no-words : (line : List ℕ) (at : ℕ) → length line ≤ at → wordsAfter line at ≡ []
-unfolding wordsAfter
+pub no-words : (line : List ℕ) (at : ℕ) → length line ≤ at → piecesAfter 32 line at ≡ []
+unfolding piecesAfter
 no-words line at l = rw (le-ltb _ _ l)
 
-pub more-words : (line : List ℕ) (at : ℕ) → at < length line → wordsAfter line at ≡ words (drop (at + 1) line)
-unfolding wordsAfter
+pub more-words : (line : List ℕ) (at : ℕ) → at < length line → piecesAfter 32 line at ≡ words (drop (at + 1) line)
+unfolding piecesAfter
 more-words line at l = rw (lt-ltb _ _ l)
 
 -- a field is wanted, and there is none
@@ -61,21 +61,21 @@ no-good e = let z : _≡_ {A = ℕ} 0 1 = cc in absurd (omega arith)
 pub numbers-start : (n : ℕ) (ws : List (List ℕ)) → areNumbers n ws ≡ areNumbers (n - 0) ws
 numbers-start n ws = let z : n - 0 ≡ n = omega arith in rw z
 
-pub numbers-end : (line : List ℕ) (at n i : ℕ) → at ≤ length line → n ≤ i → areNumbers (n - i) (wordsAfter line at) ≡ eqb at (length line)
+pub numbers-end : (line : List ℕ) (at n i : ℕ) → at ≤ length line → n ≤ i → areNumbers (n - i) (piecesAfter 32 line at) ≡ eqb at (length line)
 unfolding areNumbers
 numbers-end line at n i l m = let z : n - i ≡ 0 = omega arith in rw z (go (eqb at (length line)) refl)
   where
     below : {a b : ℕ} → a ≤ b → (a ≡ b → ⊥) → a < b
     below k n = omega arith
 
-    go : (t : Bool) → eqb at (length line) ≡ t → areNumbers 0 (wordsAfter line at) ≡ eqb at (length line)
+    go : (t : Bool) → eqb at (length line) ≡ t → areNumbers 0 (piecesAfter 32 line at) ≡ eqb at (length line)
     go true e = rw (no-words line at (omega (arith, eqb-true at (length line) e))) (sym e)
     go false e =
         let less : at < length line = below l (eqb-false at (length line) e) in
         rw (more-words line at less) (split-some 32 [] (drop (at + 1) line) ∙ sym e)
 
 pub values-end : (line values : List ℕ) (at n i : ℕ) → n ≡ i → eqb at (length line) ≡ true
-    → take i values ++ map valueOf (wordsAfter line at) ≡ take n values
+    → take i values ++ map valueOf (piecesAfter 32 line at) ≡ take n values
 values-end line values at n i e f =
     let last : length line ≤ at = omega (arith, eqb-true at (length line) f) in
     rw (no-words line at last, append-nil, e)

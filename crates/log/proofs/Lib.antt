@@ -2,3 +2,4 @@ pub mod Reading
 pub mod Splitting
 pub mod Fields
 pub mod Calls
+pub mod Parts

@@ -9,40 +9,41 @@ use borrow.Author.Tests.{eq-eqb, ne-eqb, lt-ltb, le-ltb}
 use lib.Dec.{eqb}
 use lib.ListN.{length, getD, take, drop, length-drop}
 use lib.Seq.{take-suc, drop-cons, drop-length, getD-drop}
-use Rattle.log.specs.Words.{split, words, same}
-use Rattle.log.specs.Inner.Parsing.{wordsAfter}
+use Rattle.log.specs.Words.{split, same}
+use Rattle.log.specs.Inner.Parsing.{piecesAfter}
 
--- ---- The end of a word
+-- ---- The end of a piece
 
-module _ (line : List ℕ) (at i : ℕ) (m : at ≤ i) where
-  part : List ℕ
-  part = take (i - at) (drop at line)
-
-  part-more : i < length line → take ((i + 1) - at) (drop at line) ≡ take (i - at) (drop at line) ++ (getD line i 0 ∷ [])
+module _ (separator : ℕ) (bytes : List ℕ) (at i : ℕ) (m : at ≤ i) where
+  part-more : i < length bytes → take ((i + 1) - at) (drop at bytes) ≡ take (i - at) (drop at bytes) ++ (getD bytes i 0 ∷ [])
   part-more l =
       let next : (i + 1) - at ≡ suc (i - at) = omega arith in
-      let inside : i - at < length (drop at line) = rw length-drop (omega arith) in
+      let inside : i - at < length (drop at bytes) = rw length-drop (omega arith) in
       let place : at + (i - at) ≡ i = omega arith in
-      rw next (take-suc (drop at line) (i - at) 0 inside ∙ rw (getD-drop, place))
+      rw next (take-suc (drop at bytes) (i - at) 0 inside ∙ rw (getD-drop, place))
 
-  pub word-goes-on : i < length line → (getD line i 0 ≡ 32 → ⊥)
-      → split 32 (take (i - at) (drop at line)) (drop i line) ≡ split 32 (take ((i + 1) - at) (drop at line)) (drop (i + 1) line)
+  pub piece-goes-on : i < length bytes → (getD bytes i 0 ≡ separator → ⊥)
+      → split separator (take (i - at) (drop at bytes)) (drop i bytes)
+      ≡ split separator (take ((i + 1) - at) (drop at bytes)) (drop (i + 1) bytes)
   unfolding split
-  word-goes-on l n = rw (part-more l, drop-cons line i 0 l, add-one, ne-eqb _ _ n)
+  piece-goes-on l n = rw (part-more l, drop-cons bytes i 0 l, add-one, ne-eqb _ _ n)
 
-  pub word-ends : i < length line → getD line i 0 ≡ 32
-      → split 32 (take (i - at) (drop at line)) (drop i line) ≡ take (i - at) (drop at line) ∷ wordsAfter line i
-  unfolding split wordsAfter
-  word-ends l e = rw (lt-ltb _ _ l, drop-cons line i 0 l, add-one, eq-eqb _ _ e)
+  pub piece-ends : i < length bytes → getD bytes i 0 ≡ separator
+      → split separator (take (i - at) (drop at bytes)) (drop i bytes) ≡ take (i - at) (drop at bytes) ∷ piecesAfter separator bytes i
+  unfolding split piecesAfter
+  piece-ends l e = rw (lt-ltb _ _ l, drop-cons bytes i 0 l, add-one, eq-eqb _ _ e)
 
-  pub line-ends : i ≡ length line
-      → split 32 (take (i - at) (drop at line)) (drop i line) ≡ take (i - at) (drop at line) ∷ wordsAfter line i
-  unfolding split wordsAfter
-  line-ends e = let z : drop i line ≡ [] = rw e (drop-length line) in
-      let no : length line ≤ i = omega arith in rw (z, le-ltb _ _ no)
+  pub last-ends : i ≡ length bytes
+      → split separator (take (i - at) (drop at bytes)) (drop i bytes) ≡ take (i - at) (drop at bytes) ∷ piecesAfter separator bytes i
+  unfolding split piecesAfter
+  last-ends e =
+      let z : drop i bytes ≡ [] = rw e (drop-length bytes) in
+      let no : length bytes ≤ i = omega arith in
+      rw (z, le-ltb _ _ no)
 
-pub word-begins : (line : List ℕ) (at : ℕ) → words (drop at line) ≡ split 32 (take (at - at) (drop at line)) (drop at line)
-word-begins line at = let z : at - at ≡ 0 = omega arith in rw z
+pub piece-begins : (separator : ℕ) (bytes : List ℕ) (at : ℕ)
+    → split separator [] (drop at bytes) ≡ split separator (take (at - at) (drop at bytes)) (drop at bytes)
+piece-begins separator bytes at = let z : at - at ≡ 0 = omega arith in rw z
 
 -- ---- Equal words
 

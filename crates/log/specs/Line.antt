@@ -6,7 +6,8 @@ use lib.Dec.{ltb, eqb}
 use lib.ListN.{length, getD, take}
 use Rattle.rules.specs.declared.Head.{Head}
 use Rattle.log.specs.declared.line.Line.{Line}
-use Rattle.log.specs.declared.line.Line.the-variants.{Passed, Open, Delivery, Holiday, Register, NoCall}
+use Rattle.log.specs.declared.line.Line.the-variants.{Passed, Open, Fill, NoCall}
+use Rattle.log.specs.declared.line.Call.the-variants.{Delivery, Holiday, Register}
 use Rattle.log.specs.Numbers.{valueOf, isDate, yearPart, monthPart, dayPart}
 use Rattle.log.specs.Words.{words, same, areNumbers}
 
@@ -46,15 +47,15 @@ openOf (date ∷ fields) = cond (isDate date && areNumbers 4 fields) (Open (head
 -- slot, version, value, status; the call takes a byte as status, so one over 255 is given as 255: both are over 7 and refused with 5
 unfoldable pub deliveryOf : List (List ℕ) → Line
 deliveryOf fields =
-    cond (areNumbers 4 fields) (Delivery (value fields 0) (value fields 1) (value fields 2) (min (value fields 3) 255)) NoCall
+    cond (areNumbers 4 fields) (Fill (Delivery (value fields 0) (value fields 1) (value fields 2) (min (value fields 3) 255))) NoCall
 
 -- day
 unfoldable pub holidayOf : List (List ℕ) → Line
-holidayOf fields = cond (areNumbers 1 fields) (Holiday (value fields 0)) NoCall
+holidayOf fields = cond (areNumbers 1 fields) (Fill (Holiday (value fields 0))) NoCall
 
 -- boundary, version, reading
 unfoldable pub registerOf : List (List ℕ) → Line
-registerOf fields = cond (areNumbers 3 fields) (Register (value fields 0) (value fields 1) (value fields 2)) NoCall
+registerOf fields = cond (areNumbers 3 fields) (Fill (Register (value fields 0) (value fields 1) (value fields 2))) NoCall
 
 -- the keyword, then its fields; a line has at least one word
 unfoldable pub callOf : List (List ℕ) → Line

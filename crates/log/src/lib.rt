@@ -1,4 +1,6 @@
 // Text logs: one call a line.
 pub mod line;
+pub mod lists;
 mod number;
+mod pieces;
 mod words;

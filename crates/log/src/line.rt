@@ -1,6 +1,7 @@
 // One line of a log: passed over, a call, or no call.
 use crate::number;
 use crate::number::Date;
+use crate::pieces;
 use crate::words;
 use rules::Head;
 ghost use mathlib.Core.Path.{_≡_};
@@ -8,12 +9,10 @@ ghost use Prim.Native.Nat.{_≤_, min};
 ghost use lib.ListN.{length};
 ghost use Rattle.log.specs.Words.{words as wordsOf};
 ghost use Rattle.log.specs.Line.{openOf, deliveryOf, holidayOf, registerOf, callOf, lineOf};
-ghost use Rattle.log.specs.Inner.Parsing.{wordsAfter, cutAt};
+ghost use Rattle.log.specs.Inner.Parsing.{piecesAfter, cutAt};
 
-// What a line is.
-pub enum Line {
-    Passed,
-    Open(Head),
+// A call that fills a book.
+pub enum Call {
     Delivery {
         slot: u32,
         version: u32,
@@ -26,6 +25,13 @@ pub enum Line {
         version: u32,
         reading: u32,
     },
+}
+
+// What a line is.
+pub enum Line {
+    Passed,
+    Open(Head),
+    Fill(Call),
     NoCall,
 }
 
@@ -38,13 +44,13 @@ fn status_byte(status: u32) -> u8
 // The fields after a keyword that ends at `end`, in each of these.
 fn open_after(line: &[u8], end: usize) -> Line
     requires { ⌜ end ≤ length (now line) ⌝ }
-    ensures { λ r. ⌜ r ≡ openOf (wordsAfter (now (line .entry)) end) ⌝ }
+    ensures { λ r. ⌜ r ≡ openOf (piecesAfter 32 (now (line .entry)) end) ⌝ }
 {
     if line.len() <= end {
         return Line::NoCall;
     }
     let from = end + 1;
-    let date = words::word_end(line, from);
+    let date = pieces::end_of(line, from, b' ');
     let Date::Is(year, month, day) = number::date_of(&line[from..date]) else {
         return Line::NoCall;
     };
@@ -65,50 +71,50 @@ fn open_after(line: &[u8], end: usize) -> Line
 
 fn delivery_after(line: &[u8], end: usize) -> Line
     requires { ⌜ end ≤ length (now line) ⌝ }
-    ensures { λ r. ⌜ r ≡ deliveryOf (wordsAfter (now (line .entry)) end) ⌝ }
+    ensures { λ r. ⌜ r ≡ deliveryOf (piecesAfter 32 (now (line .entry)) end) ⌝ }
 {
     let fields = words::values_after(line, end, 4);
     if !fields.good {
         return Line::NoCall;
     }
-    Line::Delivery {
+    Line::Fill(Call::Delivery {
         slot: fields.values[0],
         version: fields.values[1],
         value: fields.values[2],
         status: status_byte(fields.values[3]),
-    }
+    })
 }
 
 fn holiday_after(line: &[u8], end: usize) -> Line
     requires { ⌜ end ≤ length (now line) ⌝ }
-    ensures { λ r. ⌜ r ≡ holidayOf (wordsAfter (now (line .entry)) end) ⌝ }
+    ensures { λ r. ⌜ r ≡ holidayOf (piecesAfter 32 (now (line .entry)) end) ⌝ }
 {
     let fields = words::values_after(line, end, 1);
     if !fields.good {
         return Line::NoCall;
     }
-    Line::Holiday(fields.values[0])
+    Line::Fill(Call::Holiday(fields.values[0]))
 }
 
 fn register_after(line: &[u8], end: usize) -> Line
     requires { ⌜ end ≤ length (now line) ⌝ }
-    ensures { λ r. ⌜ r ≡ registerOf (wordsAfter (now (line .entry)) end) ⌝ }
+    ensures { λ r. ⌜ r ≡ registerOf (piecesAfter 32 (now (line .entry)) end) ⌝ }
 {
     let fields = words::values_after(line, end, 3);
     if !fields.good {
         return Line::NoCall;
     }
-    Line::Register {
+    Line::Fill(Call::Register {
         boundary: fields.values[0],
         version: fields.values[1],
         reading: fields.values[2],
-    }
+    })
 }
 
 fn call_of(line: &[u8]) -> Line
     ensures { λ r. ⌜ r ≡ callOf (wordsOf (now (line .entry))) ⌝ }
 {
-    let end = words::word_end(line, 0);
+    let end = pieces::end_of(line, 0, b' ');
     let word = &line[..end];
     if words::is_same(word, b"open") {
         return open_after(line, end);

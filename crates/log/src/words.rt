@@ -1,34 +1,20 @@
 // Words of a line.
 use crate::number;
 use crate::number::Number;
+use crate::pieces;
 ghost use mathlib.Core.Bool.{true};
-ghost use mathlib.Core.List.{_∷_, map};
+ghost use mathlib.Core.List.{map};
 ghost use mathlib.Core.Path.{_≡_};
 ghost use Prim.Native.Nat.{_-_, _≤_};
-ghost use lib.ListN.{length, take, drop};
+ghost use lib.ListN.{length, take};
 ghost use Rattle.log.specs.Numbers.{valueOf};
-ghost use Rattle.log.specs.Words.{words, same as same·, areNumbers};
-ghost use Rattle.log.specs.Inner.Parsing.{wordsAfter};
+ghost use Rattle.log.specs.Words.{same as same·, areNumbers};
+ghost use Rattle.log.specs.Inner.Parsing.{piecesAfter};
 
 // The values of some words, where each of them is a number.
 pub struct Values {
     pub good: bool,
     pub values: [u32; 4],
-}
-
-// The end of the word that begins at `at`.
-pub fn word_end(line: &[u8], at: usize) -> usize
-    requires { ⌜ at ≤ length (now line) ⌝ }
-    ensures { λ r. ⌜ (at ≤ r) × (r ≤ length (now (line .entry))) × (words (drop at (now (line .entry))) ≡ take (r - at) (drop at (now (line .entry))) ∷ wordsAfter (now (line .entry)) r) ⌝ }
-{
-    let mut i = at;
-    while i < line.len() {
-        if line[i] == b' ' {
-            return i;
-        }
-        i += 1;
-    }
-    i
 }
 
 pub fn is_same(word: &[u8], other: &[u8]) -> bool
@@ -50,7 +36,7 @@ pub fn is_same(word: &[u8], other: &[u8]) -> bool
 // The values of the words after the one that ends at `end`: `count` numbers.
 pub fn values_after(line: &[u8], end: usize, count: usize) -> Values
     requires { ⌜ (end ≤ length (now line)) × (count ≤ 4) ⌝ }
-    ensures { λ r. ⌜ (r .good ≡ areNumbers count (wordsAfter (now (line .entry)) end)) × (r .good ≡ true → take count (r .values) ≡ map valueOf (wordsAfter (now (line .entry)) end)) ⌝ }
+    ensures { λ r. ⌜ (r .good ≡ areNumbers count (piecesAfter 32 (now (line .entry)) end)) × (r .good ≡ true → take count (r .values) ≡ map valueOf (piecesAfter 32 (now (line .entry)) end)) ⌝ }
 {
     let mut values = [0u32; 4];
     let mut at = end;
@@ -63,7 +49,7 @@ pub fn values_after(line: &[u8], end: usize, count: usize) -> Values
             };
         }
         let from = at + 1;
-        at = word_end(line, from);
+        at = pieces::end_of(line, from, b' ');
         let Number::Is(value) = number::number_of(&line[from..at]) else {
             return Values {
                 good: false,

@@ -13,8 +13,8 @@ returns c = no-fields _ (no-words (c .before .before .args .line .now) (c .befor
 add-from : tie.Need-add-from
 add-from c = search needs
 
-word-end-requires : tie.Need-word-end-requires
-word-end-requires c κs = search needs
+end-of-requires : tie.Need-end-of-requires
+end-of-requires c κs = search needs
 
 sub-date-of : tie.Need-sub-date-of
 sub-date-of c = search needs
@@ -35,13 +35,13 @@ enum-told : tie.Need-enum-told
 enum-told c = search needs
 
 returns-2 : tie.Need-returns-2
-returns-2 c = no-date _ _ _ (more-words (c .before .before .before .before .before .before .before .args .line .now) (c .before .before .before .before .before .before .before .args .end) (c .before .before .before .before .before .if1 .left) ∙ c .before .before .before .before .word-end .ensures .2) (sym (c .before .before .date-of .ensures) ∙ c .enum-told .given .1)
+returns-2 c = no-date _ _ _ (more-words (c .before .before .before .before .before .before .before .args .line .now) (c .before .before .before .before .before .before .before .args .end) (c .before .before .before .before .before .if1 .left) ∙ c .before .before .before .before .end-of .ensures .2) (sym (c .before .before .date-of .ensures) ∙ c .enum-told .given .1)
 
 values-after-requires : tie.Need-values-after-requires
 values-after-requires c κs = search needs
 
 returns-3 : tie.Need-returns-3
-returns-3 c = no-open _ _ _ (more-words (c .before .before .before .before .before .before .before .before .before .before .args .line .now) (c .before .before .before .before .before .before .before .before .before .before .args .end) (c .before .before .before .before .before .before .before .before .if1 .left) ∙ c .before .before .before .before .before .before .before .word-end .ensures .2) _ _ _ (sym (c .before .before .before .before .before .date-of .ensures) ∙ c .before .before .before .year .given .1) (sym (c .before .values-after .ensures .0) ∙ not-true _ (c .if2 .taken))
+returns-3 c = no-open _ _ _ (more-words (c .before .before .before .before .before .before .before .before .before .before .args .line .now) (c .before .before .before .before .before .before .before .before .before .before .args .end) (c .before .before .before .before .before .before .before .before .if1 .left) ∙ c .before .before .before .before .before .before .before .end-of .ensures .2) _ _ _ (sym (c .before .before .before .before .before .date-of .ensures) ∙ c .before .before .before .year .given .1) (sym (c .before .values-after .ensures .0) ∙ not-true _ (c .if2 .taken))
 
 element-copy-out-t19 : tie.Need-element-copy-out-t19
 element-copy-out-t19 c = search needs
@@ -56,7 +56,7 @@ element-copy-out-t28 : tie.Need-element-copy-out-t28
 element-copy-out-t28 c = search needs
 
 returns-4 : tie.Need-returns-4
-returns-4 c = is-open _ _ _ (more-words (c .before .before .before .before .before .before .before .before .before .before .before .before .before .before .args .line .now) (c .before .before .before .before .before .before .before .before .before .before .before .before .before .before .args .end) (c .before .before .before .before .before .before .before .before .before .before .before .before .if1 .left) ∙ c .before .before .before .before .before .before .before .before .before .before .before .word-end .ensures .2) _ _ _ (sym (c .before .before .before .before .before .before .before .before .before .date-of .ensures) ∙ c .before .before .before .before .before .before .before .year .given .1) (c .before .before .before .before .before .values-after .result .values) (sym (c .before .before .before .before .before .values-after .ensures .0) ∙ not-false _ (c .before .before .before .before .if2 .left)) (c .before .before .before .before .before .values-after .ensures .1 (not-false _ (c .before .before .before .before .if2 .left)))
+returns-4 c = is-open _ _ _ (more-words (c .before .before .before .before .before .before .before .before .before .before .before .before .before .before .args .line .now) (c .before .before .before .before .before .before .before .before .before .before .before .before .before .before .args .end) (c .before .before .before .before .before .before .before .before .before .before .before .before .if1 .left) ∙ c .before .before .before .before .before .before .before .before .before .before .before .end-of .ensures .2) _ _ _ (sym (c .before .before .before .before .before .before .before .before .before .date-of .ensures) ∙ c .before .before .before .before .before .before .before .year .given .1) (c .before .before .before .before .before .values-after .result .values) (sym (c .before .before .before .before .before .values-after .ensures .0) ∙ not-false _ (c .before .before .before .before .if2 .left)) (c .before .before .before .before .before .values-after .ensures .1 (not-false _ (c .before .before .before .before .if2 .left)))
 
 pub open-after-spec : {M : Type 1} → statement M
 open-after-spec =
@@ -64,7 +64,7 @@ open-after-spec =
     (tie.spec
     returns
     add-from
-    word-end-requires
+    end-of-requires
     sub-date-of
     part-date-of-start
     part-date-of-end

@@ -8,12 +8,12 @@ use native.Mathlib.Omega.{arith}
 use lib.ListN.{length, take, length-set}
 use Rattle.log.specs.Numbers.{valueOf}
 use Rattle.log.specs.Words.{areNumbers}
-use Rattle.log.specs.Inner.Parsing.{wordsAfter}
+use Rattle.log.specs.Inner.Parsing.{piecesAfter}
 use Rattle.log.proofs.words.values_after.Statement.{statement}
 use Rattle.log.proofs.words.values_after.Tie as tie
 
 abbrev Inv-loop : tie.InvT-loop
-Inv-loop line end count values₀ at₀ i₀ values at i = (at ≤ length line) × (i ≤ count) × (length values ≡ 4) × (areNumbers count (wordsAfter line end) ≡ areNumbers (count - i) (wordsAfter line at)) × (map valueOf (wordsAfter line end) ≡ take i values ++ map valueOf (wordsAfter line at))
+Inv-loop line end count values₀ at₀ i₀ values at i = (at ≤ length line) × (i ≤ count) × (length values ≡ 4) × (areNumbers count (piecesAfter 32 line end) ≡ areNumbers (count - i) (piecesAfter 32 line at)) × (map valueOf (piecesAfter 32 line end) ≡ take i values ++ map valueOf (piecesAfter 32 line at))
 
 abbrev μ-loop : tie.MeasureT-loop
 μ-loop line end count values₀ at₀ i₀ values at i = count - i
@@ -27,8 +27,8 @@ returns c = (sym (c .before .before .loop .inv .3 ∙ numbers-short (c .before .
 add-from : tie.Need-add-from Inv-loop μ-loop
 add-from c = search needs
 
-word-end-requires : tie.Need-word-end-requires Inv-loop μ-loop
-word-end-requires c κs = search needs
+end-of-requires : tie.Need-end-of-requires Inv-loop μ-loop
+end-of-requires c κs = search needs
 
 sub-number-of : tie.Need-sub-number-of Inv-loop μ-loop
 sub-number-of c = search needs
@@ -49,7 +49,7 @@ enum-told : tie.Need-enum-told Inv-loop μ-loop
 enum-told c = search needs
 
 returns-2 : tie.Need-returns-2 Inv-loop μ-loop
-returns-2 c = (sym (c .before .before .before .before .before .before .before .loop .inv .3 ∙ numbers-not (c .before .before .before .before .before .before .before .before .before .args .count) (c .before .before .before .before .before .before .before .loop .i) _ _ _ (search needs) (more-words (c .before .before .before .before .before .before .before .before .before .args .line .now) (c .before .before .before .before .before .before .before .loop .at) (search needs) ∙ c .before .before .before .before .word-end .ensures .2) (sym (c .before .before .number-of .ensures) ∙ c .enum-told .given .1)), no-good)
+returns-2 c = (sym (c .before .before .before .before .before .before .before .loop .inv .3 ∙ numbers-not (c .before .before .before .before .before .before .before .before .before .args .count) (c .before .before .before .before .before .before .before .loop .i) _ _ _ (search needs) (more-words (c .before .before .before .before .before .before .before .before .before .args .line .now) (c .before .before .before .before .before .before .before .loop .at) (search needs) ∙ c .before .before .before .before .end-of .ensures .2) (sym (c .before .before .number-of .ensures) ∙ c .enum-told .given .1)), no-good)
 
 mul-values : tie.Need-mul-values Inv-loop μ-loop
 mul-values c = search needs
@@ -64,7 +64,7 @@ loop-less : tie.Need-loop-less Inv-loop μ-loop
 loop-less c = search needs
 
 loop-again : tie.Need-loop-again Inv-loop μ-loop
-loop-again c = (search needs, search needs, simp length-set (c .before .before .before .before .before .before .before .before .loop .inv .2), c .before .before .before .before .before .before .before .before .loop .inv .3 ∙ numbers-next (c .before .before .before .before .before .before .before .before .before .before .args .count) (c .before .before .before .before .before .before .before .before .loop .i) _ _ _ (search needs) (more-words (c .before .before .before .before .before .before .before .before .before .before .args .line .now) (c .before .before .before .before .before .before .before .before .loop .at) (search needs) ∙ c .before .before .before .before .before .word-end .ensures .2) _ (sym (c .before .before .before .number-of .ensures) ∙ c .before .value .given .1), c .before .before .before .before .before .before .before .before .loop .inv .4 ∙ values-next (c .before .before .before .before .before .before .before .before .before .before .args .count) (c .before .before .before .before .before .before .before .before .loop .i) _ _ _ (search needs) (more-words (c .before .before .before .before .before .before .before .before .before .before .args .line .now) (c .before .before .before .before .before .before .before .before .loop .at) (search needs) ∙ c .before .before .before .before .before .word-end .ensures .2) (c .before .before .before .before .before .before .before .before .loop .values) _ (search needs) (sym (c .before .before .before .number-of .ensures) ∙ c .before .value .given .1))
+loop-again c = (search needs, search needs, simp length-set (c .before .before .before .before .before .before .before .before .loop .inv .2), c .before .before .before .before .before .before .before .before .loop .inv .3 ∙ numbers-next (c .before .before .before .before .before .before .before .before .before .before .args .count) (c .before .before .before .before .before .before .before .before .loop .i) _ _ _ (search needs) (more-words (c .before .before .before .before .before .before .before .before .before .before .args .line .now) (c .before .before .before .before .before .before .before .before .loop .at) (search needs) ∙ c .before .before .before .before .before .end-of .ensures .2) _ (sym (c .before .before .before .number-of .ensures) ∙ c .before .value .given .1), c .before .before .before .before .before .before .before .before .loop .inv .4 ∙ values-next (c .before .before .before .before .before .before .before .before .before .before .args .count) (c .before .before .before .before .before .before .before .before .loop .i) _ _ _ (search needs) (more-words (c .before .before .before .before .before .before .before .before .before .before .args .line .now) (c .before .before .before .before .before .before .before .before .loop .at) (search needs) ∙ c .before .before .before .before .before .end-of .ensures .2) (c .before .before .before .before .before .before .before .before .loop .values) _ (search needs) (sym (c .before .before .before .number-of .ensures) ∙ c .before .value .given .1))
 
 returns-3 : tie.Need-returns-3 Inv-loop μ-loop
 returns-3 c = (sym (c .before .loop .inv .3 ∙ numbers-end (c .before .before .before .args .line .now) (c .before .loop .at) (c .before .before .before .args .count) (c .before .loop .i) (search needs) (search needs)), λ e. sym (c .before .loop .inv .4 ∙ values-end (c .before .before .before .args .line .now) (c .before .loop .values) (c .before .loop .at) (c .before .before .before .args .count) (c .before .loop .i) (omega arith) e))
@@ -78,7 +78,7 @@ values-after-spec =
     loop-holds
     returns
     add-from
-    word-end-requires
+    end-of-requires
     sub-number-of
     part-number-of-start
     part-number-of-end
