@@ -3,3 +3,4 @@ pub mod Splitting
 pub mod Fields
 pub mod Calls
 pub mod Parts
+pub mod Played

@@ -2,4 +2,5 @@ pub mod Numbers
 pub mod Words
 pub mod Line
 pub mod Lists
+pub mod Playing
 pub mod Inner

@@ -3,4 +3,5 @@ pub mod line;
 pub mod lists;
 mod number;
 mod pieces;
+pub mod play;
 mod words;
