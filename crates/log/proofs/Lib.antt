@@ -4,3 +4,5 @@ pub mod Fields
 pub mod Calls
 pub mod Parts
 pub mod Played
+pub mod Alike
+pub mod Feeding

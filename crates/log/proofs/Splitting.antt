@@ -1,16 +1,16 @@
 -- Words found one after another.
-use mathlib.Core.Bool.{Bool, true, false, _&&_}
-use mathlib.Core.List.{List, [], _∷_, _++_}
+use mathlib.Core.Bool.{Bool, true, false, cond, _&&_}
+use mathlib.Core.List.{List, [], _∷_, _++_, append-assoc, append-nil}
 use mathlib.Core.Path.{_≡_, refl, ap, _∙_}
 use Prim.Native.Nat.{ℕ, suc, _+_, _-_, _≤_, _<_}
 use native.Mathlib.Numerals.{add-one}
 use native.Mathlib.Omega.{arith}
 use borrow.Author.Tests.{eq-eqb, ne-eqb, lt-ltb, le-ltb}
-use lib.Dec.{eqb}
+use lib.Dec.{eqb, ltb}
 use lib.ListN.{length, getD, take, drop, length-drop}
 use lib.Seq.{take-suc, drop-cons, drop-length, getD-drop}
 use Rattle.log.specs.Words.{split, same}
-use Rattle.log.specs.Inner.Parsing.{piecesAfter}
+use Rattle.log.specs.Inner.Parsing.{piecesAfter, piecesFrom}
 
 -- ---- The end of a piece
 
@@ -22,28 +22,51 @@ module _ (separator : ℕ) (bytes : List ℕ) (at i : ℕ) (m : at ≤ i) where
       let place : at + (i - at) ≡ i = omega arith in
       rw next (take-suc (drop at bytes) (i - at) 0 inside ∙ rw (getD-drop, place))
 
-  pub piece-goes-on : i < length bytes → (getD bytes i 0 ≡ separator → ⊥)
-      → split separator (take (i - at) (drop at bytes)) (drop i bytes)
-      ≡ split separator (take ((i + 1) - at) (drop at bytes)) (drop (i + 1) bytes)
+  pub piece-goes-on : i < length bytes → (getD bytes i 0 ≡ separator → ⊥) → (begun more : List ℕ)
+      → split separator (begun ++ take (i - at) (drop at bytes)) (drop i bytes ++ more)
+      ≡ split separator (begun ++ take ((i + 1) - at) (drop at bytes)) (drop (i + 1) bytes ++ more)
   unfolding split
-  piece-goes-on l n = rw (part-more l, drop-cons bytes i 0 l, add-one, ne-eqb _ _ n)
+  piece-goes-on l n begun more =
+      rw (
+        part-more l,
+        drop-cons bytes i 0 l,
+        add-one,
+        ne-eqb _ _ n,
+        append-assoc begun (take (i - at) (drop at bytes)) (getD bytes i 0 ∷ []),
+      )
 
-  pub piece-ends : i < length bytes → getD bytes i 0 ≡ separator
-      → split separator (take (i - at) (drop at bytes)) (drop i bytes) ≡ take (i - at) (drop at bytes) ∷ piecesAfter separator bytes i
-  unfolding split piecesAfter
-  piece-ends l e = rw (lt-ltb _ _ l, drop-cons bytes i 0 l, add-one, eq-eqb _ _ e)
+  pub piece-ends : i < length bytes → getD bytes i 0 ≡ separator → (begun more : List ℕ)
+      → split separator (begun ++ take (i - at) (drop at bytes)) (drop i bytes ++ more)
+      ≡ piecesFrom separator bytes i (begun ++ take (i - at) (drop at bytes)) more
+  unfolding split piecesFrom
+  piece-ends l e begun more = rw (lt-ltb _ _ l, drop-cons bytes i 0 l, add-one, eq-eqb _ _ e)
 
-  pub last-ends : i ≡ length bytes
-      → split separator (take (i - at) (drop at bytes)) (drop i bytes) ≡ take (i - at) (drop at bytes) ∷ piecesAfter separator bytes i
-  unfolding split piecesAfter
-  last-ends e =
+  pub bytes-end : i ≡ length bytes → (begun more : List ℕ)
+      → split separator (begun ++ take (i - at) (drop at bytes)) (drop i bytes ++ more)
+      ≡ piecesFrom separator bytes i (begun ++ take (i - at) (drop at bytes)) more
+  unfolding piecesFrom
+  bytes-end e begun more =
       let z : drop i bytes ≡ [] = rw e (drop-length bytes) in
       let no : length bytes ≤ i = omega arith in
       rw (z, le-ltb _ _ no)
 
-pub piece-begins : (separator : ℕ) (bytes : List ℕ) (at : ℕ)
-    → split separator [] (drop at bytes) ≡ split separator (take (at - at) (drop at bytes)) (drop at bytes)
-piece-begins separator bytes at = let z : at - at ≡ 0 = omega arith in rw z
+pub piece-begins : (separator : ℕ) (bytes : List ℕ) (at : ℕ) (begun more : List ℕ)
+    → split separator begun (drop at bytes ++ more) ≡ split separator (begun ++ take (at - at) (drop at bytes)) (drop at bytes ++ more)
+piece-begins separator bytes at begun more = let z : at - at ≡ 0 = omega arith in rw (z, append-nil)
+
+-- with no bytes before and after
+pub pieces : (separator : ℕ) (bytes : List ℕ) (at end : ℕ)
+    → ((begun more : List ℕ) → split separator begun (drop at bytes ++ more)
+    ≡ piecesFrom separator bytes end (begun ++ take (end - at) (drop at bytes)) more)
+    → split separator [] (drop at bytes) ≡ take (end - at) (drop at bytes) ∷ piecesAfter separator bytes end
+unfolding piecesFrom piecesAfter split
+pieces separator bytes at end e = rw (append-nil, append-nil) at (e [] [] ∙ either (ltb end (length bytes)))
+  where
+    either : (t : Bool)
+        → cond t (take (end - at) (drop at bytes) ∷ split separator [] (drop (end + 1) bytes ++ [])) (take (end - at) (drop at bytes) ∷ [])
+        ≡ take (end - at) (drop at bytes) ∷ cond t (split separator [] (drop (end + 1) bytes ++ [])) []
+    either true = refl
+    either false = refl
 
 -- ---- Equal words
 

@@ -3,4 +3,5 @@ pub mod Words
 pub mod Line
 pub mod Lists
 pub mod Playing
+pub mod Log
 pub mod Inner

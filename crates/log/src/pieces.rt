@@ -1,15 +1,15 @@
 // Pieces between separators: the words of a line, and the lines of a log.
-ghost use mathlib.Core.List.{[], _∷_};
+ghost use mathlib.Core.List.{List, _++_};
 ghost use mathlib.Core.Path.{_≡_};
-ghost use Prim.Native.Nat.{_-_, _≤_};
+ghost use Prim.Native.Nat.{ℕ, _-_, _≤_};
 ghost use lib.ListN.{length, take, drop};
 ghost use Rattle.log.specs.Words.{split};
-ghost use Rattle.log.specs.Inner.Parsing.{piecesAfter};
+ghost use Rattle.log.specs.Inner.Parsing.{piecesFrom};
 
-// The end of the piece that begins at `at`.
+// The end of the piece that begins at `at`, whatever bytes stand before and after.
 pub fn end_of(bytes: &[u8], at: usize, separator: u8) -> usize
     requires { ⌜ at ≤ length (now bytes) ⌝ }
-    ensures { λ r. ⌜ (at ≤ r) × (r ≤ length (now (bytes .entry))) × (split separator [] (drop at (now (bytes .entry))) ≡ take (r - at) (drop at (now (bytes .entry))) ∷ piecesAfter separator (now (bytes .entry)) r) ⌝ }
+    ensures { λ r. ⌜ (at ≤ r) × (r ≤ length (now (bytes .entry))) × ((begun more : List ℕ) → split separator begun (drop at (now (bytes .entry)) ++ more) ≡ piecesFrom separator (now (bytes .entry)) r (begun ++ take (r - at) (drop at (now (bytes .entry)))) more) ⌝ }
 {
     let mut i = at;
     while i < bytes.len() {

@@ -1,6 +1,7 @@
 -- `log::line::call_of` meets its contract.
 use mathlib.Core.Path.{sym, _∙_}
 use lib.Seq.{length-take-le}
+use Rattle.log.proofs.Splitting.{pieces}
 use Rattle.log.proofs.Calls.{first-word, call-open, call-delivery, call-holiday, call-register, call-none}
 use borrow.Author.Needs.{needs}
 use Rattle.log.proofs.line.call_of.Statement.{statement}
@@ -22,7 +23,7 @@ open-after-requires : tie.Need-open-after-requires
 open-after-requires c κs = search needs
 
 returns : tie.Need-returns
-returns c = c .open-after .ensures ∙ call-open _ _ _ (first-word _ (c .before .before .before .before .before .end-of .result) _ (c .before .before .before .before .before .end-of .ensures .2)) (sym (c .before .before .is-same .ensures) ∙ c .before .if1 .taken)
+returns c = c .open-after .ensures ∙ call-open _ _ _ (first-word _ (c .before .before .before .before .before .end-of .result) _ (pieces 32 _ _ (c .before .before .before .before .before .end-of .result) (c .before .before .before .before .before .end-of .ensures .2))) (sym (c .before .before .is-same .ensures) ∙ c .before .if1 .taken)
 
 slice-aggregate-is-same-2 : tie.Need-slice-aggregate-is-same-2
 slice-aggregate-is-same-2 c = search needs
@@ -34,7 +35,7 @@ delivery-after-requires : tie.Need-delivery-after-requires
 delivery-after-requires c κs = search needs
 
 returns-2 : tie.Need-returns-2
-returns-2 c = c .delivery-after .ensures ∙ call-delivery _ _ _ (first-word _ (c .before .before .before .before .before .before .before .before .end-of .result) _ (c .before .before .before .before .before .before .before .before .end-of .ensures .2)) (sym (c .before .before .before .before .before .is-same .ensures) ∙ c .before .before .before .before .if1 .left) (sym (c .before .before .is-same2 .ensures) ∙ c .before .if2 .taken)
+returns-2 c = c .delivery-after .ensures ∙ call-delivery _ _ _ (first-word _ (c .before .before .before .before .before .before .before .before .end-of .result) _ (pieces 32 _ _ (c .before .before .before .before .before .before .before .before .end-of .result) (c .before .before .before .before .before .before .before .before .end-of .ensures .2))) (sym (c .before .before .before .before .before .is-same .ensures) ∙ c .before .before .before .before .if1 .left) (sym (c .before .before .is-same2 .ensures) ∙ c .before .if2 .taken)
 
 slice-aggregate-is-same-3 : tie.Need-slice-aggregate-is-same-3
 slice-aggregate-is-same-3 c = search needs
@@ -46,7 +47,7 @@ holiday-after-requires : tie.Need-holiday-after-requires
 holiday-after-requires c κs = search needs
 
 returns-3 : tie.Need-returns-3
-returns-3 c = c .holiday-after .ensures ∙ call-holiday _ _ _ (first-word _ (c .before .before .before .before .before .before .before .before .before .before .before .end-of .result) _ (c .before .before .before .before .before .before .before .before .before .before .before .end-of .ensures .2)) (sym (c .before .before .before .before .before .before .before .before .is-same .ensures) ∙ c .before .before .before .before .before .before .before .if1 .left) (sym (c .before .before .before .before .before .is-same2 .ensures) ∙ c .before .before .before .before .if2 .left) (sym (c .before .before .is-same3 .ensures) ∙ c .before .if3 .taken)
+returns-3 c = c .holiday-after .ensures ∙ call-holiday _ _ _ (first-word _ (c .before .before .before .before .before .before .before .before .before .before .before .end-of .result) _ (pieces 32 _ _ (c .before .before .before .before .before .before .before .before .before .before .before .end-of .result) (c .before .before .before .before .before .before .before .before .before .before .before .end-of .ensures .2))) (sym (c .before .before .before .before .before .before .before .before .is-same .ensures) ∙ c .before .before .before .before .before .before .before .if1 .left) (sym (c .before .before .before .before .before .is-same2 .ensures) ∙ c .before .before .before .before .if2 .left) (sym (c .before .before .is-same3 .ensures) ∙ c .before .if3 .taken)
 
 slice-aggregate-is-same-4 : tie.Need-slice-aggregate-is-same-4
 slice-aggregate-is-same-4 c = search needs
@@ -58,10 +59,10 @@ register-after-requires : tie.Need-register-after-requires
 register-after-requires c κs = search needs
 
 returns-4 : tie.Need-returns-4
-returns-4 c = c .register-after .ensures ∙ call-register _ _ _ (first-word _ (c .before .before .before .before .before .before .before .before .before .before .before .before .before .before .end-of .result) _ (c .before .before .before .before .before .before .before .before .before .before .before .before .before .before .end-of .ensures .2)) (sym (c .before .before .before .before .before .before .before .before .before .before .before .is-same .ensures) ∙ c .before .before .before .before .before .before .before .before .before .before .if1 .left) (sym (c .before .before .before .before .before .before .before .before .is-same2 .ensures) ∙ c .before .before .before .before .before .before .before .if2 .left) (sym (c .before .before .before .before .before .is-same3 .ensures) ∙ c .before .before .before .before .if3 .left) (sym (c .before .before .is-same4 .ensures) ∙ c .before .if4 .taken)
+returns-4 c = c .register-after .ensures ∙ call-register _ _ _ (first-word _ (c .before .before .before .before .before .before .before .before .before .before .before .before .before .before .end-of .result) _ (pieces 32 _ _ (c .before .before .before .before .before .before .before .before .before .before .before .before .before .before .end-of .result) (c .before .before .before .before .before .before .before .before .before .before .before .before .before .before .end-of .ensures .2))) (sym (c .before .before .before .before .before .before .before .before .before .before .before .is-same .ensures) ∙ c .before .before .before .before .before .before .before .before .before .before .if1 .left) (sym (c .before .before .before .before .before .before .before .before .is-same2 .ensures) ∙ c .before .before .before .before .before .before .before .if2 .left) (sym (c .before .before .before .before .before .is-same3 .ensures) ∙ c .before .before .before .before .if3 .left) (sym (c .before .before .is-same4 .ensures) ∙ c .before .if4 .taken)
 
 returns-5 : tie.Need-returns-5
-returns-5 c = call-none _ _ _ (first-word _ (c .before .before .before .before .before .before .before .before .before .before .before .before .before .end-of .result) _ (c .before .before .before .before .before .before .before .before .before .before .before .before .before .end-of .ensures .2)) (sym (c .before .before .before .before .before .before .before .before .before .before .is-same .ensures) ∙ c .before .before .before .before .before .before .before .before .before .if1 .left) (sym (c .before .before .before .before .before .before .before .is-same2 .ensures) ∙ c .before .before .before .before .before .before .if2 .left) (sym (c .before .before .before .before .is-same3 .ensures) ∙ c .before .before .before .if3 .left) (sym (c .before .is-same4 .ensures) ∙ c .if4 .left)
+returns-5 c = call-none _ _ _ (first-word _ (c .before .before .before .before .before .before .before .before .before .before .before .before .before .end-of .result) _ (pieces 32 _ _ (c .before .before .before .before .before .before .before .before .before .before .before .before .before .end-of .result) (c .before .before .before .before .before .before .before .before .before .before .before .before .before .end-of .ensures .2))) (sym (c .before .before .before .before .before .before .before .before .before .before .is-same .ensures) ∙ c .before .before .before .before .before .before .before .before .before .if1 .left) (sym (c .before .before .before .before .before .before .before .is-same2 .ensures) ∙ c .before .before .before .before .before .before .if2 .left) (sym (c .before .before .before .before .is-same3 .ensures) ∙ c .before .before .before .if3 .left) (sym (c .before .is-same4 .ensures) ∙ c .if4 .left)
 
 pub call-of-spec : {M : Type 1} → statement M
 call-of-spec =

@@ -1,6 +1,7 @@
 -- `log::line::open_after` meets its contract.
 use mathlib.Core.Path.{sym, _∙_}
 use borrow.Author.Tests.{not-true, not-false}
+use Rattle.log.proofs.Splitting.{pieces}
 use Rattle.log.proofs.Fields.{no-words, more-words}
 use Rattle.log.proofs.Calls.{no-fields, no-date, no-open, is-open}
 use borrow.Author.Needs.{needs}
@@ -35,13 +36,13 @@ enum-told : tie.Need-enum-told
 enum-told c = search needs
 
 returns-2 : tie.Need-returns-2
-returns-2 c = no-date _ _ _ (more-words (c .before .before .before .before .before .before .before .args .line .now) (c .before .before .before .before .before .before .before .args .end) (c .before .before .before .before .before .if1 .left) ∙ c .before .before .before .before .end-of .ensures .2) (sym (c .before .before .date-of .ensures) ∙ c .enum-told .given .1)
+returns-2 c = no-date _ _ _ (more-words (c .before .before .before .before .before .before .before .args .line .now) (c .before .before .before .before .before .before .before .args .end) (c .before .before .before .before .before .if1 .left) ∙ pieces 32 _ _ (c .before .before .before .before .end-of .result) (c .before .before .before .before .end-of .ensures .2)) (sym (c .before .before .date-of .ensures) ∙ c .enum-told .given .1)
 
 values-after-requires : tie.Need-values-after-requires
 values-after-requires c κs = search needs
 
 returns-3 : tie.Need-returns-3
-returns-3 c = no-open _ _ _ (more-words (c .before .before .before .before .before .before .before .before .before .before .args .line .now) (c .before .before .before .before .before .before .before .before .before .before .args .end) (c .before .before .before .before .before .before .before .before .if1 .left) ∙ c .before .before .before .before .before .before .before .end-of .ensures .2) _ _ _ (sym (c .before .before .before .before .before .date-of .ensures) ∙ c .before .before .before .year .given .1) (sym (c .before .values-after .ensures .0) ∙ not-true _ (c .if2 .taken))
+returns-3 c = no-open _ _ _ (more-words (c .before .before .before .before .before .before .before .before .before .before .args .line .now) (c .before .before .before .before .before .before .before .before .before .before .args .end) (c .before .before .before .before .before .before .before .before .if1 .left) ∙ pieces 32 _ _ (c .before .before .before .before .before .before .before .end-of .result) (c .before .before .before .before .before .before .before .end-of .ensures .2)) _ _ _ (sym (c .before .before .before .before .before .date-of .ensures) ∙ c .before .before .before .year .given .1) (sym (c .before .values-after .ensures .0) ∙ not-true _ (c .if2 .taken))
 
 element-copy-out-t19 : tie.Need-element-copy-out-t19
 element-copy-out-t19 c = search needs
@@ -56,7 +57,7 @@ element-copy-out-t28 : tie.Need-element-copy-out-t28
 element-copy-out-t28 c = search needs
 
 returns-4 : tie.Need-returns-4
-returns-4 c = is-open _ _ _ (more-words (c .before .before .before .before .before .before .before .before .before .before .before .before .before .before .args .line .now) (c .before .before .before .before .before .before .before .before .before .before .before .before .before .before .args .end) (c .before .before .before .before .before .before .before .before .before .before .before .before .if1 .left) ∙ c .before .before .before .before .before .before .before .before .before .before .before .end-of .ensures .2) _ _ _ (sym (c .before .before .before .before .before .before .before .before .before .date-of .ensures) ∙ c .before .before .before .before .before .before .before .year .given .1) (c .before .before .before .before .before .values-after .result .values) (sym (c .before .before .before .before .before .values-after .ensures .0) ∙ not-false _ (c .before .before .before .before .if2 .left)) (c .before .before .before .before .before .values-after .ensures .1 (not-false _ (c .before .before .before .before .if2 .left)))
+returns-4 c = is-open _ _ _ (more-words (c .before .before .before .before .before .before .before .before .before .before .before .before .before .before .args .line .now) (c .before .before .before .before .before .before .before .before .before .before .before .before .before .before .args .end) (c .before .before .before .before .before .before .before .before .before .before .before .before .if1 .left) ∙ pieces 32 _ _ (c .before .before .before .before .before .before .before .before .before .before .before .end-of .result) (c .before .before .before .before .before .before .before .before .before .before .before .end-of .ensures .2)) _ _ _ (sym (c .before .before .before .before .before .before .before .before .before .date-of .ensures) ∙ c .before .before .before .before .before .before .before .year .given .1) (c .before .before .before .before .before .values-after .result .values) (sym (c .before .before .before .before .before .values-after .ensures .0) ∙ not-false _ (c .before .before .before .before .if2 .left)) (c .before .before .before .before .before .values-after .ensures .1 (not-false _ (c .before .before .before .before .if2 .left)))
 
 pub open-after-spec : {M : Type 1} → statement M
 open-after-spec =

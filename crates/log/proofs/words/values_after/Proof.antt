@@ -1,4 +1,5 @@
 -- `log::words::values_after` meets its contract.
+use Rattle.log.proofs.Splitting.{pieces}
 use Rattle.log.proofs.Fields.{no-good, numbers-start, no-words, more-words, numbers-short, numbers-not, numbers-next, values-next, numbers-end, values-end}
 use borrow.Author.Needs.{needs}
 use mathlib.Core.List.{_++_, map}
@@ -49,7 +50,7 @@ enum-told : tie.Need-enum-told Inv-loop μ-loop
 enum-told c = search needs
 
 returns-2 : tie.Need-returns-2 Inv-loop μ-loop
-returns-2 c = (sym (c .before .before .before .before .before .before .before .loop .inv .3 ∙ numbers-not (c .before .before .before .before .before .before .before .before .before .args .count) (c .before .before .before .before .before .before .before .loop .i) _ _ _ (search needs) (more-words (c .before .before .before .before .before .before .before .before .before .args .line .now) (c .before .before .before .before .before .before .before .loop .at) (search needs) ∙ c .before .before .before .before .end-of .ensures .2) (sym (c .before .before .number-of .ensures) ∙ c .enum-told .given .1)), no-good)
+returns-2 c = (sym (c .before .before .before .before .before .before .before .loop .inv .3 ∙ numbers-not (c .before .before .before .before .before .before .before .before .before .args .count) (c .before .before .before .before .before .before .before .loop .i) _ _ _ (search needs) (more-words (c .before .before .before .before .before .before .before .before .before .args .line .now) (c .before .before .before .before .before .before .before .loop .at) (search needs) ∙ pieces 32 _ _ (c .before .before .before .before .end-of .result) (c .before .before .before .before .end-of .ensures .2)) (sym (c .before .before .number-of .ensures) ∙ c .enum-told .given .1)), no-good)
 
 mul-values : tie.Need-mul-values Inv-loop μ-loop
 mul-values c = search needs
@@ -64,7 +65,7 @@ loop-less : tie.Need-loop-less Inv-loop μ-loop
 loop-less c = search needs
 
 loop-again : tie.Need-loop-again Inv-loop μ-loop
-loop-again c = (search needs, search needs, simp length-set (c .before .before .before .before .before .before .before .before .loop .inv .2), c .before .before .before .before .before .before .before .before .loop .inv .3 ∙ numbers-next (c .before .before .before .before .before .before .before .before .before .before .args .count) (c .before .before .before .before .before .before .before .before .loop .i) _ _ _ (search needs) (more-words (c .before .before .before .before .before .before .before .before .before .before .args .line .now) (c .before .before .before .before .before .before .before .before .loop .at) (search needs) ∙ c .before .before .before .before .before .end-of .ensures .2) _ (sym (c .before .before .before .number-of .ensures) ∙ c .before .value .given .1), c .before .before .before .before .before .before .before .before .loop .inv .4 ∙ values-next (c .before .before .before .before .before .before .before .before .before .before .args .count) (c .before .before .before .before .before .before .before .before .loop .i) _ _ _ (search needs) (more-words (c .before .before .before .before .before .before .before .before .before .before .args .line .now) (c .before .before .before .before .before .before .before .before .loop .at) (search needs) ∙ c .before .before .before .before .before .end-of .ensures .2) (c .before .before .before .before .before .before .before .before .loop .values) _ (search needs) (sym (c .before .before .before .number-of .ensures) ∙ c .before .value .given .1))
+loop-again c = (search needs, search needs, simp length-set (c .before .before .before .before .before .before .before .before .loop .inv .2), c .before .before .before .before .before .before .before .before .loop .inv .3 ∙ numbers-next (c .before .before .before .before .before .before .before .before .before .before .args .count) (c .before .before .before .before .before .before .before .before .loop .i) _ _ _ (search needs) (more-words (c .before .before .before .before .before .before .before .before .before .before .args .line .now) (c .before .before .before .before .before .before .before .before .loop .at) (search needs) ∙ pieces 32 _ _ (c .before .before .before .before .before .end-of .result) (c .before .before .before .before .before .end-of .ensures .2)) _ (sym (c .before .before .before .number-of .ensures) ∙ c .before .value .given .1), c .before .before .before .before .before .before .before .before .loop .inv .4 ∙ values-next (c .before .before .before .before .before .before .before .before .before .before .args .count) (c .before .before .before .before .before .before .before .before .loop .i) _ _ _ (search needs) (more-words (c .before .before .before .before .before .before .before .before .before .before .args .line .now) (c .before .before .before .before .before .before .before .before .loop .at) (search needs) ∙ pieces 32 _ _ (c .before .before .before .before .before .end-of .result) (c .before .before .before .before .before .end-of .ensures .2)) (c .before .before .before .before .before .before .before .before .loop .values) _ (search needs) (sym (c .before .before .before .number-of .ensures) ∙ c .before .value .given .1))
 
 returns-3 : tie.Need-returns-3 Inv-loop μ-loop
 returns-3 c = (sym (c .before .loop .inv .3 ∙ numbers-end (c .before .before .before .args .line .now) (c .before .loop .at) (c .before .before .before .args .count) (c .before .loop .i) (search needs) (search needs)), λ e. sym (c .before .loop .inv .4 ∙ values-end (c .before .before .before .args .line .now) (c .before .loop .values) (c .before .loop .at) (c .before .before .before .args .count) (c .before .loop .i) (omega arith) e))
