@@ -1,20 +1,22 @@
 -- The outage rule slot by slot, and what a pass knows of it.
-use mathlib.Core.Bool.{Bool, true, false, _&&_, _||_, false≢true}
+use mathlib.Core.Bool.{Bool, true, false, cond, false≢true}
 use mathlib.Core.List.{List}
-use mathlib.Core.Path.{_≡_, refl, sym, ap, _∙_}
+use mathlib.Core.Path.{_≡_, refl, ap}
 use Prim.Native.Nat.{ℕ, zero, suc, _+_, _-_, _≤_, _<_}
-use native.Mathlib.Numerals.{add-one, sub-one}
+use native.Mathlib.Nat.{add-zero, add-suc}
+use native.Mathlib.Numerals.{add-one}
 use native.Mathlib.Omega.{arith}
 use borrow.Author.Tests.{eq-eqb, ne-eqb}
-use lib.Dec.{ltb}
+use lib.Dec.{eqb}
 use lib.ListN.{getD}
-use Rattle.rules.specs.Tests.{isGap, outageBit}
 use Rattle.rules.specs.declared.Head.{Head}
 use Rattle.rules.specs.declared.fills.Fills.{Fills}
+use Rattle.rules.specs.declared.tests.Cause.{Cause}
+use Rattle.rules.specs.declared.tests.Cause.the-variants.{Gap}
 use Rattle.rules.specs.Opening.{Slots, slotCount}
-use Rattle.rules.specs.Filling.{outageAt, outageBefore, outageAfter, isOutageZero}
-use Rattle.rules.specs.Inner.Fills.{runEnds, afterAt, fillsAt}
-use Rattle.rules.proofs.Logic.{and-parts}
+use Rattle.rules.specs.Tests.{isGap, outageBit, isGood, causeOf, causeAt, goodAt}
+use Rattle.rules.specs.Filling.{outageAt, outageBefore, outageAfter, isOutageZero, filledAt}
+use Rattle.rules.specs.Inner.Fills.{actualOf, zeroAt, zeroBefore, fillsAt}
 
 module _ (v s : List ℕ) where
   pub gap : (i : ℕ) → getD v i 0 ≡ 0 → isGap v i ≡ true
@@ -43,62 +45,76 @@ module _ (v s : List ℕ) where
       let e : n - j ≡ suc (n - suc j) = omega arith in
       simp (e, g)
 
-  pub before-gap : (i : ℕ) → isGap v i ≡ true → outageBefore v s (i + 1) ≡ outageBefore v s i
-  unfolding outageBefore
-  before-gap i g = simp (add-one, g)
+  -- a delivered slot
+  pub zero-none : (n i : ℕ) → isGap v i ≡ false → zeroAt v s n i ≡ false
+  unfolding zeroAt
+  zero-none n i g = simp g
 
-  pub before-delivered : (i : ℕ) → isGap v i ≡ false → outageBefore v s (i + 1) ≡ outageBit (getD s i 0)
-  unfolding outageBefore outageAt
-  before-delivered i g = simp (add-one, g)
+  -- the first slot of the book
+  pub zero-first : (n i : ℕ) → i ≡ 0 → isGap v i ≡ true → zeroAt v s n i ≡ outageAfter v s i (n - i)
+  unfolding zeroAt outageBefore
+  zero-first n i e g = rw (g, e)
 
-  pub ends-none : (n i : ℕ) → isGap v i ≡ false → runEnds v s n i ≡ false
-  unfolding runEnds
-  ends-none n i g = simp g
+  -- slot i, a gap behind slot j
+  module _ (n i j : ℕ) (e : i ≡ suc j) (l : i < n) (g : isGap v i ≡ true) where
+    -- inside a run the answer for the slot before stands
+    pub zero-kept : isGap v j ≡ true → zeroBefore v s n i ≡ zeroAt v s n i
+    unfolding zeroBefore zeroAt outageBefore
+    zero-kept d =
+        let a : outageAfter v s j (n - j) ≡ outageAfter v s (suc j) (n - suc j) = rw add-one at (after-gap n j (omega arith) d) in
+        let k : isGap v (suc j) ≡ true = rw e at g in
+        rw (e, d, k, a)
 
-  pub ends-after : (n i : ℕ) → isGap v i ≡ true → runEnds v s n i ≡ outageAfter v s i (n - i)
-  unfolding runEnds
-  ends-after n i g = simp g
+    -- at its first slot the slot before is looked at
+    module _ (d : isGap v j ≡ false) where
+      before-run : outageBefore v s i ≡ outageBit (getD s j 0)
+      unfolding outageBefore outageAt
+      before-run = rw (e, d)
 
-  -- inside a run the answer for the slot before stands
-  pub ends-kept : (n i : ℕ) → i < n → isGap v i ≡ true → (ltb 0 i && isGap v (i - 1)) ≡ true → afterAt v s n i ≡ runEnds v s n i
-  unfolding afterAt
-  ends-kept n zero p g e = absurd (false≢true e)
-  ends-kept n (suc i) p g e =
-      let d : isGap v i ≡ true = rw sub-one at (and-parts (ltb 0 (suc i)) (isGap v (suc i - 1)) e .1) in
-      let q : i < n = omega arith in
-      ends-after n i d ∙ (rw add-one at (after-gap n i q d)) ∙ sym (ends-after n (suc i) g)
+      pub zero-before : outageBit (getD s j 0) ≡ true → zeroAt v s n i ≡ true
+      unfolding zeroAt
+      zero-before o = rw (g, before-run, o)
 
-  pub after-next : (n i : ℕ) → afterAt v s n (i + 1) ≡ runEnds v s n i
-  unfolding afterAt
-  after-next n i = rw add-one
+      pub zero-after : outageBit (getD s j 0) ≡ false → zeroAt v s n i ≡ outageAfter v s i (n - i)
+      unfolding zeroAt
+      zero-after o = rw (g, before-run, o)
 
--- a step of a pass
-module _ (h : Head) (s : Slots) (p : Fills) (e : p ≡ fillsAt h s (p .at)) (n : ℕ) (l : n ≡ slotCount h) where
-  pub fills-before : p .before ≡ outageBefore (s .versions) (s .statuses) (p .at)
-  unfolding fillsAt
-  fills-before = ap (λ (q : Fills). q .before) e
+  -- one slot on, k slots behind slot i
+  pub zero-on : (n i k : ℕ) → zeroAt v s n (i + k) ≡ zeroBefore v s n (i + (k + 1))
+  unfolding zeroBefore
+  zero-on n i k = rw (add-one, add-suc)
 
-  pub fills-after : p .after ≡ afterAt (s .versions) (s .statuses) n (p .at)
-  unfolding fillsAt
-  fills-after = rw l (ap (λ (q : Fills). q .after) e)
+module _ (h : Head) (s : Slots) where
+  pub zero-applies : (n : ℕ) → n ≡ slotCount h → (i : ℕ) → zeroAt (s .versions) (s .statuses) n i ≡ isOutageZero h s i
+  unfolding zeroAt isOutageZero
+  zero-applies n l i = rw l
 
-  pub fills-outage : (r : Bool) → r ≡ runEnds (s .versions) (s .statuses) n (p .at) → (isGap (s .versions) (p .at) && (p .before || r)) ≡ isOutageZero h s (p .at)
-  unfolding isOutageZero runEnds
-  fills-outage r q = rw (q, fills-before, l) (own (isGap (s .versions) (p .at)) (outageBefore (s .versions) (s .statuses) (p .at)) (outageAfter (s .versions) (s .statuses) (p .at) (slotCount h - p .at)))
+  -- a good slot is delivered
+  pub good-delivered : (i : ℕ) → goodAt h s i ≡ true → isGap (s .versions) i ≡ false
+  unfolding goodAt causeAt causeOf isGap
+  good-delivered i = go (eqb (getD (s .versions) i 0) 0) _
     where
-      own : (g x y : Bool) → (g && (x || (g && y))) ≡ (g && (x || y))
-      own true x y = refl
-      own false x y = refl
+      go : (t : Bool) (x : Cause) → isGood (cond t Gap x) ≡ true → t ≡ false
+      go true x e = absurd (false≢true e)
+      go false x e = refl
 
-  pub fills-next : (b r : Bool) → b ≡ outageBefore (s .versions) (s .statuses) (p .at + 1) → r ≡ runEnds (s .versions) (s .statuses) n (p .at) → record { at = p .at + 1; before = b; after = r } ≡ fillsAt h s (p .at + 1)
-  unfolding fillsAt
-  fills-next b r d q = rw (d, q, l, after-next (s .versions) (s .statuses) (slotCount h) (p .at))
+  pub filled-good : (holidays : List ℕ) (i : ℕ) → goodAt h s i ≡ true → actualOf (getD (s .values) i 0) ≡ filledAt h s holidays i
+  unfolding filledAt
+  filled-good holidays i g = rw g
 
--- where a pass stands
+-- a pass at slot i
 module _ (h : Head) (s : Slots) (p : Fills) (i : ℕ) (e : p ≡ fillsAt h s i) where
   pub fills-place : p .at ≡ i
   unfolding fillsAt
   fills-place = ap (λ (q : Fills). q .at) e
 
-  pub fills-here : p ≡ fillsAt h s (p .at)
-  fills-here = e ∙ ap (fillsAt h s) (sym fills-place)
+  pub fills-outage : (n : ℕ) → n ≡ slotCount h → p .outage ≡ zeroBefore (s .versions) (s .statuses) n i
+  unfolding fillsAt
+  fills-outage n l = rw l (ap (λ (q : Fills). q .outage) e)
+
+pub fills-next : (h : Head) (s : Slots) (i : ℕ) (n : ℕ) → n ≡ slotCount h → (r : Bool) → r ≡ zeroAt (s .versions) (s .statuses) n i
+    → record { at = i + 1; outage = r } ≡ fillsAt h s (i + 1)
+unfolding fillsAt
+fills-next h s i n l r q =
+    let z : zeroAt (s .versions) (s .statuses) n (i + 0) ≡ zeroBefore (s .versions) (s .statuses) n (i + 1) = zero-on (s .versions) (s .statuses) n i 0 in
+    rw (q, ← l, ← z, add-zero)

@@ -3,7 +3,7 @@ use mathlib.Core.Bool.{Bool, true, false}
 use mathlib.Core.Path.{_≡_, refl}
 use Prim.Native.Nat.{ℕ, suc, _+_, _-_, _≤_, _<_}
 use native.Mathlib.Omega.{arith}
-use borrow.Author.Tests.{eqb-false}
+use borrow.Author.Tests.{eqb-true, eqb-false}
 use Rattle.rules.specs.declared.Head.{Head}
 use Rattle.rules.specs.declared.Outcome.{Outcome}
 use Rattle.rules.specs.Lists.{sum, any}
@@ -48,6 +48,13 @@ module _ (h : Head) (b : Cells) (first last : ℕ) where
   not-all-zero : allZero h b first last ≡ false → sum (λ i. substitutedIn (before i)) a k ≡ 0 → ⊥
   unfolding allZero
   not-all-zero z = eqb-false _ _ z
+
+  -- each of them is 0 where they sum to 0
+  pub zero-each : allZero h b first last ≡ true → (i : ℕ) → a ≤ i → i < a + k → substitutedIn (before i) ≡ 0
+  unfolding allZero
+  zero-each z i l m =
+      let n : sum (λ j. substitutedIn (before j)) a k ≡ 0 = eqb-true _ _ z in
+      omega (arith, sum-place (λ j. substitutedIn (before j)) a k i l m)
 
   -- with an S slot E is above 0
   pub shape-positive : any (λ i. isS (before i .quality)) a k ≡ true → 0 < E h b first last

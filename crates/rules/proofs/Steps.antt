@@ -1,11 +1,12 @@
 -- One slot of the pass: its outcome in the stretch that it lies in, and the stretch that is carried on.
-use mathlib.Core.Bool.{Bool, true, false, cond, and-true, and-false, false≢true}
+use mathlib.Core.Bool.{Bool, true, false, cond, and-true, and-false}
 use mathlib.Core.Option.{Option, none, some}
 use mathlib.Core.Path.{_≡_, refl, sym, ap, _∙_}
 use Prim.Native.Nat.{ℕ, suc, _+_, _-_, _*_, _/_, _≤_, _<_}
 use native.Mathlib.Nat.{le-div-iff-mul-le, div-lt-iff-lt-mul, add-zero}
 use native.Mathlib.Numerals.{add-one}
 use native.Mathlib.Omega.{arith}
+use borrow.Author.Tests.{ne-eqb}
 use lib.Dec.{eqb, lit≤}
 use Rattle.rules.specs.declared.Head.{Head}
 use Rattle.rules.specs.declared.Outcome.{Outcome}
@@ -14,13 +15,13 @@ use Rattle.rules.specs.declared.stretch.Stretch.{Stretch}
 use Rattle.rules.specs.Opening.{Cells, slotsPerDay, slotCount}
 use Rattle.rules.specs.Filling.{filledAt}
 use Rattle.rules.specs.Spans.{isS, lastRead, nextRead, filled, start, slotsIn, stateOf, T, allZero, e, E, C, P, newValue, inSpan, between, outcomeAt}
-use Rattle.rules.specs.Inner.Summaries.{weightOf, scaledBy, Scales}
-use Rattle.rules.specs.Inner.Stretches.{unscaledTo, scalingAt, spanStretch, stretchOf, stretchOn, stretchAt, carriedAt, fitOutcome, fitNext}
+use Rattle.rules.specs.Inner.Summaries.{scaledBy, Scales}
+use Rattle.rules.specs.Inner.Stretches.{unscaledTo, scalingAt, spanStretch, stretchOf, stretchOn, stretchAt, carriedAt, scales, fitOutcome, fitNext}
 use Rattle.rules.proofs.Bounds.{Bounded, count-high}
 use Rattle.rules.proofs.Boundaries.{last-tells, next-tells}
 use Rattle.rules.proofs.Places.{span-end, slots-within}
 use Rattle.rules.proofs.Outcomes.{advance-low}
-use Rattle.rules.proofs.Scaling.{running, shape-positive}
+use Rattle.rules.proofs.Scaling.{running, zero-each, shape-positive}
 use Rattle.rules.proofs.Small.{filled-small}
 use Rattle.rules.proofs.Summaries.{sum-small, cond-small}
 use Rattle.rules.proofs.Sums.{sum-grows, any-some}
@@ -34,7 +35,7 @@ newly h b first last i =
 
 -- such a span before slot i
 abbrev within : Head → Cells → ℕ → ℕ → ℕ → Stretch
-within h b first last i = record { until = last * slotsPerDay h; scaled = true; by = scalingAt h b first last i }
+within h b first last i = record { until = last * slotsPerDay h; by = scalingAt h b first last i }
 
 -- slot i in an unscaled stretch or in a scaled span: the stretch before it, its outcome, the stretch behind it
 data Slot (h : Head) (b : Cells) (i : ℕ) : Stretch → Outcome → Stretch → Type 0 where
@@ -76,7 +77,7 @@ module _ (h : Head) (w : Bounded h) (b : Cells) (i : ℕ) where
       go none none p q = unscaled (slotCount h)
 
   -- in a scaled span
-  module _ (first last : ℕ) (l : start h b first last ≤ i) where
+  module _ (first last : ℕ) (l : start h b first last ≤ i) (m : i < start h b first last + slotsIn h b first last) where
     abbrev o : Outcome
     o = filled h b first last i
 
@@ -85,42 +86,54 @@ module _ (h : Head) (w : Bounded h) (b : Cells) (i : ℕ) where
     unfolding P C
     passed = rw add-one at (running h b first last i l)
 
-    weight : isS (o .quality) ≡ true → e h b first last i ≡ weightOf (allZero h b first last) (o .value)
-    unfolding e weightOf
-    weight q = rw q
+    module _ (q : isS (o .quality) ≡ true) where
+      -- where all e are 0, 1 is added
+      weight : e h b first last i ≡ o .value + cond (allZero h b first last) 1 0
+      unfolding e
+      weight = rw q (go (allZero h b first last) refl)
+        where
+          go : (z : Bool) → allZero h b first last ≡ z → cond z 1 (o .value) ≡ o .value + cond z 1 0
+          go true z = let n : o .value ≡ 0 = rw q at (zero-each h b first last z i l m) in rw n
+          go false z = sym (add-zero (o .value))
 
-    weightless : isS (o .quality) ≡ false → e h b first last i ≡ 0
-    unfolding e
-    weightless q = rw q
+      new-value : scaledBy (o .value) (scalingAt h b first last i) .value ≡ newValue h b first last i
+      unfolding scaledBy newValue
+      new-value = rw (← weight, ← running h b first last i l)
 
-    new-value : isS (o .quality) ≡ true → scaledBy (o .value) (scalingAt h b first last i) .value ≡ newValue h b first last i
-    unfolding scaledBy newValue
-    new-value q = rw (← weight q, ← running h b first last i l)
+      scaling-on : scaledBy (o .value) (scalingAt h b first last i) .next ≡ scalingAt h b first last (suc i)
+      unfolding scaledBy
+      scaling-on = rw (← weight, passed)
 
-    scaling-on : isS (o .quality) ≡ true → scaledBy (o .value) (scalingAt h b first last i) .next ≡ scalingAt h b first last (suc i)
-    unfolding scaledBy
-    scaling-on q = rw (← weight q, passed)
+      -- the span is scaled
+      whole-low : 0 < E h b first last
+      whole-low = shape-positive h b first last (any-some (λ j. isS (filled h b first last j .quality)) (start h b first last) (slotsIn h b first last) i l m q)
+
+      scaling : scales (within h b first last i) ≡ true
+      scaling = let n : E h b first last ≡ 0 → ⊥ = omega (arith, whole-low) in rw (ne-eqb _ _ n)
 
     scaling-kept : isS (o .quality) ≡ false → scalingAt h b first last i ≡ scalingAt h b first last (suc i)
-    scaling-kept q = rw (passed, weightless q, add-zero)
+    unfolding e
+    scaling-kept q =
+        let z : e h b first last i ≡ 0 = rw q in
+        rw (passed, z, add-zero)
 
   fit-outcome : {before after : Stretch} {x : Outcome} → Slot h b i before x after → fitOutcome (filledAt h (b .slots) (b .holidays) i) before ≡ x
   unfolding fitOutcome
-  fit-outcome (unscaled until) = refl
+  fit-outcome (unscaled until) = rw and-false
   fit-outcome (scaled first last l m j k) = go (isS (filled h b first last i .quality)) refl
     where
       go : (q : Bool) → isS (filled h b first last i .quality) ≡ q → fitOutcome (filled h b first last i) (within h b first last i) ≡ newly h b first last i
-      go true q = rw (q, new-value first last l q)
+      go true q = rw (q, scaling first last l m q, new-value first last l m q)
       go false q = rw q
 
   fit-next : {before after : Stretch} {x : Outcome} → Slot h b i before x after → fitNext (filledAt h (b .slots) (b .holidays) i) before ≡ after
   unfolding fitNext
-  fit-next (unscaled until) = refl
+  fit-next (unscaled until) = rw and-false
   fit-next (scaled first last l m j k) = go (isS (filled h b first last i .quality)) refl
     where
       go : (q : Bool) → isS (filled h b first last i .quality) ≡ q → fitNext (filled h b first last i) (within h b first last i) ≡ within h b first last (suc i)
-      go true q = rw (q, scaling-on first last l q)
-      go false q = rw (q, scaling-kept first last l q)
+      go true q = rw (q, scaling first last l m q, scaling-on first last l m q)
+      go false q = rw (q, scaling-kept first last l m q)
 
   module _ (first last : ℕ) where
     e-small : (j : ℕ) → e h b first last j ≤ 35000
@@ -138,22 +151,22 @@ module _ (h : Head) (w : Bounded h) (b : Cells) (i : ℕ) where
         omega (arith, sum-small (e h b first last) 35000 e-small (start h b first last) (slotsIn h b first last), slots-within h first last l m, count-high h w)
 
     room : start h b first last ≤ i → i < start h b first last + slotsIn h b first last → isS (filled h b first last i .quality) ≡ true
-        → P h b first last i + weightOf (allZero h b first last) (filled h b first last i .value) ≤ E h b first last
+        → P h b first last i + (filled h b first last i .value + cond (allZero h b first last) 1 0) ≤ E h b first last
     unfolding C E
     room l m q =
-        rw (← weight first last l q, ← running h b first last i l)
+        rw (← weight first last l m q, ← running h b first last i l)
         (sum-grows (e h b first last) (start h b first last) {j = i + 1 - start h b first last} {k = slotsIn h b first last} (omega arith))
 
-  scales : {before after : Stretch} {x : Outcome} → Slot h b i before x after → before .scaled ≡ true → isS (filledAt h (b .slots) (b .holidays) i .quality) ≡ true
+  scaled-well : {before after : Stretch} {x : Outcome} → Slot h b i before x after → isS (filledAt h (b .slots) (b .holidays) i .quality) ≡ true → (before .by .whole ≡ 0 → ⊥)
       → Scales (filledAt h (b .slots) (b .holidays) i .value) (before .by)
   unfolding T
-  scales (unscaled until) t q = absurd (false≢true t)
-  scales (scaled first last l m j k) t q =
+  scaled-well (unscaled until) q t = absurd (t refl)
+  scaled-well (scaled first last l m j k) q t =
       record {
         t-low = omega (arith, advance-low h b first last);
         room = room first last l m q;
         whole-high = shape-high first last j k;
-        whole-low = shape-positive h b first last (any-some (λ j. isS (filled h b first last j .quality)) (start h b first last) (slotsIn h b first last) i l m q);
+        whole-low = whole-low first last l m q;
       }
 
   -- slot i itself
@@ -163,5 +176,5 @@ module _ (h : Head) (w : Bounded h) (b : Cells) (i : ℕ) where
   pub step-next : fitNext (filledAt h (b .slots) (b .holidays) i) (stretchAt h b i) ≡ carriedAt h b (i + 1)
   step-next = fit-next slot ∙ ap (carriedAt h b) (sym (add-one i))
 
-  pub step-scales : stretchAt h b i .scaled ≡ true → isS (filledAt h (b .slots) (b .holidays) i .quality) ≡ true → Scales (filledAt h (b .slots) (b .holidays) i .value) (stretchAt h b i .by)
-  step-scales = scales slot
+  pub step-scales : isS (filledAt h (b .slots) (b .holidays) i .quality) ≡ true → (stretchAt h b i .by .whole ≡ 0 → ⊥) → Scales (filledAt h (b .slots) (b .holidays) i .value) (stretchAt h b i .by)
+  step-scales = scaled-well slot

@@ -5,6 +5,7 @@ use mathlib.Core.Path.{_≡_, refl, sym, ap, _∙_}
 use Prim.Native.Nat.{ℕ, zero, suc, _+_, _*_, _≤_, zero-le}
 use native.Mathlib.Nat.{add-zero, add-le-add, suc-mul}
 use native.Mathlib.Numerals.{add-one}
+use native.Mathlib.Omega.{arith}
 use lib.Dec.{lit≤}
 use Rattle.rules.specs.declared.Head.{Head}
 use Rattle.rules.specs.declared.Outcome.{Outcome}
@@ -30,22 +31,29 @@ cond-small true x m p = p
 cond-small false x m p = zero-le
 
 module _ (h : Head) (s : Slots) (holidays : List ℕ) (a k : ℕ) where
-  pub summary-next : summaryOf h s holidays a (k + 1) ≡ addedTo (summaryOf h s holidays a k) (filledAt h s holidays (a + k))
+  summary-next : summaryOf h s holidays a (k + 1) ≡ addedTo (summaryOf h s holidays a k) (filledAt h s holidays (a + k))
   unfolding summaryOf addedTo sum any
   summary-next = rw add-one
 
-  pub count-small : summaryOf h s holidays a k .count ≤ k * 1
+  -- one slot on, where o is that slot
+  pub summary-on : (m r : Summary) (o : Outcome) → m ≡ summaryOf h s holidays a k → r ≡ addedTo m o → o ≡ filledAt h s holidays (a + k) → r ≡ summaryOf h s holidays a (k + 1)
+  summary-on m r o e f g = f ∙ (rw (e, g) (sym summary-next))
+
+  count-small : summaryOf h s holidays a k .count ≤ k * 1
   unfolding summaryOf
   count-small = sum-small _ 1 (λ i. cond-small (isS (filledAt h s holidays i .quality)) 1 1 (lit≤ tt)) a k
 
   module _ (b : Bounded h) where
-    pub actual-small : summaryOf h s holidays a k .actual ≤ k * 35000
+    actual-small : summaryOf h s holidays a k .actual ≤ k * 35000
     unfolding summaryOf
     actual-small = sum-small _ 35000 (λ i. cond-small (isA (filledAt h s holidays i .quality)) _ _ (filled-small h b s holidays i)) a k
 
-    pub substituted-small : summaryOf h s holidays a k .substituted ≤ k * 35000
+    substituted-small : summaryOf h s holidays a k .substituted ≤ k * 35000
     unfolding summaryOf
     substituted-small = sum-small _ 35000 (λ i. cond-small (isS (filledAt h s holidays i .quality)) _ _ (filled-small h b s holidays i)) a k
+
+    pub summary-fits : k ≤ 115200 → (m : Summary) → m ≡ summaryOf h s holidays a k → (m .actual ≤ 4032000000) × (m .substituted ≤ 4032000000) × (m .count ≤ 115200)
+    summary-fits l m e = rw e (omega (arith, actual-small), omega (arith, substituted-small), omega (arith, count-small))
 
 -- `spans::add` goes by the slot's quality
 module _ (m : Summary) (o : Outcome) where

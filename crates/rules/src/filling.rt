@@ -4,12 +4,15 @@ use crate::Outcome;
 use crate::Quality;
 use crate::opening;
 use crate::tests;
+ghost use mathlib.Core.Bool.{false};
 ghost use mathlib.Core.Path.{_≡_};
 ghost use Prim.Native.Nat.{_+_, _/_, _<_, _≤_};
 ghost use lib.ListN.{take};
 ghost use Rattle.rules.specs.Opening.{slotCount};
+ghost use Rattle.rules.specs.Tests.{goodAt};
 ghost use Rattle.rules.specs.Filling.{isReference, references, meanOf, isLinear, fromReferences, isOutageZero, filledAt};
 ghost use Rattle.rules.specs.Inner.Lent.{lentSlots, Fitted, Lent};
+ghost use Rattle.rules.specs.Inner.Fills.{actualOf};
 
 // Up to four values of the same position on earlier weeks, nearest first.
 pub struct References {
@@ -148,7 +151,18 @@ fn same_day(
     }
 }
 
-// The outcome of slot `at` before scaling; `outage` says whether outage zero applies.
+// The outcome of a good slot.
+pub fn delivered(value: u32) -> Outcome
+    ensures { λ r. ⌜ r ≡ actualOf value ⌝ }
+{
+    Outcome {
+        value: value,
+        quality: Quality::A,
+        method: 0,
+    }
+}
+
+// The outcome before scaling of slot `at`, which has a cause; `outage` says whether outage zero applies.
 pub fn unscaled(
     head: Head,
     values: &[u32],
@@ -158,16 +172,9 @@ pub fn unscaled(
     at: usize,
     outage: bool,
 ) -> Outcome
-    requires { ⌜ Lent head (lentSlots values versions statuses) (now holidays) × (at < slotCount head) × (outage ≡ isOutageZero head (lentSlots values versions statuses) at) ⌝ }
+    requires { ⌜ Lent head (lentSlots values versions statuses) (now holidays) × (at < slotCount head) × (goodAt head (lentSlots values versions statuses) at ≡ false) × (outage ≡ isOutageZero head (lentSlots values versions statuses) at) ⌝ }
     ensures { λ r. ⌜ r ≡ filledAt head (lentSlots (values .entry) (versions .entry) (statuses .entry)) (now (holidays .entry)) at ⌝ }
 {
-    if tests::is_good(head, values, versions, statuses, at) {
-        return Outcome {
-            value: values[at],
-            quality: Quality::A,
-            method: 0,
-        };
-    }
     if outage {
         return Outcome {
             value: 0,

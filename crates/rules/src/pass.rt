@@ -31,8 +31,7 @@ pub fn first() -> Pass
 {
     let fills = Fills {
         at: 0,
-        before: false,
-        after: false,
+        outage: false,
     };
     Pass {
         fills: fills,

@@ -2,8 +2,10 @@
 use crate::Head;
 use crate::Outcome;
 use crate::Quality;
+use crate::filling;
 use crate::fills;
 use crate::fills::Fills;
+use crate::tests;
 ghost use mathlib.Core.Path.{_≡_};
 ghost use lib.Dec.{leb};
 ghost use Prim.Native.Nat.{_+_, _-_, _<_, _≤_};
@@ -11,7 +13,7 @@ ghost use Rattle.rules.specs.Opening.{slotCount};
 ghost use Rattle.rules.specs.Spans.{isS, advance, apart, stateBy, share};
 ghost use Rattle.rules.specs.Inner.Lent.{lentSlots, Lent};
 ghost use Rattle.rules.specs.Inner.Fills.{fillsAt};
-ghost use Rattle.rules.specs.Inner.Summaries.{summaryOf, addedTo, weightOf, scalingOf, scaledBy, Scales};
+ghost use Rattle.rules.specs.Inner.Summaries.{summaryOf, addedTo, scalingOf, scaledBy, Scales};
 
 // V, the sum and the number of the S values, whether a slot is N, whether one is S.
 pub struct Summary {
@@ -22,11 +24,11 @@ pub struct Summary {
     pub filled: bool,
 }
 
-// T, E, whether each e counts as 1, and P.
+// T, E, what is added to each e (1 where all are 0) and P. Where nothing is scaled, E is 0.
 pub struct Scaling {
     pub t: u64,
     pub whole: u64,
-    pub ones: bool,
+    pub extra: u64,
     pub passed: u64,
 }
 
@@ -87,14 +89,21 @@ pub fn summarise(
         hole: false,
         filled: false,
     };
-    let mut here = first;
+    let start = first.at;
+    let mut outage = first.outage;
     let mut k = 0;
     while k < count {
-        let filled = fills::fill(head, values, versions, statuses, holidays, here);
-        let slot = filled.outcome;
-        let next = filled.next;
-        sum = add(sum, slot);
-        here = next;
+        let at = start + k;
+        if tests::is_good(head, values, versions, statuses, at) {
+            outage = false;
+            sum = add(sum, filling::delivered(values[at]));
+        } else {
+            outage = fills::outage_zero(versions, statuses, at, outage);
+            sum = add(
+                sum,
+                filling::unscaled(head, values, versions, statuses, holidays, at, outage),
+            );
+        }
         k += 1;
     }
     sum
@@ -162,16 +171,6 @@ pub fn is_substituted(quality: Quality) -> bool
     }
 }
 
-// e of an S slot.
-fn weight(slot: Outcome, ones: bool) -> u64
-    ensures { λ r. ⌜ r ≡ weightOf ones (slot .value) ⌝ }
-{
-    if ones {
-        return 1;
-    }
-    slot.value as u64
-}
-
 // The scaling at the first slot of a span.
 pub fn scaling_of(sum: Summary, r: u64) -> Scaling
     requires { ⌜ sum .actual ≤ r ⌝ }
@@ -181,14 +180,14 @@ pub fn scaling_of(sum: Summary, r: u64) -> Scaling
         return Scaling {
             t: r - sum.actual,
             whole: sum.count,
-            ones: true,
+            extra: 1,
             passed: 0,
         };
     }
     Scaling {
         t: r - sum.actual,
         whole: sum.substituted,
-        ones: false,
+        extra: 0,
         passed: 0,
     }
 }
@@ -198,13 +197,13 @@ pub fn scale(slot: Outcome, by: Scaling) -> Scaled
     requires { ⌜ Scales (slot .value) by ⌝ }
     ensures { λ r. ⌜ r ≡ scaledBy (slot .value) by ⌝ }
 {
-    let e = weight(slot, by.ones);
+    let e = slot.value as u64 + by.extra;
     let passed = by.passed + e;
     let value = new_value(by.t, by.passed, passed, by.whole);
     let next = Scaling {
         t: by.t,
         whole: by.whole,
-        ones: by.ones,
+        extra: by.extra,
         passed: passed,
     };
     Scaled {

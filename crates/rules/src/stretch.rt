@@ -19,10 +19,9 @@ ghost use Rattle.rules.specs.Inner.Lent.{lentSlots, lentCells, cells, Le
 ghost use Rattle.rules.specs.Inner.Summaries.{Scales};
 ghost use Rattle.rules.specs.Inner.Stretches.{unscaledTo, spanStretch, stretchBy, beginsWith, stretchFrom, beginsAt, stretchAt, fitOutcome, fitNext, Starts, Before};
 
-// Where the stretch ends, whether it is a scaled span, and how it is scaled.
+// Where the stretch ends, and how it is scaled.
 pub struct Stretch {
     pub until: usize,
-    pub scaled: bool,
     pub by: Scaling,
 }
 
@@ -56,12 +55,11 @@ pub fn unscaled_to(until: usize) -> Stretch
     let by = Scaling {
         t: 0,
         whole: 0,
-        ones: false,
+        extra: 0,
         passed: 0,
     };
     Stretch {
         until: until,
-        scaled: false,
         by: by,
     }
 }
@@ -75,7 +73,6 @@ fn stretch_by(until: usize, state: u8, sum: Summary, r: u64) -> Stretch
     }
     Stretch {
         until: until,
-        scaled: true,
         by: spans::scaling_of(sum, r),
     }
 }
@@ -206,10 +203,11 @@ pub fn enter(
 
 // A slot's outcome in the stretch that it lies in, and the stretch one slot on.
 pub fn fit(slot: Outcome, here: Stretch) -> Fitting
-    requires { ⌜ (slot .method ≤ 3) × (here .scaled ≡ true → isS (slot .quality) ≡ true → Scales (slot .value) (here .by)) ⌝ }
+    requires { ⌜ (slot .method ≤ 3) × (isS (slot .quality) ≡ true → (here .by .whole ≡ 0 → ⊥) → Scales (slot .value) (here .by)) ⌝ }
     ensures { λ r. ⌜ (r .outcome ≡ fitOutcome slot here) × (r .next ≡ fitNext slot here) ⌝ }
 {
-    if !here.scaled {
+    let by = here.by;
+    if by.whole == 0 {
         return Fitting {
             outcome: slot,
             next: here,
@@ -222,7 +220,6 @@ pub fn fit(slot: Outcome, here: Stretch) -> Fitting
             next: here,
         };
     }
-    let by = here.by;
     let scaled = spans::scale(slot, by);
     let outcome = Outcome {
         value: scaled.value,
@@ -232,7 +229,6 @@ pub fn fit(slot: Outcome, here: Stretch) -> Fitting
     let rest = scaled.next;
     let next = Stretch {
         until: here.until,
-        scaled: true,
         by: rest,
     };
     Fitting {

@@ -50,6 +50,9 @@ pub fn is_good(head: Head, values: &[u32], versions: &[u32], statuses: &[u8], at
     requires { ⌜ Fitted head (lentSlots values versions statuses) × (at < slotCount head) ⌝ }
     ensures { λ r. ⌜ r ≡ goodAt head (lentSlots (values .entry) (versions .entry) (statuses .entry)) at ⌝ }
 {
+    if versions[at] == 0 {
+        return false;
+    }
     is_nothing(cause_of(
         opening::limit(head),
         head.interval,

@@ -1,5 +1,5 @@
 -- What the pass over the slots knows of the span that a slot lies in, or of the stretch outside spans.
-use mathlib.Core.Bool.{true, false, cond, _&&_}
+use mathlib.Core.Bool.{Bool, cond, not, _&&_}
 use mathlib.Core.List.{List, [], _∷_}
 use mathlib.Core.Option.{Option, none, some}
 use mathlib.Core.Path.{_≡_}
@@ -35,25 +35,25 @@ readCount r k = sum (λ d. cond (isRead r d) 1 0) 0 k
 -- nothing is scaled up to a slot
 abbrev pub unscaledTo : ℕ → Stretch
 unscaledTo until =
-    record { until = until; scaled = false; by = record { t = 0; whole = 0; ones = false; passed = 0 } }
+    record { until = until; by = record { t = 0; whole = 0; extra = 0; passed = 0 } }
 
--- T, E, whether each e counts as 1, and P of slot i
+-- T, E, what is added to each e, and P of slot i
 abbrev pub scalingAt : Head → Cells → ℕ → ℕ → ℕ → Scaling
 scalingAt h b first last i =
-    record { t = T h b first last; whole = E h b first last; ones = allZero h b first last; passed = P h b first last i }
+    record { t = T h b first last; whole = E h b first last; extra = cond (allZero h b first last) 1 0; passed = P h b first last i }
 
 -- the span between two boundaries, before slot i
 unfoldable pub spanStretch : Head → Cells → ℕ → ℕ → ℕ → Stretch
 spanStretch h b first last i =
     let until = last * slotsPerDay h in
     cond (eqb (stateOf h b first last) 1)
-    (record { until = until; scaled = true; by = scalingAt h b first last i })
+    (record { until = until; by = scalingAt h b first last i })
     (unscaledTo until)
 
 -- the same of a span with this state, these sums and this advance, before its first slot
 unfoldable pub stretchBy : ℕ → ℕ → Summary → ℕ → Stretch
 stretchBy until state m r =
-    cond (eqb state 1) (record { until = until; scaled = true; by = scalingOf m r }) (unscaledTo until)
+    cond (eqb state 1) (record { until = until; by = scalingOf m r }) (unscaledTo until)
 
 -- the stretch between the last boundary with a reading, if there is one, and the next
 unfoldable pub stretchOf : Head → Cells → Option ℕ → Option ℕ → ℕ → Stretch
@@ -75,17 +75,21 @@ unfoldable pub carriedAt : Head → Cells → ℕ → Stretch
 carriedAt h b zero = unscaledTo 0
 carriedAt h b (suc i) = stretchOn h b (i / slotsPerDay h) (suc i)
 
+-- with an E above 0 the stretch is a scaled span
+abbrev pub scales : Stretch → Bool
+scales here = not (eqb (here .by .whole) 0)
+
 -- a slot of a stretch, and the stretch one slot on
 unfoldable pub fitOutcome : Outcome → Stretch → Outcome
 fitOutcome o here =
-    cond (here .scaled && isS (o .quality))
+    cond (isS (o .quality) && scales here)
     (record { value = scaledBy (o .value) (here .by) .value; quality = S; method = o .method + 16 })
     o
 
 unfoldable pub fitNext : Outcome → Stretch → Stretch
 fitNext o here =
-    cond (here .scaled && isS (o .quality))
-    (record { until = here .until; scaled = true; by = scaledBy (o .value) (here .by) .next })
+    cond (isS (o .quality) && scales here)
+    (record { until = here .until; by = scaledBy (o .value) (here .by) .next })
     here
 
 -- the span that begins at slot i

@@ -1,5 +1,5 @@
 -- What one scan of a span's slots finds, and the scaling that follows from it.
-use mathlib.Core.Bool.{Bool, cond, _||_}
+use mathlib.Core.Bool.{cond, _||_}
 use mathlib.Core.List.{List}
 use Prim.Native.Nat.{ℕ, _+_, _-_, _≤_, _<_}
 use lib.Dec.{eqb}
@@ -37,31 +37,27 @@ addedTo m o = record {
   filled = m .filled || isS (o .quality);
 }
 
--- e of an S slot with this value
-unfoldable pub weightOf : Bool → ℕ → ℕ
-weightOf ones value = cond ones 1 value
-
 -- T, E and a P of 0 where the advance is r
 unfoldable pub scalingOf : Summary → ℕ → Scaling
 scalingOf m r = record {
   t = r - m .actual;
   whole = cond (eqb (m .substituted) 0) (m .count) (m .substituted);
-  ones = eqb (m .substituted) 0;
+  extra = cond (eqb (m .substituted) 0) 1 0;
   passed = 0;
 }
 
 -- an S slot with this value
 unfoldable pub scaledBy : ℕ → Scaling → Scaled
 scaledBy value by =
-    let c = by .passed + weightOf (by .ones) value in
+    let c = by .passed + (value + by .extra) in
     record {
       value = share (by .t) c (by .whole) - share (by .t) (by .passed) (by .whole);
-      next = record { t = by .t; whole = by .whole; ones = by .ones; passed = c };
+      next = record { t = by .t; whole = by .whole; extra = by .extra; passed = c };
     }
 
 -- an S slot with this value can be scaled without a wrap
 pub record Scales (value : ℕ) (by : Scaling) : Type 0 where
   pub t-low : by .t < 100000000
-  pub room : by .passed + weightOf (by .ones) value ≤ by .whole
+  pub room : by .passed + (value + by .extra) ≤ by .whole
   pub whole-high : by .whole ≤ 4032000000
   pub whole-low : 0 < by .whole

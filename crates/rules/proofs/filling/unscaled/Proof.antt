@@ -6,28 +6,15 @@ use borrow.Author.Needs.{needs}
 use Rattle.rules.proofs.filling.unscaled.Statement.{statement}
 use Rattle.rules.proofs.filling.unscaled.Tie as tie
 
-is-good-requires : tie.Need-is-good-requires
-is-good-requires c κs = search needs
-
-mul-t9 : tie.Need-mul-t9
-mul-t9 c = search needs
-
-shared-slice-read-t11 : tie.Need-shared-slice-read-t11
-shared-slice-read-t11 c = search needs
-
 returns : tie.Need-returns
 unfolding filledAt
-returns c = simp (sym (c .before .before .is-good .ensures) ∙ c .before .if1 .taken)
-
-returns-2 : tie.Need-returns-2
-unfolding filledAt
-returns-2 c = simp (sym (c .before .before .is-good .ensures) ∙ c .before .if1 .left, sym (c .before .before .before .before .before .before .before .pre .2) ∙ c .if2 .taken)
+returns c = simp (c .before .before .before .before .before .pre .2, sym (c .before .before .before .before .before .pre .3) ∙ c .if1 .taken)
 
 is-linear-requires : tie.Need-is-linear-requires
 is-linear-requires c κs = search needs
 
 sub-half : tie.Need-sub-half
-sub-half c = linear-tells _ _ _ (sym (c .before .is-linear .ensures) ∙ c .if3 .taken) .0
+sub-half c = linear-tells _ _ _ (sym (c .before .is-linear .ensures) ∙ c .if2 .taken) .0
 
 mul-half : tie.Need-mul-half
 mul-half c = search needs
@@ -42,34 +29,27 @@ mul-half-2 : tie.Need-mul-half-2
 mul-half-2 c = search needs
 
 shared-slice-read-half-2 : tie.Need-shared-slice-read-half-2
-shared-slice-read-half-2 c =
-    rw (c .before .before .before .before .before .before .before .before .before .before .before .pre .0 .fitted .values) (linear-tells _ _ _ (sym (c .before .before .before .is-linear .ensures) ∙ c .before .before .if3 .taken) .1)
+shared-slice-read-half-2 c = rw (c .before .before .before .before .before .before .before .before .before .pre .0 .fitted .values) (linear-tells _ _ _ (sym (c .before .before .before .is-linear .ensures) ∙ c .before .before .if2 .taken) .1)
 
 half-requires : tie.Need-half-requires
 half-requires c κs = search needs
 
-returns-3 : tie.Need-returns-3
+returns-2 : tie.Need-returns-2
 unfolding filledAt linearValue
-returns-3 c =
-    simp (sym (c .before .before .before .before .before .before .before .is-good .ensures) ∙ c .before .before .before .before .before .before .if1 .left, sym (c .before .before .before .before .before .before .before .before .before .before .before .before .pre .2) ∙ c .before .before .before .before .before .if2 .left, sym (c .before .before .before .before .is-linear .ensures) ∙ c .before .before .before .if3 .taken, c .half .ensures)
+returns-2 c = simp (c .before .before .before .before .before .before .before .before .before .before .pre .2, sym (c .before .before .before .before .before .before .before .before .before .before .pre .3) ∙ c .before .before .before .before .before .if1 .left, sym (c .before .before .before .before .is-linear .ensures) ∙ c .before .before .before .if2 .taken, c .half .ensures)
 
 same-day-requires : tie.Need-same-day-requires
 same-day-requires c κs = search needs
 
-returns-4 : tie.Need-returns-4
+returns-3 : tie.Need-returns-3
 unfolding filledAt
-returns-4 c =
-    simp (sym (c .before .before .before .before .before .is-good .ensures) ∙ c .before .before .before .before .if1 .left, sym (c .before .before .before .before .before .before .before .before .before .before .pre .2) ∙ c .before .before .before .if2 .left, sym (c .before .before .is-linear .ensures) ∙ c .before .if3 .left) (c .same-day .ensures)
+returns-3 c = simp (c .before .before .before .before .before .before .before .before .pre .2, sym (c .before .before .before .before .before .before .before .before .pre .3) ∙ c .before .before .before .if1 .left, sym (c .before .before .is-linear .ensures) ∙ c .before .if2 .left) (c .same-day .ensures)
 
 pub unscaled-spec : {M : Type 1} → statement M
 unscaled-spec =
     tie.close
     (tie.spec
-    is-good-requires
-    mul-t9
-    shared-slice-read-t11
     returns
-    returns-2
     is-linear-requires
     sub-half
     mul-half
@@ -78,6 +58,6 @@ unscaled-spec =
     mul-half-2
     shared-slice-read-half-2
     half-requires
-    returns-3
+    returns-2
     same-day-requires
-    returns-4)
+    returns-3)

@@ -1,53 +1,62 @@
--- `fills::fill`: the outcome of the slot, and what is known one slot on.
-use mathlib.Core.Path.{_∙_}
+-- `fills::fill`: a good slot has its value, another is filled.
+use mathlib.Core.Path.{_∙_, sym, refl}
 use native.Mathlib.Omega.{arith}
-use Rattle.rules.proofs.Outages.{fills-before, fills-after, fills-outage, fills-next}
 use Rattle.rules.specs.Inner.Lent.{slots}
+use Rattle.rules.proofs.Outages.{zero-none, zero-applies, good-delivered, filled-good, fills-outage, fills-next}
 use borrow.Author.Needs.{needs}
 use Rattle.rules.proofs.fills.fill.Statement.{statement}
 use Rattle.rules.proofs.fills.fill.Tie as tie
 
-run-ends-requires : tie.Need-run-ends-requires
-run-ends-requires c κs =
-    let a = c .before .before .before .before in
-    let s = slots (a .args .values .now) (a .args .versions .now) (a .args .statuses .now) in
-    let l = a .pre .0 .fitted .versions in
-    (omega arith, omega arith, fills-after (a .args .head) s (a .args .fills) (a .pre .2) _ l)
+is-good-requires : tie.Need-is-good-requires
+is-good-requires c κs = search needs
 
-is-outage-requires : tie.Need-is-outage-requires
-is-outage-requires c κs = search needs
+add-delivered : tie.Need-add-delivered
+add-delivered c = search needs
 
-unscaled-requires : tie.Need-unscaled-requires
-unscaled-requires c κs =
-    let a = c .before .before .before .before .before .before in
-    let s = slots (a .args .values .now) (a .args .versions .now) (a .args .statuses .now) in
-    let l = a .pre .0 .fitted .versions in
-    (a .pre .0, a .pre .1, c .is-outage .ensures ∙ fills-outage (a .args .head) s (a .args .fills) (a .pre .2) _ l _ (c .before .run-ends .ensures))
+mul-delivered : tie.Need-mul-delivered
+mul-delivered c = search needs
 
-add-t12 : tie.Need-add-t12
-add-t12 c = search needs
+shared-slice-read-delivered : tie.Need-shared-slice-read-delivered
+shared-slice-read-delivered c = search needs
 
-before-next-requires : tie.Need-before-next-requires
-before-next-requires c κs =
-    let a = c .before .before .before .before .before .before .before in
-    let s = slots (a .args .values .now) (a .args .versions .now) (a .args .statuses .now) in
-    let l = a .pre .0 .fitted .versions in
-    (omega arith, omega arith, fills-before (a .args .head) s (a .args .fills) (a .pre .2) _ l)
+delivered-requires : tie.Need-delivered-requires
+delivered-requires c κs = search needs
 
 returns : tie.Need-returns
-returns c =
-    let a = c .before .before .before .before .before .before .before .before in
-    let s = slots (a .args .values .now) (a .args .versions .now) (a .args .statuses .now) in
-    let l = a .pre .0 .fitted .versions in
-    (c .before .unscaled .ensures, fills-next (a .args .head) s (a .args .fills) (a .pre .2) _ l _ _ (c .before-next .ensures) (c .before .before .before .run-ends .ensures))
+returns c = let a = c .before .before .before .before .before .before .before .before .args in
+    let s = slots (a .values .now) (a .versions .now) (a .statuses .now) in
+    let g = sym (c .before .before .before .is-good .ensures) ∙ c .before .before .if1 .taken in
+    (c .delivered .ensures ∙ filled-good (a .head) s (a .holidays .now) (a .fills .at) g, fills-next (a .head) s (a .fills .at) _ refl _ (sym (zero-none (s .versions) (s .statuses) _ _ (good-delivered (a .head) s (a .fills .at) g))))
+
+outage-zero-requires : tie.Need-outage-zero-requires
+outage-zero-requires c κs = let a = c .before .before .before .before .before .before .args in
+    let s = slots (a .values .now) (a .versions .now) (a .statuses .now) in
+    (omega arith, omega arith, fills-outage (a .head) s (a .fills) (a .fills .at) (c .before .before .before .before .before .before .pre .2) _ (c .before .before .before .before .before .before .pre .0 .fitted .versions))
+
+unscaled-requires : tie.Need-unscaled-requires
+unscaled-requires c κs = let a = c .before .before .before .before .before .before .before .args in
+    let s = slots (a .values .now) (a .versions .now) (a .statuses .now) in
+    (c .before .before .before .before .before .before .before .pre .0, c .before .before .before .before .before .before .before .pre .1, sym (c .before .before .is-good .ensures) ∙ c .before .if1 .left, c .outage-zero .ensures ∙ zero-applies (a .head) s _ (c .before .before .before .before .before .before .before .pre .0 .fitted .versions) (a .fills .at))
+
+add-t17 : tie.Need-add-t17
+add-t17 c = search needs
+
+returns-2 : tie.Need-returns-2
+returns-2 c = let a = c .before .before .before .before .before .before .before .before .args in
+    let s = slots (a .values .now) (a .versions .now) (a .statuses .now) in
+    (c .unscaled .ensures, fills-next (a .head) s (a .fills .at) _ (c .before .before .before .before .before .before .before .before .pre .0 .fitted .versions) _ (c .before .outage-zero .ensures))
 
 pub fill-spec : {M : Type 1} → statement M
 fill-spec =
     tie.close
     (tie.spec
-    run-ends-requires
-    is-outage-requires
+    is-good-requires
+    add-delivered
+    mul-delivered
+    shared-slice-read-delivered
+    delivered-requires
+    returns
+    outage-zero-requires
     unscaled-requires
-    add-t12
-    before-next-requires
-    returns)
+    add-t17
+    returns-2)

@@ -1,6 +1,5 @@
 -- `pass::first` knows nothing before slot 0.
-use Rattle.rules.specs.Filling.{outageBefore}
-use Rattle.rules.specs.Inner.Fills.{afterAt, fillsAt}
+use Rattle.rules.specs.Inner.Fills.{zeroBefore, fillsAt}
 use Rattle.rules.specs.Inner.Stretches.{carriedAt}
 use Rattle.rules.specs.Inner.Passes.{passAt}
 use borrow.Author.Needs.{needs}
@@ -11,7 +10,7 @@ unscaled-to-requires : tie.Need-unscaled-to-requires
 unscaled-to-requires c κs = search needs
 
 returns : tie.Need-returns
-unfolding passAt fillsAt carriedAt outageBefore afterAt
+unfolding passAt fillsAt carriedAt zeroBefore
 returns c = λ h b. rw (c .unscaled-to .ensures)
 
 pub first-spec : {M : Type 1} → statement M

@@ -4,8 +4,11 @@ use borrow.Author.Needs.{needs}
 use Rattle.rules.proofs.spans.scale.Statement.{statement}
 use Rattle.rules.proofs.spans.scale.Tie as tie
 
-weight-requires : tie.Need-weight-requires
-weight-requires c κs = search needs
+cast-e : tie.Need-cast-e
+cast-e c = search needs
+
+add-e : tie.Need-add-e
+add-e c = search needs
 
 add-passed : tie.Need-add-passed
 add-passed c = search needs
@@ -15,7 +18,7 @@ new-value-requires c κs = search needs
 
 returns : tie.Need-returns
 unfolding scaledBy
-returns c = rw (c .new-value .ensures, c .before .before .weight .ensures)
+returns c = rw (c .new-value .ensures)
 
 pub scale-spec : {M : Type 1} → statement M
-scale-spec = tie.close (tie.spec weight-requires add-passed new-value-requires returns)
+scale-spec = tie.close (tie.spec cast-e add-e add-passed new-value-requires returns)

@@ -1,60 +1,66 @@
--- `spans::summarise`. After k slots the pass stands k on, and the sums are those of k slots.
-use Prim.Native.Nat.{zero-le}
-use native.Mathlib.Nat.{add-zero}
-use Rattle.rules.specs.Lists.{sum, any}
-use Rattle.rules.specs.Filling.{filledAt}
-use Rattle.rules.proofs.Bounds.{bounded, count-high}
-use Rattle.rules.proofs.Outages.{fills-place, fills-here}
-use Rattle.rules.proofs.Summaries.{actual-small, substituted-small, count-small, summary-next}
+-- `spans::summarise`. After k slots the outage answer is that of the slot before, and the sums are those of k slots.
+use borrow.Author.Needs.{needs}
+use mathlib.Core.Logic.{⊎-elim}
 use mathlib.Core.Path.{_≡_, refl, sym, ap, _∙_}
-use Prim.Native.Nat.{_+_, _-_, _≤_}
+use Prim.Native.Nat.{_+_, _-_, _≤_, zero-le}
+use native.Mathlib.Nat.{add-zero}
 use native.Mathlib.Omega.{arith}
+use Rattle.rules.specs.Lists.{sum, any}
+use Rattle.rules.specs.Opening.{slotCount}
 use Rattle.rules.specs.Inner.Lent.{slots}
-use Rattle.rules.specs.Inner.Fills.{fillsAt}
+use Rattle.rules.specs.Inner.Fills.{zeroBefore}
 use Rattle.rules.specs.Inner.Summaries.{summaryOf}
+use Rattle.rules.proofs.Bounds.{bounded, count-high}
+use Rattle.rules.proofs.Outages.{zero-none, zero-on, zero-applies, good-delivered, filled-good, fills-outage}
+use Rattle.rules.proofs.Summaries.{summary-on, summary-fits}
 use Rattle.rules.proofs.spans.summarise.Statement.{statement}
 use Rattle.rules.proofs.spans.summarise.Tie as tie
 
 abbrev Inv-loop : tie.InvT-loop
-Inv-loop head values versions statuses holidays count sum₀ here₀ k₀ sum here k =
-    (k ≤ count)
-    × (here ≡ fillsAt head (slots values versions statuses) (here₀ .at + k))
-    × (sum ≡ summaryOf head (slots values versions statuses) holidays (here₀ .at) k)
+Inv-loop head values versions statuses holidays count sum₀ start outage₀ k₀ sum outage k = (k ≤ count)
+    × (outage ≡ zeroBefore versions statuses (slotCount head) (start + k))
+    × (sum ≡ summaryOf head (slots values versions statuses) holidays start k)
 
 abbrev μ-loop : tie.MeasureT-loop
-μ-loop head values versions statuses holidays count sum₀ here₀ k₀ sum here k = count - k
+μ-loop head values versions statuses holidays count sum₀ start outage₀ k₀ sum outage k = count - k
 
 loop-holds : tie.Need-loop-holds Inv-loop μ-loop
 unfolding summaryOf sum any
-loop-holds c = (zero-le, rw add-zero (c .before .before .before .before .pre .2), refl)
+loop-holds c = let a = c .before .before .before .before .args in
+    (zero-le, rw add-zero (fills-outage (a .head) (slots (a .values .now) (a .versions .now) (a .statuses .now)) (a .first) (a .first .at) (c .before .before .before .before .pre .2) _ refl), refl)
 
-fill-requires : tie.Need-fill-requires Inv-loop μ-loop
-fill-requires c κs =
-    let a = c .before .before .before .before .before .before in
-    let h = a .args .head in
-    let s = slots (a .args .values .now) (a .args .versions .now) (a .args .statuses .now) in
-    let o = a .args .holidays .now in
-    let p = a .args .first in
-    let b = bounded h (a .pre .0 .fitted .head) in
-    let l = c .before .loop in
-    let e = fills-place h s (l .here) (p .at + l .k) (l .inv .1) in
-    (a .pre .0, omega arith, fills-here h s (l .here) (p .at + l .k) (l .inv .1))
+add-at : tie.Need-add-at Inv-loop μ-loop
+add-at c = omega (arith, count-high (c .before .before .before .before .before .before .args .head) (bounded (c .before .before .before .before .before .before .args .head) (c .before .before .before .before .before .before .pre .0 .fitted .head)))
+
+is-good-requires : tie.Need-is-good-requires Inv-loop μ-loop
+is-good-requires c κs = (c .before .before .before .before .before .before .pre .0 .fitted, omega arith)
+
+mul-delivered : tie.Need-mul-delivered Inv-loop μ-loop
+mul-delivered c = search needs
+
+shared-slice-read-delivered : tie.Need-shared-slice-read-delivered Inv-loop μ-loop
+shared-slice-read-delivered c = search needs
+
+delivered-requires : tie.Need-delivered-requires Inv-loop μ-loop
+delivered-requires c κs = search needs
 
 add-requires : tie.Need-add-requires Inv-loop μ-loop
-add-requires c κs =
-    let a = c .before .before .before .before .before .before .before .before .before in
-    let h = a .args .head in
-    let s = slots (a .args .values .now) (a .args .versions .now) (a .args .statuses .now) in
-    let o = a .args .holidays .now in
-    let p = a .args .first in
-    let b = bounded h (a .pre .0 .fitted .head) in
-    let l = c .before .before .before .before .loop in
-    let n : l .k ≤ 115200 = omega (arith, count-high h b) in
-    rw (l .inv .2) (
-      omega (arith, actual-small h s o (p .at) (l .k) b),
-      omega (arith, substituted-small h s o (p .at) (l .k) b),
-      omega (arith, count-small h s o (p .at) (l .k)),
-    )
+add-requires c κs = let a = c .before .before .before .before .before .before .before .before .before .before .args in
+    let w = bounded (a .head) (c .before .before .before .before .before .before .before .before .before .before .pre .0 .fitted .head) in
+    summary-fits (a .head) _ _ _ _ w (omega (arith, count-high (a .head) w)) _ (c .before .before .before .before .before .loop .inv .2)
+
+outage-zero-requires : tie.Need-outage-zero-requires Inv-loop μ-loop
+outage-zero-requires c κs = (omega arith, omega arith, rw (c .before .before .before .before .before .before .before .before .pre .0 .fitted .versions) (c .before .before .before .loop .inv .1))
+
+unscaled-requires : tie.Need-unscaled-requires Inv-loop μ-loop
+unscaled-requires c κs = let a = c .before .before .before .before .before .before .before .before .before .args in
+    let s = slots (a .values .now) (a .versions .now) (a .statuses .now) in
+    (c .before .before .before .before .before .before .before .before .before .pre .0, omega arith, sym (c .before .before .is-good .ensures) ∙ c .before .if1 .left, c .outage-zero .ensures ∙ zero-applies (a .head) s _ (c .before .before .before .before .before .before .before .before .before .pre .0 .fitted .versions) (a .first .at + c .before .before .before .before .loop .k))
+
+add-requires-2 : tie.Need-add-requires-2 Inv-loop μ-loop
+add-requires-2 c κs = let a = c .before .before .before .before .before .before .before .before .before .before .args in
+    let w = bounded (a .head) (c .before .before .before .before .before .before .before .before .before .before .pre .0 .fitted .head) in
+    summary-fits (a .head) _ _ _ _ w (omega (arith, count-high (a .head) w)) _ (c .before .before .before .before .before .loop .inv .2)
 
 add-k : tie.Need-add-k Inv-loop μ-loop
 add-k c = omega arith
@@ -63,33 +69,31 @@ loop-less : tie.Need-loop-less Inv-loop μ-loop
 loop-less c = omega arith
 
 loop-again : tie.Need-loop-again Inv-loop μ-loop
-loop-again c =
-    let a = c .before .before .before .before .before .before .before .before .before .before in
-    let h = a .args .head in
-    let s = slots (a .args .values .now) (a .args .versions .now) (a .args .statuses .now) in
-    let o = a .args .holidays .now in
-    let p = a .args .first in
-    let b = bounded h (a .pre .0 .fitted .head) in
-    let l = c .before .before .before .before .before .loop in
-    let e = fills-place h s (l .here) (p .at + l .k) (l .inv .1) in
-    let f : filledAt h s o (l .here .at) ≡ filledAt h s o (p .at + l .k) = ap (filledAt h s o) e in
-    let q : l .here .at + 1 ≡ p .at + (l .k + 1) = omega arith in (
+loop-again c = let a = c .before .before .before .before .before .before .before .before .args in
+    let h = a .head in
+    let s = slots (a .values .now) (a .versions .now) (a .statuses .now) in
+    let o = a .holidays .now in
+    let i = a .first .at in
+    let k = c .before .before .before .loop .k in
+    let v = c .before .before .before .before .before .before .before .before .pre .0 .fitted .versions in
+    ⊎-elim
+    (λ w.
+    let g = sym (c .before .is-good .ensures) ∙ w .0 .taken in (
       omega arith,
-      c .before .before .before .fill .ensures .1 ∙ ap (fillsAt h s) q,
-      c .add .ensures ∙ (rw (l .inv .2, c .before .before .before .fill .ensures .0, f) (sym (summary-next h s o (p .at) (l .k)))),
-    )
+      w .5 ∙ sym (zero-none (s .versions) (s .statuses) (slotCount h) (i + k) (good-delivered h s (i + k) g)) ∙ zero-on (s .versions) (s .statuses) (slotCount h) i k,
+      w .4 ∙ summary-on h s o i k _ _ _ (c .before .before .before .loop .inv .2) (w .3 .ensures) (w .2 .ensures ∙ filled-good h s o (i + k) g),
+    ))
+    (λ w. (
+      omega arith,
+      w .5 ∙ (rw v at (w .1 .ensures)) ∙ zero-on (s .versions) (s .statuses) (slotCount h) i k,
+      w .4 ∙ summary-on h s o i k _ _ _ (c .before .before .before .loop .inv .2) (w .3 .ensures) (w .2 .ensures),
+    ))
+    (c .if1 .came)
 
 returns : tie.Need-returns Inv-loop μ-loop
-returns c =
-    let a = c .before .before .before .before .before .before in
-    let h = a .args .head in
-    let s = slots (a .args .values .now) (a .args .versions .now) (a .args .statuses .now) in
-    let o = a .args .holidays .now in
-    let p = a .args .first in
-    let b = bounded h (a .pre .0 .fitted .head) in
-    let l = c .before .loop in
-    let e : l .k ≡ a .args .count = omega arith in
-    l .inv .2 ∙ ap (summaryOf h s o (p .at)) e
+returns c = let a = c .before .before .before .before .before .before .args in
+    let e : c .before .loop .k ≡ a .count = omega arith in
+    c .before .loop .inv .2 ∙ ap (summaryOf (a .head) (slots (a .values .now) (a .versions .now) (a .statuses .now)) (a .holidays .now) (a .first .at)) e
 
 pub summarise-spec : {M : Type 1} → statement M
 summarise-spec =
@@ -98,8 +102,15 @@ summarise-spec =
     Inv-loop
     μ-loop
     loop-holds
-    fill-requires
+    add-at
+    is-good-requires
+    mul-delivered
+    shared-slice-read-delivered
+    delivered-requires
     add-requires
+    outage-zero-requires
+    unscaled-requires
+    add-requires-2
     add-k
     loop-less
     loop-again

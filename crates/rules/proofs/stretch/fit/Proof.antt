@@ -1,9 +1,8 @@
 -- `stretch::fit` scales an S slot of a scaled span.
-use mathlib.Core.Bool.{true, false}
-use mathlib.Core.Path.{_≡_}
+use mathlib.Core.Bool.{true, false, and-false}
+use mathlib.Core.Path.{_≡_, refl, sym, _∙_}
+use borrow.Author.Tests.{eq-eqb, ne-eqb, not-true, not-false}
 use Rattle.rules.specs.Spans.{isS}
-use mathlib.Core.Path.{refl, sym, _∙_}
-use borrow.Author.Tests.{not-true, not-false}
 use Rattle.rules.specs.Inner.Stretches.{fitOutcome, fitNext}
 use borrow.Author.Needs.{needs}
 use Rattle.rules.proofs.stretch.fit.Statement.{statement}
@@ -11,29 +10,26 @@ use Rattle.rules.proofs.stretch.fit.Tie as tie
 
 returns : tie.Need-returns
 unfolding fitOutcome fitNext
-returns c = let s : c .before .before .args .here .scaled ≡ false = not-true _ (c .if1 .taken) in
-    rw s (refl, refl)
+returns c = rw (eq-eqb _ _ (c .if1 .taken), and-false (isS (c .before .before .before .args .slot .quality))) (refl, refl)
 
 is-substituted-requires : tie.Need-is-substituted-requires
 is-substituted-requires c κs = search needs
 
 returns-2 : tie.Need-returns-2
 unfolding fitOutcome fitNext
-returns-2 c = let s : c .before .before .before .before .args .here .scaled ≡ true = not-false _ (c .before .before .if1 .left) in
-    let q : isS (c .before .before .before .before .args .slot .quality) ≡ false = sym (c .before .is-substituted .ensures) ∙ not-true _ (c .if2 .taken) in
-    rw (s, q) (refl, refl)
+returns-2 c = let q : isS (c .before .before .before .before .before .args .slot .quality) ≡ false = sym (c .before .is-substituted .ensures) ∙ not-true _ (c .if2 .taken) in
+    rw q (refl, refl)
 
 scale-requires : tie.Need-scale-requires
-scale-requires c κs = c .before .before .before .before .before .pre .1 (not-false _ (c .before .before .before .if1 .left)) (sym (c .before .before .is-substituted .ensures) ∙ not-false _ (c .before .if2 .left))
+scale-requires c κs = c .before .before .before .before .before .pre .1 (sym (c .before .is-substituted .ensures) ∙ not-false _ (c .if2 .left)) (c .before .before .if1 .left)
 
 add-t12 : tie.Need-add-t12
 add-t12 c = search needs
 
 returns-3 : tie.Need-returns-3
 unfolding fitOutcome fitNext
-returns-3 c = let s : c .before .before .before .before .before .before .before .before .args .here .scaled ≡ true = not-false _ (c .before .before .before .before .before .before .if1 .left) in
-    let q : isS (c .before .before .before .before .before .before .before .before .args .slot .quality) ≡ true = sym (c .before .before .before .before .before .is-substituted .ensures) ∙ not-false _ (c .before .before .before .before .if2 .left) in
-    rw (s, q, c .before .before .scale .ensures) (refl, refl)
+returns-3 c = let q : isS (c .before .before .before .before .before .before .before .before .args .slot .quality) ≡ true = sym (c .before .before .before .before .is-substituted .ensures) ∙ not-false _ (c .before .before .before .if2 .left) in
+    rw (q, ne-eqb _ _ (c .before .before .before .before .before .if1 .left), c .before .before .scale .ensures) (refl, refl)
 
 pub fit-spec : {M : Type 1} → statement M
 fit-spec =
