@@ -1,19 +1,20 @@
 -- The search for references week by week, and what is made of them.
 use mathlib.Core.Bool.{true, false}
 use mathlib.Core.List.{List, [], _∷_, _++_, append-assoc, append-nil}
-use mathlib.Core.Path.{_≡_, refl, sym, _∙_}
-use Prim.Native.Nat.{ℕ, zero, suc, _+_, _-_, _≤_, _<_}
+use mathlib.Core.Path.{_≡_, refl, sym, ap, _∙_}
+use Prim.Native.Nat.{ℕ, zero, suc, _+_, _-_, _*_, _/_, _≤_, _<_}
 use native.Mathlib.Numerals.{add-one, sub-one}
 use native.Mathlib.Omega.{arith}
 use borrow.Author.Tests.{lt-ltb, le-ltb, eq-eqb, ne-eqb}
 use lib.Dec.{lit<}
 use lib.ListN.{length, getD, take, set, length-set}
-use native.Mathlib.Nat.{le-refl}
+use native.Mathlib.Nat.{le-refl, add-mul-div-right}
 use lib.Seq.{take-suc-set, take-nil}
 use Rattle.rules.specs.declared.Head.{Head}
 use Rattle.rules.specs.declared.Quality.the-variants.{S, N}
-use Rattle.rules.specs.Opening.{Slots}
+use Rattle.rules.specs.Opening.{Slots, slotsPerDay}
 use Rattle.rules.specs.Filling.{total, slotsPerWeek, isReference, weeksBack, references, meanOf, fromReferences}
+use Rattle.rules.proofs.Bounds.{Bounded}
 
 -- one more element
 total-suc : (l : List ℕ) (i : ℕ) → total (take i l) + getD l i 0 ≡ total (take (suc i) l)
@@ -65,20 +66,27 @@ pub kept-full : (l rest : List ℕ) (n : ℕ) → n ≡ 4 → kept l n rest ≡ 
 unfolding kept
 kept-full l rest n e = rw e (simp append-nil)
 
--- the search between two weeks: `count` references are found, and the rest are those before slot `at`
-pub record Searching (h : Head) (s : Slots) (holidays : List ℕ) (slot week : ℕ) (found : List ℕ) (count at weeks : ℕ) : Type 0 where
+-- seven days before a slot
+pub week-before : (n at : ℕ) → 0 < n → 7 * n ≤ at → at / n ≡ (at - 7 * n) / n + 7
+week-before n at p l =
+    let e : at ≡ at - 7 * n + 7 * n = omega arith in
+    ap (λ (x : ℕ). x / n) e ∙ add-mul-div-right (at - 7 * n) 7 p
+
+-- the search between two weeks: `count` references are found, and the rest are those before slot `at` of day `day`
+pub record Searching (h : Head) (s : Slots) (holidays : List ℕ) (slot week : ℕ) (found : List ℕ) (count at day weeks : ℕ) : Type 0 where
   pub room : count < 4
   pub near : at ≤ slot
+  pub on : day ≡ at / slotsPerDay h
   pub step : week ≡ slotsPerWeek h
   pub four : length found ≡ 4
   pub rest : kept found count (weeksBack h s holidays at weeks) ≡ references h s holidays slot
 
-module _ (h : Head) (s : Slots) (holidays : List ℕ) (slot week : ℕ) where
-  pub search-starts : week ≡ slotsPerWeek h → Searching h s holidays slot week (0 ∷ 0 ∷ 0 ∷ 0 ∷ []) 0 slot 52
+module _ (h : Head) (w : Bounded h) (s : Slots) (holidays : List ℕ) (slot week : ℕ) where
+  pub search-starts : (day : ℕ) → week ≡ slotsPerWeek h → day ≡ slot / slotsPerDay h → Searching h s holidays slot week (0 ∷ 0 ∷ 0 ∷ 0 ∷ []) 0 slot day 52
   unfolding kept references
-  search-starts e = record { room = lit< tt; near = le-refl slot; step = e; four = refl; rest = refl }
+  search-starts day e d = record { room = lit< tt; near = le-refl slot; on = d; step = e; four = refl; rest = refl }
 
-  module _ {found : List ℕ} {count at weeks : ℕ} (i : Searching h s holidays slot week found count at weeks) where
+  module _ {found : List ℕ} {count at day weeks : ℕ} (i : Searching h s holidays slot week found count at day weeks) where
     pub search-spent : weeks ≡ 0 → take count found ≡ references h s holidays slot
     search-spent z =
         let e : kept found count (weeksBack h s holidays at 0) ≡ references h s holidays slot = rw z at (i .rest) in
@@ -93,10 +101,20 @@ module _ (h : Head) (s : Slots) (holidays : List ℕ) (slot week : ℕ) where
       within : slotsPerWeek h ≤ at
       within = rw (i .step) at inside
 
-      pub search-passed : isReference h s holidays (at - week) ≡ false → Searching h s holidays slot week found count (at - week) (weeks - 1)
+      day-before : day ≡ (at - week) / slotsPerDay h + 7
+      unfolding slotsPerWeek
+      day-before = i .on ∙ (rw (i .step) (week-before (slotsPerDay h) at (omega (arith, w .day-low)) within))
+
+      pub week-inside : 7 ≤ day
+      week-inside = omega (arith, day-before)
+
+      pub day-on : day - 7 ≡ (at - week) / slotsPerDay h
+      day-on = omega (arith, day-before)
+
+      pub search-passed : isReference h s holidays (at - week) ≡ false → Searching h s holidays slot week found count (at - week) (day - 7) (weeks - 1)
       search-passed e =
           let e′ : isReference h s holidays (at - slotsPerWeek h) ≡ false = rw (i .step) at e in
-          record { room = i .room; near = omega arith; step = i .step; four = i .four; rest = rw (i .step, ← weeks-passed h s holidays at weeks more within e′) (i .rest) }
+          record { room = i .room; near = omega arith; on = day-on; step = i .step; four = i .four; rest = rw (i .step, ← weeks-passed h s holidays at weeks more within e′) (i .rest) }
 
       found-rest : isReference h s holidays (at - week) ≡ true → kept (set found count (getD (s .values) (at - week) 0)) (count + 1) (weeksBack h s holidays (at - week) (weeks - 1)) ≡ references h s holidays slot
       found-rest e =
@@ -104,8 +122,8 @@ module _ (h : Head) (s : Slots) (holidays : List ℕ) (slot week : ℕ) where
           let p : count < length found = omega arith in
           rw (i .step) (sym (kept-more found _ count _ (i .room) p) ∙ (rw (weeks-found h s holidays at weeks more within e′) at (i .rest)))
 
-      pub search-found : isReference h s holidays (at - week) ≡ true → (count + 1 ≡ 4 → ⊥) → Searching h s holidays slot week (set found count (getD (s .values) (at - week) 0)) (count + 1) (at - week) (weeks - 1)
-      search-found e n = record { room = omega arith; near = omega arith; step = i .step; four = simp length-set (i .four); rest = found-rest e }
+      pub search-found : isReference h s holidays (at - week) ≡ true → (count + 1 ≡ 4 → ⊥) → Searching h s holidays slot week (set found count (getD (s .values) (at - week) 0)) (count + 1) (at - week) (day - 7) (weeks - 1)
+      search-found e n = record { room = omega arith; near = omega arith; on = day-on; step = i .step; four = simp length-set (i .four); rest = found-rest e }
 
       pub search-ended : isReference h s holidays (at - week) ≡ true → count + 1 ≡ 4 → take (count + 1) (set found count (getD (s .values) (at - week) 0)) ≡ references h s holidays slot
       search-ended e n = sym (kept-full (set found count (getD (s .values) (at - week) 0)) (weeksBack h s holidays (at - week) (weeks - 1)) (count + 1) n) ∙ found-rest e

@@ -8,7 +8,7 @@ ghost use mathlib.Core.Bool.{false};
 ghost use mathlib.Core.Path.{_≡_};
 ghost use Prim.Native.Nat.{_+_, _/_, _<_, _≤_};
 ghost use lib.ListN.{take};
-ghost use Rattle.rules.specs.Opening.{slotCount};
+ghost use Rattle.rules.specs.Opening.{slotsPerDay, slotCount};
 ghost use Rattle.rules.specs.Tests.{goodAt};
 ghost use Rattle.rules.specs.Filling.{isReference, references, meanOf, isLinear, fromReferences, isOutageZero, filledAt};
 ghost use Rattle.rules.specs.Inner.Lent.{lentSlots, Fitted, Lent};
@@ -20,16 +20,17 @@ pub struct References {
     pub count: usize,
 }
 
-// Slot `at` can be a reference.
+// Slot `at`, of day `day`, can be a reference.
 fn is_reference(
     head: Head,
     values: &[u32],
     versions: &[u32],
     statuses: &[u8],
     holidays: &[u8],
+    day: usize,
     at: usize,
 ) -> bool
-    requires { ⌜ Lent head (lentSlots values versions statuses) (now holidays) × (at < slotCount head) ⌝ }
+    requires { ⌜ Lent head (lentSlots values versions statuses) (now holidays) × (at < slotCount head) × (day ≡ at / slotsPerDay head) ⌝ }
     ensures { λ r. ⌜ r ≡ isReference head (lentSlots (values .entry) (versions .entry) (statuses .entry)) (now (holidays .entry)) at ⌝ }
 {
     if !tests::is_good(head, values, versions, statuses, at) {
@@ -38,7 +39,6 @@ fn is_reference(
     if tests::outage_bit(statuses[at]) {
         return false;
     }
-    let day = at / opening::slots_per_day(head);
     holidays[day] == 0
 }
 
@@ -54,10 +54,12 @@ pub fn find_references(
     requires { ⌜ Lent head (lentSlots values versions statuses) (now holidays) × (slot < slotCount head) ⌝ }
     ensures { λ r. ⌜ (r .count ≤ 4) × (take (r .count) (r .values) ≡ references head (lentSlots (values .entry) (versions .entry) (statuses .entry)) (now (holidays .entry)) slot) ⌝ }
 {
-    let week = 7 * opening::slots_per_day(head);
+    let n = opening::slots_per_day(head);
+    let week = 7 * n;
     let mut found = [0u32; 4];
     let mut count: usize = 0;
     let mut at = slot;
+    let mut day = slot / n;
     let mut weeks: usize = 52;
     'weeks: loop {
         if weeks == 0 {
@@ -67,8 +69,9 @@ pub fn find_references(
             break 'weeks;
         }
         at -= week;
+        day -= 7;
         weeks -= 1;
-        if is_reference(head, values, versions, statuses, holidays, at) {
+        if is_reference(head, values, versions, statuses, holidays, day, at) {
             found[count] = values[at];
             count += 1;
             if count == 4 {

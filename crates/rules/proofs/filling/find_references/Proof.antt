@@ -1,44 +1,44 @@
 -- `filling::find_references`. The loop's invariant is `Searching`; its measure is the weeks left.
+use borrow.Author.Needs.{needs}
 use mathlib.Core.Path.{sym, _∙_}
 use native.Mathlib.Omega.{arith}
-use borrow.Author.Needs.{needs}
-use Rattle.rules.specs.Inner.Lent.{slots}
 use Rattle.rules.specs.Filling.{slotsPerWeek}
+use Rattle.rules.specs.Inner.Lent.{slots}
 use Rattle.rules.proofs.Bounds.{bounded, count-high}
-use Rattle.rules.proofs.References.{Searching, search-starts, search-spent, search-out, search-passed, search-found, search-ended}
+use Rattle.rules.proofs.References.{Searching, search-starts, search-spent, search-out, week-inside, day-on, search-passed, search-found, search-ended}
 use Rattle.rules.proofs.filling.find_references.Statement.{statement}
 use Rattle.rules.proofs.filling.find_references.Tie as tie
 
 abbrev Inv-weeks : tie.InvT-weeks
-Inv-weeks head values versions statuses holidays slot week found₀ count₀ at₀ weeks₀ found count at weeks =
-    Searching head (slots values versions statuses) holidays slot week found count at weeks
+Inv-weeks head values versions statuses holidays slot n week found₀ count₀ at₀ day₀ weeks₀ found count at day weeks = Searching head (slots values versions statuses) holidays slot week found count at day weeks
 
 abbrev μ-weeks : tie.MeasureT-weeks
-μ-weeks head values versions statuses holidays slot week found₀ count₀ at₀ weeks₀ found count at weeks =
-    weeks
+μ-weeks head values versions statuses holidays slot n week found₀ count₀ at₀ day₀ weeks₀ found count at day weeks = weeks
 
 slots-per-day-requires : tie.Need-slots-per-day-requires Inv-weeks μ-weeks
 slots-per-day-requires c κs = search needs
 
 mul-week : tie.Need-mul-week Inv-weeks μ-weeks
-mul-week c =
-    let h = c .before .before .before .before .before .args .head in
-    rw (c .slots-per-day .ensures) (omega (arith, bounded h (c .before .before .before .before .before .pre .0 .fitted .head)))
+mul-week c = rw (c .slots-per-day .ensures) (omega (arith, bounded (c .before .before .before .before .before .args .head) (c .before .before .before .before .before .pre .0 .fitted .head)))
+
+div-day : tie.Need-div-day Inv-weeks μ-weeks
+div-day c = rw (c .slots-per-day .ensures) (omega (arith, bounded (c .before .before .before .before .before .args .head) (c .before .before .before .before .before .pre .0 .fitted .head)))
 
 weeks-holds : tie.Need-weeks-holds Inv-weeks μ-weeks
 unfolding slotsPerWeek
-weeks-holds c = search-starts _ _ _ _ _ (rw (c .slots-per-day .ensures))
+weeks-holds c = search-starts _ (bounded (c .before .before .before .before .before .args .head) (c .before .before .before .before .before .pre .0 .fitted .head)) _ _ _ _ _ (rw (c .slots-per-day .ensures)) (rw (c .slots-per-day .ensures))
+
+sub-day : tie.Need-sub-day Inv-weeks μ-weeks
+sub-day c = week-inside _ (bounded (c .before .before .before .before .before .before .before .before .args .head) (c .before .before .before .before .before .before .before .before .pre .0 .fitted .head)) _ _ _ _ (c .before .before .weeks .inv) (c .before .weeks-test .left) (c .if1 .left)
 
 sub-weeks : tie.Need-sub-weeks Inv-weeks μ-weeks
 sub-weeks c = omega arith
 
 is-reference-requires : tie.Need-is-reference-requires Inv-weeks μ-weeks
-is-reference-requires c κs = (c .before .before .before .before .before .before .before .before .pre .0, omega arith)
+is-reference-requires c κs = (c .before .before .before .before .before .before .before .before .pre .0, omega arith, day-on _ (bounded (c .before .before .before .before .before .before .before .before .args .head) (c .before .before .before .before .before .before .before .before .pre .0 .fitted .head)) _ _ _ _ (c .before .before .weeks .inv) (c .before .weeks-test .left) (c .if1 .left))
 
 mul-found : tie.Need-mul-found Inv-weeks μ-weeks
-mul-found c =
-    let a = c .before .before .before .before .before .before .before .before .before .before in
-    omega (arith, count-high (a .args .head) (bounded (a .args .head) (a .pre .0 .fitted .head)), a .pre .1, c .before .before .before .before .weeks .inv .near)
+mul-found c = omega (arith, count-high (c .before .before .before .before .before .before .before .before .before .before .args .head) (bounded (c .before .before .before .before .before .before .before .before .before .before .args .head) (c .before .before .before .before .before .before .before .before .before .before .pre .0 .fitted .head)), c .before .before .before .before .before .before .before .before .before .before .pre .1, c .before .before .before .before .weeks .inv .near)
 
 shared-slice-read-found : tie.Need-shared-slice-read-found Inv-weeks μ-weeks
 shared-slice-read-found c = omega arith
@@ -56,26 +56,24 @@ weeks-less : tie.Need-weeks-less Inv-weeks μ-weeks
 weeks-less c = omega arith
 
 weeks-again : tie.Need-weeks-again Inv-weeks μ-weeks
-weeks-again c =
-    search-found _ _ _ _ _ (c .before .before .before .before .before .before .weeks .inv) (c .before .before .before .before .before .weeks-test .left) (c .before .before .before .before .if1 .left) (sym (c .before .before .before .is-reference .ensures) ∙ c .before .before .if2 .taken) (c .if3 .left)
+weeks-again c = search-found _ (bounded (c .before .before .before .before .before .before .before .before .before .before .before .before .args .head) (c .before .before .before .before .before .before .before .before .before .before .before .before .pre .0 .fitted .head)) _ _ _ _ (c .before .before .before .before .before .before .weeks .inv) (c .before .before .before .before .before .weeks-test .left) (c .before .before .before .before .if1 .left) (sym (c .before .before .before .is-reference .ensures) ∙ c .before .before .if2 .taken) (c .if3 .left)
 
 weeks-less-2 : tie.Need-weeks-less-2 Inv-weeks μ-weeks
 weeks-less-2 c = omega arith
 
 weeks-again-2 : tie.Need-weeks-again-2 Inv-weeks μ-weeks
-weeks-again-2 c =
-    search-passed _ _ _ _ _ (c .before .before .before .before .weeks .inv) (c .before .before .before .weeks-test .left) (c .before .before .if1 .left) (sym (c .before .is-reference .ensures) ∙ c .if2 .left)
+weeks-again-2 c = search-passed _ (bounded (c .before .before .before .before .before .before .before .before .before .before .args .head) (c .before .before .before .before .before .before .before .before .before .before .pre .0 .fitted .head)) _ _ _ _ (c .before .before .before .before .weeks .inv) (c .before .before .before .weeks-test .left) (c .before .before .if1 .left) (sym (c .before .is-reference .ensures) ∙ c .if2 .left)
 
 returns : tie.Need-returns Inv-weeks μ-weeks
-returns c = (omega arith, search-spent _ _ _ _ _ (c .before .weeks .inv) (c .weeks-test .taken))
+returns c = (omega arith, search-spent _ (bounded (c .before .before .before .before .before .before .before .args .head) (c .before .before .before .before .before .before .before .pre .0 .fitted .head)) _ _ _ _ (c .before .weeks .inv) (c .weeks-test .taken))
 
 returns-2 : tie.Need-returns-2 Inv-weeks μ-weeks
-returns-2 c = (omega arith, search-out _ _ _ _ _ (c .before .before .weeks .inv) (c .if1 .taken))
+returns-2 c = (omega arith, search-out _ (bounded (c .before .before .before .before .before .before .before .before .args .head) (c .before .before .before .before .before .before .before .before .pre .0 .fitted .head)) _ _ _ _ (c .before .before .weeks .inv) (c .if1 .taken))
 
 returns-3 : tie.Need-returns-3 Inv-weeks μ-weeks
 returns-3 c = (
   omega arith,
-  search-ended _ _ _ _ _ (c .before .before .before .before .before .before .weeks .inv) (c .before .before .before .before .before .weeks-test .left) (c .before .before .before .before .if1 .left) (sym (c .before .before .before .is-reference .ensures) ∙ c .before .before .if2 .taken) (c .if3 .taken),
+  search-ended _ (bounded (c .before .before .before .before .before .before .before .before .before .before .before .before .args .head) (c .before .before .before .before .before .before .before .before .before .before .before .before .pre .0 .fitted .head)) _ _ _ _ (c .before .before .before .before .before .before .weeks .inv) (c .before .before .before .before .before .weeks-test .left) (c .before .before .before .before .if1 .left) (sym (c .before .before .before .is-reference .ensures) ∙ c .before .before .if2 .taken) (c .if3 .taken),
 )
 
 pub find-references-spec : {M : Type 1} → statement M
@@ -86,7 +84,9 @@ find-references-spec =
     μ-weeks
     slots-per-day-requires
     mul-week
+    div-day
     weeks-holds
+    sub-day
     sub-weeks
     is-reference-requires
     mul-found

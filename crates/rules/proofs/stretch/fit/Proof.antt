@@ -10,7 +10,9 @@ use Rattle.rules.proofs.stretch.fit.Tie as tie
 
 returns : tie.Need-returns
 unfolding fitOutcome fitNext
-returns c = rw (eq-eqb _ _ (c .if1 .taken), and-false (isS (c .before .before .before .args .slot .quality))) (refl, refl)
+returns c =
+    let z : c .before .before .before .args .here .by .whole ≡ 0 = c .if1 .taken in
+    rw (eq-eqb _ _ z, and-false (isS (c .before .before .before .args .slot .quality))) (refl, refl)
 
 is-substituted-requires : tie.Need-is-substituted-requires
 is-substituted-requires c κs = search needs
