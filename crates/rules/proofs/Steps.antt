@@ -1,7 +1,7 @@
 -- One slot of the pass: its outcome in the stretch that it lies in, and the stretch that is carried on.
 use mathlib.Core.Bool.{Bool, true, false, cond, and-true, and-false}
 use mathlib.Core.Option.{Option, none, some}
-use mathlib.Core.Path.{_≡_, refl, sym, ap, _∙_}
+use mathlib.Core.Path.{_≡_, refl, sym, ap, ap₂, _∙_}
 use Prim.Native.Nat.{ℕ, suc, _+_, _-_, _*_, _/_, _≤_, _<_}
 use native.Mathlib.Nat.{le-div-iff-mul-le, div-lt-iff-lt-mul, add-zero}
 use native.Mathlib.Numerals.{add-one}
@@ -11,14 +11,19 @@ use lib.Dec.{eqb, lit≤}
 use Rattle.rules.specs.declared.Head.{Head}
 use Rattle.rules.specs.declared.Outcome.{Outcome}
 use Rattle.rules.specs.declared.Quality.the-variants.{S}
+use Rattle.rules.specs.declared.fills.Filled.{Filled}
+use Rattle.rules.specs.declared.stretch.Entered.{Entered}
 use Rattle.rules.specs.declared.stretch.Stretch.{Stretch}
 use Rattle.rules.specs.Opening.{Cells, slotsPerDay, slotCount}
 use Rattle.rules.specs.Filling.{filledAt}
 use Rattle.rules.specs.Spans.{isS, lastRead, nextRead, filled, start, slotsIn, stateOf, T, allZero, e, E, C, P, newValue, inSpan, between, outcomeAt}
 use Rattle.rules.specs.Inner.Summaries.{scaledBy, Scales}
-use Rattle.rules.specs.Inner.Stretches.{unscaledTo, scalingAt, spanStretch, stretchOf, stretchOn, stretchAt, carriedAt, scales, fitOutcome, fitNext}
+use Rattle.rules.specs.Inner.Stretches.{unscaledTo, scalingAt, spanStretch, stretchOf, stretchOn, stretchAt, carriedAt, scales, fitOutcome, fitNext, Fits, beginsAt}
+use Rattle.rules.specs.Inner.Fills.{fillsAt}
+use Rattle.rules.specs.Inner.Passes.{passAt, settled, SteppedAt}
 use Rattle.rules.proofs.Bounds.{Bounded, count-high}
 use Rattle.rules.proofs.Boundaries.{last-tells, next-tells}
+use Rattle.rules.proofs.Forms.{filled-form, method-low}
 use Rattle.rules.proofs.Places.{span-end, slots-within}
 use Rattle.rules.proofs.Outcomes.{advance-low}
 use Rattle.rules.proofs.Scaling.{running, zero-each, shape-positive}
@@ -170,11 +175,17 @@ module _ (h : Head) (w : Bounded h) (b : Cells) (i : ℕ) where
       }
 
   -- slot i itself
-  pub step-outcome : fitOutcome (filledAt h (b .slots) (b .holidays) i) (stretchAt h b i) ≡ outcomeAt h b i
-  step-outcome = fit-outcome slot
+  pub step-fits : Fits (filledAt h (b .slots) (b .holidays) i) (stretchAt h b i)
+  step-fits = record { method-low = method-low (filled-form h (b .slots) (b .holidays) i); scales = scaled-well slot }
 
-  pub step-next : fitNext (filledAt h (b .slots) (b .holidays) i) (stretchAt h b i) ≡ carriedAt h b (i + 1)
-  step-next = fit-next slot ∙ ap (carriedAt h b) (sym (add-one i))
+  module _ (entered : Entered) (new : Filled) (begins : entered .begins ≡ beginsAt h b i) (here : entered .stretch ≡ stretchAt h b i) (outcome : new .outcome ≡ filledAt h (b .slots) (b .holidays) i) (next : new .next ≡ fillsAt h (b .slots) (i + 1)) where
+    carried : fitNext (new .outcome) (entered .stretch) ≡ carriedAt h b (i + 1)
+    carried = ap₂ fitNext outcome here ∙ fit-next slot ∙ ap (carriedAt h b) (sym (add-one i))
 
-  pub step-scales : isS (filledAt h (b .slots) (b .holidays) i .quality) ≡ true → (stretchAt h b i .by .whole ≡ 0 → ⊥) → Scales (filledAt h (b .slots) (b .holidays) i .value) (stretchAt h b i .by)
-  step-scales = scaled-well slot
+    pub step-done : SteppedAt h b i (settled entered new)
+    unfolding passAt
+    step-done = record {
+      outcome = ap₂ fitOutcome outcome here ∙ fit-outcome slot;
+      begins = begins;
+      next = λ t. record { fills = next t; stretch = carried t };
+    }

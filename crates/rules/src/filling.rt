@@ -6,7 +6,7 @@ use crate::opening;
 use crate::tests;
 ghost use mathlib.Core.Bool.{false};
 ghost use mathlib.Core.Path.{_≡_};
-ghost use Prim.Native.Nat.{_+_, _/_, _<_, _≤_};
+ghost use Prim.Native.Nat.{_+_, _*_, _/_, _<_, _≤_};
 ghost use lib.ListN.{take};
 ghost use Rattle.rules.specs.Opening.{slotsPerDay, slotCount};
 ghost use Rattle.rules.specs.Tests.{goodAt};
@@ -42,6 +42,16 @@ fn is_reference(
     holidays[day] == 0
 }
 
+// The weeks that a search from day `day` goes back: up to 364 days.
+fn weeks_back(day: usize) -> usize
+    ensures { λ r. ⌜ (7 * r ≤ day) × (r ≤ 52) × (r < 52 → day < 7 * r + 7) ⌝ }
+{
+    if 364 <= day {
+        return 52;
+    }
+    day / 7
+}
+
 // The references of slot `slot`: the search stops at the fourth.
 pub fn find_references(
     head: Head,
@@ -60,12 +70,9 @@ pub fn find_references(
     let mut count: usize = 0;
     let mut at = slot;
     let mut day = slot / n;
-    let mut weeks: usize = 52;
+    let mut weeks = weeks_back(day);
     'weeks: loop {
         if weeks == 0 {
-            break 'weeks;
-        }
-        if at < week {
             break 'weeks;
         }
         at -= week;

@@ -72,9 +72,10 @@ pub fn fill(
     ensures { λ r. ⌜ (r .outcome ≡ filledAt head (lentSlots (values .entry) (versions .entry) (statuses .entry)) (now (holidays .entry)) (fills .at)) × (r .next ≡ fillsAt head (lentSlots (values .entry) (versions .entry) (statuses .entry)) (fills .at + 1)) ⌝ }
 {
     let at = fills.at;
+    let on = at + 1;
     if tests::is_good(head, values, versions, statuses, at) {
         let next = Fills {
-            at: at + 1,
+            at: on,
             outage: false,
         };
         return Filled {
@@ -85,7 +86,7 @@ pub fn fill(
     let outage = outage_zero(versions, statuses, at, fills.outage);
     let outcome = filling::unscaled(head, values, versions, statuses, holidays, at, outage);
     let next = Fills {
-        at: at + 1,
+        at: on,
         outage: outage,
     };
     Filled {

@@ -2,16 +2,19 @@
 use crate::Head;
 use crate::Outcome;
 use crate::fills;
+use crate::fills::Filled;
 use crate::fills::Fills;
 use crate::stretch;
 use crate::stretch::Begins;
+use crate::stretch::Entered;
 use crate::stretch::Stretch;
 ghost use mathlib.Core.Path.{_≡_};
 ghost use Prim.Native.Nat.{_<_};
 ghost use Rattle.rules.specs.declared.Head.{Head};
 ghost use Rattle.rules.specs.Opening.{Cells, slotCount};
 ghost use Rattle.rules.specs.Inner.Lent.{lentCells, Whole};
-ghost use Rattle.rules.specs.Inner.Passes.{passAt, SteppedAt};
+ghost use Rattle.rules.specs.Inner.Stretches.{Fits};
+ghost use Rattle.rules.specs.Inner.Passes.{passAt, settled, SteppedAt};
 
 // What is known before a slot: of its runs of gaps, and of the stretch of the slot before it.
 pub struct Pass {
@@ -36,6 +39,29 @@ pub fn first() -> Pass
     Pass {
         fills: fills,
         stretch: stretch::unscaled_to(0),
+    }
+}
+
+// A filled slot in the stretch that it lies in.
+fn settle(entered: Entered, filled: Filled) -> Stepped
+    requires { ⌜ Fits (filled .outcome) (entered .stretch) ⌝ }
+    ensures { λ r. ⌜ r ≡ settled entered filled ⌝ }
+{
+    let begins = entered.begins;
+    let here = entered.stretch;
+    let slot = filled.outcome;
+    let fitting = stretch::fit(slot, here);
+    let outcome = fitting.outcome;
+    let on = filled.next;
+    let carry = fitting.next;
+    let next = Pass {
+        fills: on,
+        stretch: carry,
+    };
+    Stepped {
+        outcome: outcome,
+        begins: begins,
+        next: next,
     }
 }
 
@@ -66,21 +92,6 @@ pub fn step(
         fills,
         carried,
     );
-    let begins = entered.begins;
-    let here = entered.stretch;
     let filled = fills::fill(head, values, versions, statuses, holidays, fills);
-    let slot = filled.outcome;
-    let fitting = stretch::fit(slot, here);
-    let outcome = fitting.outcome;
-    let on = filled.next;
-    let carry = fitting.next;
-    let next = Pass {
-        fills: on,
-        stretch: carry,
-    };
-    Stepped {
-        outcome: outcome,
-        begins: begins,
-        next: next,
-    }
+    settle(entered, filled)
 }

@@ -14,10 +14,10 @@ ghost use mathlib.Core.Bool.{true};
 ghost use mathlib.Core.List.{[]};
 ghost use mathlib.Core.Path.{_≡_};
 ghost use Prim.Native.Nat.{_≤_};
-ghost use Rattle.rules.specs.Spans.{isS, spanOf};
+ghost use Rattle.rules.specs.declared.stretch.Begins.the-variants.{Nothing};
+ghost use Rattle.rules.specs.Spans.{spanOf};
 ghost use Rattle.rules.specs.Inner.Lent.{lentSlots, lentCells, cells, Lent, Dialled, Whole};
-ghost use Rattle.rules.specs.Inner.Summaries.{Scales};
-ghost use Rattle.rules.specs.Inner.Stretches.{unscaledTo, spanStretch, stretchBy, beginsWith, stretchFrom, beginsAt, stretchAt, fitOutcome, fitNext, Starts, Before};
+ghost use Rattle.rules.specs.Inner.Stretches.{unscaledTo, spanStretch, stretchBy, beginsWith, stretchFrom, beginsAt, stretchAt, fitOutcome, fitNext, Fits, Starts, Before};
 
 // Where the stretch ends, and how it is scaled.
 pub struct Stretch {
@@ -116,6 +116,16 @@ fn meet(
     }
 }
 
+// No span begins at the slot.
+fn no_span(stretch: Stretch) -> Entered
+    ensures { λ r. ⌜ (r .begins ≡ Nothing) × (r .stretch ≡ stretch) ⌝ }
+{
+    Entered {
+        begins: Begins::Nothing,
+        stretch: stretch,
+    }
+}
+
 // The stretch that begins at boundary `day`, where a pass stands, and ends at boundary `last`.
 fn reach(
     head: Head,
@@ -133,10 +143,7 @@ fn reach(
     ensures { λ r. ⌜ (r .begins ≡ beginsWith head (lentCells (values .entry) (versions .entry) (statuses .entry) (holidays .entry) (readings .entry) (reads .entry)) day last) × (r .stretch ≡ stretchFrom head (lentCells (values .entry) (versions .entry) (statuses .entry) (holidays .entry) (readings .entry) (reads .entry)) day last (fills .at)) ⌝ }
 {
     if reads[day] == 0 {
-        return Entered {
-            begins: Begins::Nothing,
-            stretch: unscaled_to(last * opening::slots_per_day(head)),
-        };
+        return no_span(unscaled_to(last * opening::slots_per_day(head)));
     }
     let met = meet(
         head,
@@ -174,10 +181,7 @@ pub fn enter(
 {
     let at = fills.at;
     if at != carried.until {
-        return Entered {
-            begins: Begins::Nothing,
-            stretch: carried,
-        };
+        return no_span(carried);
     }
     let day = at / opening::slots_per_day(head);
     let next = readings::next_read(reads, day + 1);
@@ -194,16 +198,13 @@ pub fn enter(
             day,
             last,
         ),
-        Next::Nowhere => Entered {
-            begins: Begins::Nothing,
-            stretch: unscaled_to(opening::slot_count(head)),
-        },
+        Next::Nowhere => no_span(unscaled_to(opening::slot_count(head))),
     }
 }
 
 // A slot's outcome in the stretch that it lies in, and the stretch one slot on.
 pub fn fit(slot: Outcome, here: Stretch) -> Fitting
-    requires { ⌜ (slot .method ≤ 3) × (isS (slot .quality) ≡ true → (here .by .whole ≡ 0 → ⊥) → Scales (slot .value) (here .by)) ⌝ }
+    requires { ⌜ Fits slot here ⌝ }
     ensures { λ r. ⌜ (r .outcome ≡ fitOutcome slot here) × (r .next ≡ fitNext slot here) ⌝ }
 {
     let by = here.by;

@@ -1,5 +1,5 @@
 -- What the pass over the slots knows of the span that a slot lies in, or of the stretch outside spans.
-use mathlib.Core.Bool.{Bool, cond, not, _&&_}
+use mathlib.Core.Bool.{Bool, true, cond, not, _&&_}
 use mathlib.Core.List.{List, [], _∷_}
 use mathlib.Core.Option.{Option, none, some}
 use mathlib.Core.Path.{_≡_}
@@ -21,7 +21,7 @@ use Rattle.rules.specs.Lists.{sum}
 use Rattle.rules.specs.Opening.{Slots, Cells, slotsPerDay, slotCount}
 use Rattle.rules.specs.Spans.{isS, isRead, spanOf, lastRead, nextRead, T, allZero, E, P, stateOf, spanFrom}
 use Rattle.rules.specs.Inner.Fills.{fillsAt}
-use Rattle.rules.specs.Inner.Summaries.{scalingOf, scaledBy}
+use Rattle.rules.specs.Inner.Summaries.{scalingOf, scaledBy, Scales}
 
 -- what the search for a boundary answers
 abbrev pub nextMeant : coded.Next → Option ℕ
@@ -91,6 +91,11 @@ fitNext o here =
     cond (isS (o .quality) && scales here)
     (record { until = here .until; by = scaledBy (o .value) (here .by) .next })
     here
+
+-- a slot that can be scaled without a wrap, where it is to be scaled
+pub record Fits (o : Outcome) (here : Stretch) : Type 0 where
+  pub method-low : o .method ≤ 3
+  pub scales : isS (o .quality) ≡ true → (here .by .whole ≡ 0 → ⊥) → Scales (o .value) (here .by)
 
 -- the span that begins at slot i
 abbrev pub firstOf : List declared.Span → Begins

@@ -5,7 +5,7 @@ use native.Mathlib.Omega.{arith}
 use Rattle.rules.specs.Filling.{slotsPerWeek}
 use Rattle.rules.specs.Inner.Lent.{slots}
 use Rattle.rules.proofs.Bounds.{bounded, count-high}
-use Rattle.rules.proofs.References.{Searching, search-starts, search-spent, search-out, week-inside, day-on, search-passed, search-found, search-ended}
+use Rattle.rules.proofs.References.{Searching, search-starts, search-spent, week-inside, slot-inside, day-on, search-passed, search-found, search-ended}
 use Rattle.rules.proofs.filling.find_references.Statement.{statement}
 use Rattle.rules.proofs.filling.find_references.Tie as tie
 
@@ -24,21 +24,27 @@ mul-week c = rw (c .slots-per-day .ensures) (omega (arith, bounded (c .before .b
 div-day : tie.Need-div-day Inv-weeks μ-weeks
 div-day c = rw (c .slots-per-day .ensures) (omega (arith, bounded (c .before .before .before .before .before .args .head) (c .before .before .before .before .before .pre .0 .fitted .head)))
 
+weeks-back-requires : tie.Need-weeks-back-requires Inv-weeks μ-weeks
+weeks-back-requires c κs = search needs
+
 weeks-holds : tie.Need-weeks-holds Inv-weeks μ-weeks
 unfolding slotsPerWeek
-weeks-holds c = search-starts _ (bounded (c .before .before .before .before .before .args .head) (c .before .before .before .before .before .pre .0 .fitted .head)) _ _ _ _ _ (rw (c .slots-per-day .ensures)) (rw (c .slots-per-day .ensures))
+weeks-holds c = search-starts _ (bounded (c .before .before .before .before .before .before .args .head) (c .before .before .before .before .before .before .pre .0 .fitted .head)) _ _ _ _ _ _ (rw (c .before .slots-per-day .ensures)) (rw (c .before .slots-per-day .ensures)) (c .weeks-back .ensures)
+
+sub-at : tie.Need-sub-at Inv-weeks μ-weeks
+sub-at c = slot-inside _ (bounded (c .before .before .before .before .before .before .before .before .args .head) (c .before .before .before .before .before .before .before .before .pre .0 .fitted .head)) _ _ _ _ (c .before .weeks .inv) (c .weeks-test .left)
 
 sub-day : tie.Need-sub-day Inv-weeks μ-weeks
-sub-day c = week-inside _ (bounded (c .before .before .before .before .before .before .before .before .args .head) (c .before .before .before .before .before .before .before .before .pre .0 .fitted .head)) _ _ _ _ (c .before .before .weeks .inv) (c .before .weeks-test .left) (c .if1 .left)
+sub-day c = week-inside _ (bounded (c .before .before .before .before .before .before .before .before .args .head) (c .before .before .before .before .before .before .before .before .pre .0 .fitted .head)) _ _ _ _ (c .before .weeks .inv) (c .weeks-test .left)
 
 sub-weeks : tie.Need-sub-weeks Inv-weeks μ-weeks
 sub-weeks c = omega arith
 
 is-reference-requires : tie.Need-is-reference-requires Inv-weeks μ-weeks
-is-reference-requires c κs = (c .before .before .before .before .before .before .before .before .pre .0, omega arith, day-on _ (bounded (c .before .before .before .before .before .before .before .before .args .head) (c .before .before .before .before .before .before .before .before .pre .0 .fitted .head)) _ _ _ _ (c .before .before .weeks .inv) (c .before .weeks-test .left) (c .if1 .left))
+is-reference-requires c κs = (c .before .before .before .before .before .before .before .before .pre .0, omega arith, day-on _ (bounded (c .before .before .before .before .before .before .before .before .args .head) (c .before .before .before .before .before .before .before .before .pre .0 .fitted .head)) _ _ _ _ (c .before .weeks .inv) (c .weeks-test .left))
 
 mul-found : tie.Need-mul-found Inv-weeks μ-weeks
-mul-found c = omega (arith, count-high (c .before .before .before .before .before .before .before .before .before .before .args .head) (bounded (c .before .before .before .before .before .before .before .before .before .before .args .head) (c .before .before .before .before .before .before .before .before .before .before .pre .0 .fitted .head)), c .before .before .before .before .before .before .before .before .before .before .pre .1, c .before .before .before .before .weeks .inv .near)
+mul-found c = omega (arith, count-high (c .before .before .before .before .before .before .before .before .before .before .args .head) (bounded (c .before .before .before .before .before .before .before .before .before .before .args .head) (c .before .before .before .before .before .before .before .before .before .before .pre .0 .fitted .head)), c .before .before .before .before .before .before .before .before .before .before .pre .1, c .before .before .before .weeks .inv .near)
 
 shared-slice-read-found : tie.Need-shared-slice-read-found Inv-weeks μ-weeks
 shared-slice-read-found c = omega arith
@@ -56,24 +62,21 @@ weeks-less : tie.Need-weeks-less Inv-weeks μ-weeks
 weeks-less c = omega arith
 
 weeks-again : tie.Need-weeks-again Inv-weeks μ-weeks
-weeks-again c = search-found _ (bounded (c .before .before .before .before .before .before .before .before .before .before .before .before .args .head) (c .before .before .before .before .before .before .before .before .before .before .before .before .pre .0 .fitted .head)) _ _ _ _ (c .before .before .before .before .before .before .weeks .inv) (c .before .before .before .before .before .weeks-test .left) (c .before .before .before .before .if1 .left) (sym (c .before .before .before .is-reference .ensures) ∙ c .before .before .if2 .taken) (c .if3 .left)
+weeks-again c = search-found _ (bounded (c .before .before .before .before .before .before .before .before .before .before .before .before .args .head) (c .before .before .before .before .before .before .before .before .before .before .before .before .pre .0 .fitted .head)) _ _ _ _ (c .before .before .before .before .before .weeks .inv) (c .before .before .before .before .weeks-test .left) (sym (c .before .before .before .is-reference .ensures) ∙ c .before .before .if1 .taken) (c .if2 .left)
 
 weeks-less-2 : tie.Need-weeks-less-2 Inv-weeks μ-weeks
 weeks-less-2 c = omega arith
 
 weeks-again-2 : tie.Need-weeks-again-2 Inv-weeks μ-weeks
-weeks-again-2 c = search-passed _ (bounded (c .before .before .before .before .before .before .before .before .before .before .args .head) (c .before .before .before .before .before .before .before .before .before .before .pre .0 .fitted .head)) _ _ _ _ (c .before .before .before .before .weeks .inv) (c .before .before .before .weeks-test .left) (c .before .before .if1 .left) (sym (c .before .is-reference .ensures) ∙ c .if2 .left)
+weeks-again-2 c = search-passed _ (bounded (c .before .before .before .before .before .before .before .before .before .before .args .head) (c .before .before .before .before .before .before .before .before .before .before .pre .0 .fitted .head)) _ _ _ _ (c .before .before .before .weeks .inv) (c .before .before .weeks-test .left) (sym (c .before .is-reference .ensures) ∙ c .if1 .left)
 
 returns : tie.Need-returns Inv-weeks μ-weeks
-returns c = (omega arith, search-spent _ (bounded (c .before .before .before .before .before .before .before .args .head) (c .before .before .before .before .before .before .before .pre .0 .fitted .head)) _ _ _ _ (c .before .weeks .inv) (c .weeks-test .taken))
+returns c = (omega arith, search-spent _ (bounded (c .before .before .before .before .before .before .before .before .args .head) (c .before .before .before .before .before .before .before .before .pre .0 .fitted .head)) _ _ _ _ (c .before .weeks .inv) (c .weeks-test .taken))
 
 returns-2 : tie.Need-returns-2 Inv-weeks μ-weeks
-returns-2 c = (omega arith, search-out _ (bounded (c .before .before .before .before .before .before .before .before .args .head) (c .before .before .before .before .before .before .before .before .pre .0 .fitted .head)) _ _ _ _ (c .before .before .weeks .inv) (c .if1 .taken))
-
-returns-3 : tie.Need-returns-3 Inv-weeks μ-weeks
-returns-3 c = (
+returns-2 c = (
   omega arith,
-  search-ended _ (bounded (c .before .before .before .before .before .before .before .before .before .before .before .before .args .head) (c .before .before .before .before .before .before .before .before .before .before .before .before .pre .0 .fitted .head)) _ _ _ _ (c .before .before .before .before .before .before .weeks .inv) (c .before .before .before .before .before .weeks-test .left) (c .before .before .before .before .if1 .left) (sym (c .before .before .before .is-reference .ensures) ∙ c .before .before .if2 .taken) (c .if3 .taken),
+  search-ended _ (bounded (c .before .before .before .before .before .before .before .before .before .before .before .before .args .head) (c .before .before .before .before .before .before .before .before .before .before .before .before .pre .0 .fitted .head)) _ _ _ _ (c .before .before .before .before .before .weeks .inv) (c .before .before .before .before .weeks-test .left) (sym (c .before .before .before .is-reference .ensures) ∙ c .before .before .if1 .taken) (c .if2 .taken),
 )
 
 pub find-references-spec : {M : Type 1} → statement M
@@ -85,7 +88,9 @@ find-references-spec =
     slots-per-day-requires
     mul-week
     div-day
+    weeks-back-requires
     weeks-holds
+    sub-at
     sub-day
     sub-weeks
     is-reference-requires
@@ -99,5 +104,4 @@ find-references-spec =
     weeks-less-2
     weeks-again-2
     returns
-    returns-2
-    returns-3)
+    returns-2)

@@ -1,17 +1,17 @@
 -- `fills::fill`: a good slot has its value, another is filled.
+use borrow.Author.Needs.{needs}
 use mathlib.Core.Path.{_∙_, sym, refl}
 use native.Mathlib.Omega.{arith}
 use Rattle.rules.specs.Inner.Lent.{slots}
 use Rattle.rules.proofs.Outages.{zero-none, zero-applies, good-delivered, filled-good, fills-outage, fills-next}
-use borrow.Author.Needs.{needs}
 use Rattle.rules.proofs.fills.fill.Statement.{statement}
 use Rattle.rules.proofs.fills.fill.Tie as tie
 
+add-on : tie.Need-add-on
+add-on c = search needs
+
 is-good-requires : tie.Need-is-good-requires
 is-good-requires c κs = search needs
-
-add-delivered : tie.Need-add-delivered
-add-delivered c = search needs
 
 mul-delivered : tie.Need-mul-delivered
 mul-delivered c = search needs
@@ -38,9 +38,6 @@ unscaled-requires c κs = let a = c .before .before .before .before .before .bef
     let s = slots (a .values .now) (a .versions .now) (a .statuses .now) in
     (c .before .before .before .before .before .before .before .pre .0, c .before .before .before .before .before .before .before .pre .1, sym (c .before .before .is-good .ensures) ∙ c .before .if1 .left, c .outage-zero .ensures ∙ zero-applies (a .head) s _ (c .before .before .before .before .before .before .before .pre .0 .fitted .versions) (a .fills .at))
 
-add-t17 : tie.Need-add-t17
-add-t17 c = search needs
-
 returns-2 : tie.Need-returns-2
 returns-2 c = let a = c .before .before .before .before .before .before .before .before .args in
     let s = slots (a .values .now) (a .versions .now) (a .statuses .now) in
@@ -50,13 +47,12 @@ pub fill-spec : {M : Type 1} → statement M
 fill-spec =
     tie.close
     (tie.spec
+    add-on
     is-good-requires
-    add-delivered
     mul-delivered
     shared-slice-read-delivered
     delivered-requires
     returns
     outage-zero-requires
     unscaled-requires
-    add-t17
     returns-2)

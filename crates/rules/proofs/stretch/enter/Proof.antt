@@ -15,12 +15,15 @@ use borrow.Author.Needs.{needs}
 use Rattle.rules.proofs.stretch.enter.Statement.{statement}
 use Rattle.rules.proofs.stretch.enter.Tie as tie
 
+no-span-requires : tie.Need-no-span-requires
+no-span-requires c κs = search needs
+
 returns : tie.Need-returns
-returns c = let a = c .before .before .before .before .before .before .before .before .args in
-    let w = bounded (a .head) (c .before .before .before .before .before .before .before .before .pre .0 .lent .fitted .head) in
+returns c = let a = c .before .before .before .before .before .before .before .before .before .args in
+    let w = bounded (a .head) (c .before .before .before .before .before .before .before .before .before .pre .0 .lent .fitted .head) in
     let b = cells (slots (a .values .now) (a .versions .now) (a .statuses .now)) (a .holidays .now) (a .readings .now) (a .reads .now) in
-    let k = carried-on (a .head) w b (a .fills .at) (c .before .before .before .before .before .before .before .before .pre .1 .inside) (λ z. c .if1 .taken (z ∙ ap (λ (s : Stretch). s .until) (sym (c .before .before .before .before .before .before .before .before .pre .1 .stretch)))) in
-    (sym (k .0), c .before .before .before .before .before .before .before .before .pre .1 .stretch ∙ k .1)
+    let k = carried-on (a .head) w b (a .fills .at) (c .before .before .before .before .before .before .before .before .before .pre .1 .inside) (λ z. c .before .if1 .taken (z ∙ ap (λ (s : Stretch). s .until) (sym (c .before .before .before .before .before .before .before .before .before .pre .1 .stretch)))) in
+    (c .no-span .ensures .0 ∙ sym (k .0), c .no-span .ensures .1 ∙ c .before .before .before .before .before .before .before .before .before .pre .1 .stretch ∙ k .1)
 
 slots-per-day-requires : tie.Need-slots-per-day-requires
 slots-per-day-requires c κs = c .before .before .before .before .before .before .before .before .pre .0 .lent .fitted .head
@@ -63,6 +66,9 @@ slot-count-requires c κs = search needs
 unscaled-to-requires : tie.Need-unscaled-to-requires
 unscaled-to-requires c κs = search needs
 
+no-span-requires-2 : tie.Need-no-span-requires-2
+no-span-requires-2 c κs = search needs
+
 returns-2 : tie.Need-returns-2
 returns-2 c = let a = c .before .before .before .before .before .before .before .before .before .before .before .before .before .before .args in
     let w = bounded (a .head) (c .before .before .before .before .before .before .before .before .before .before .before .before .before .before .pre .0 .lent .fitted .head) in
@@ -75,18 +81,19 @@ returns-2 c = let a = c .before .before .before .before .before .before .before 
     (r .0 ∙ begins-some (a .head) w b (a .fills .at) (k .0) last e, r .1 ∙ stretch-some (a .head) w b (a .fills .at) last (k .1) e)
 
 returns-3 : tie.Need-returns-3
-returns-3 c = let a = c .before .before .before .before .before .before .before .before .before .before .before .before .before .before .args in
-    let w = bounded (a .head) (c .before .before .before .before .before .before .before .before .before .before .before .before .before .before .pre .0 .lent .fitted .head) in
+returns-3 c = let a = c .before .before .before .before .before .before .before .before .before .before .before .before .before .before .before .args in
+    let w = bounded (a .head) (c .before .before .before .before .before .before .before .before .before .before .before .before .before .before .before .pre .0 .lent .fitted .head) in
     let b = cells (slots (a .values .now) (a .versions .now) (a .statuses .now)) (a .holidays .now) (a .readings .now) (a .reads .now) in
     let d = a .fills .at / slotsPerDay (a .head) in
-    let e : nextRead (a .reads .now) (d + 1) (a .head .days - d) ≡ none = next-behind (a .head) (a .reads .now) d none (c .before .before .before .before .before .before .before .before .before .before .before .before .before .before .pre .0 .readVersions) (rw (c .before .before .before .before .before .slots-per-day .ensures) at (sym (c .before .before .before .before .next-read .ensures) ∙ ap nextMeant (c .before .before .enum-told .given .1))) in
-    let k = carried-ends (a .head) w b (a .fills .at) (c .before .before .before .before .before .before .before .before .before .before .before .before .before .before .pre .1 .inside) (c .before .before .before .before .before .before .if1 .left ∙ ap (λ (s : Stretch). s .until) (c .before .before .before .before .before .before .before .before .before .before .before .before .before .before .pre .1 .stretch)) in
-    (sym (begins-none (a .head) w b (a .fills .at) (k .0) e), c .unscaled-to .ensures ∙ (rw (c .before .slot-count .ensures) (sym (stretch-none (a .head) w b (a .fills .at) e))))
+    let e : nextRead (a .reads .now) (d + 1) (a .head .days - d) ≡ none = next-behind (a .head) (a .reads .now) d none (c .before .before .before .before .before .before .before .before .before .before .before .before .before .before .before .pre .0 .readVersions) (rw (c .before .before .before .before .before .before .slots-per-day .ensures) at (sym (c .before .before .before .before .before .next-read .ensures) ∙ ap nextMeant (c .before .before .before .enum-told .given .1))) in
+    let k = carried-ends (a .head) w b (a .fills .at) (c .before .before .before .before .before .before .before .before .before .before .before .before .before .before .before .pre .1 .inside) (c .before .before .before .before .before .before .before .if1 .left ∙ ap (λ (s : Stretch). s .until) (c .before .before .before .before .before .before .before .before .before .before .before .before .before .before .before .pre .1 .stretch)) in
+    (c .no-span2 .ensures .0 ∙ sym (begins-none (a .head) w b (a .fills .at) (k .0) e), c .no-span2 .ensures .1 ∙ c .before .unscaled-to .ensures ∙ (rw (c .before .before .slot-count .ensures) (sym (stretch-none (a .head) w b (a .fills .at) e))))
 
 pub enter-spec : {M : Type 1} → statement M
 enter-spec =
     tie.close
     (tie.spec
+    no-span-requires
     returns
     slots-per-day-requires
     div-day
@@ -97,5 +104,6 @@ enter-spec =
     enum-told
     slot-count-requires
     unscaled-to-requires
+    no-span-requires-2
     returns-2
     returns-3)

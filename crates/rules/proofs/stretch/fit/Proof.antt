@@ -10,8 +10,7 @@ use Rattle.rules.proofs.stretch.fit.Tie as tie
 
 returns : tie.Need-returns
 unfolding fitOutcome fitNext
-returns c =
-    let z : c .before .before .before .args .here .by .whole ≡ 0 = c .if1 .taken in
+returns c = let z : c .before .before .before .args .here .by .whole ≡ 0 = c .if1 .taken in
     rw (eq-eqb _ _ z, and-false (isS (c .before .before .before .args .slot .quality))) (refl, refl)
 
 is-substituted-requires : tie.Need-is-substituted-requires
@@ -23,7 +22,7 @@ returns-2 c = let q : isS (c .before .before .before .before .before .args .slot
     rw q (refl, refl)
 
 scale-requires : tie.Need-scale-requires
-scale-requires c κs = c .before .before .before .before .before .pre .1 (sym (c .before .is-substituted .ensures) ∙ not-false _ (c .if2 .left)) (c .before .before .if1 .left)
+scale-requires c κs = c .before .before .before .before .before .pre .scales (sym (c .before .is-substituted .ensures) ∙ not-false _ (c .if2 .left)) (c .before .before .if1 .left)
 
 add-t12 : tie.Need-add-t12
 add-t12 c = search needs

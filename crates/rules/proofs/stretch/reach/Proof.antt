@@ -1,6 +1,6 @@
 -- `stretch::reach`: a span begins where its first boundary has a reading.
 use mathlib.Core.List.{[]}
-use mathlib.Core.Path.{refl, ap, _∙_}
+use mathlib.Core.Path.{ap, _∙_}
 use Rattle.rules.specs.declared.stretch.Begins.the-variants.{Span}
 use Prim.Native.Nat.{_≤_}
 use native.Mathlib.Nat.{mul-le-mul}
@@ -32,9 +32,12 @@ mul-unscaled-to c = let b = bounded (c .before .before .before .before .before .
 unscaled-to-requires : tie.Need-unscaled-to-requires
 unscaled-to-requires c κs = search needs
 
+no-span-requires : tie.Need-no-span-requires
+no-span-requires c κs = search needs
+
 returns : tie.Need-returns
 unfolding beginsWith stretchFrom
-returns c = rw (unread (c .before .before .before .before .before .before .before .before .before .before .args .reads .now) (c .before .before .before .before .before .before .before .before .before .before .args .day) (c .before .before .if1 .taken)) (refl, c .unscaled-to .ensures ∙ (rw (c .before .slots-per-day .ensures)))
+returns c = rw (unread (c .before .before .before .before .before .before .before .before .before .before .before .args .reads .now) (c .before .before .before .before .before .before .before .before .before .before .before .args .day) (c .before .before .before .if1 .taken)) (c .no-span .ensures .0, c .no-span .ensures .1 ∙ c .before .unscaled-to .ensures ∙ (rw (c .before .before .slots-per-day .ensures)))
 
 meet-requires : tie.Need-meet-requires
 meet-requires c κs = (c .before .before .before .before .before .before .before .before .pre .0 .lent, c .before .before .before .before .before .before .before .before .pre .0 .dialled, c .before .before .before .before .before .before .before .before .pre .1)
@@ -54,6 +57,7 @@ reach-spec =
     slots-per-day-requires
     mul-unscaled-to
     unscaled-to-requires
+    no-span-requires
     returns
     meet-requires
     returns-2)
