@@ -11,18 +11,20 @@ use rules::pass;
 use rules::pass::Pass;
 use rules::readings;
 use rules::stretch::Begins;
+ghost use mathlib.Core.Bool.{true};
 ghost use mathlib.Core.List.{_++_};
 ghost use mathlib.Core.Path.{_≡_};
 ghost use Prim.Native.Nat.{_+_, _*_, _≤_};
 ghost use lib.ListN.{length, drop};
-ghost use Rattle.rules.specs.Opening.{slotCount};
+ghost use Rattle.rules.specs.declared.Head.{Head as DeclaredHead};
+ghost use Rattle.rules.specs.Opening.{Cells, headOk, slotCount};
 ghost use Rattle.rules.specs.Spans.{outcomes, spans as spansOf};
 ghost use Rattle.rules.specs.Inner.Lent.{lentCells};
 ghost use Rattle.rules.specs.Inner.Passes.{listOf};
 ghost use Rattle.file.specs.Layout.{table, spanRow, fileOf};
 ghost use Rattle.file.specs.Publishing.{published, fileLength, publishAnswer, publishAfter};
 ghost use Rattle.file.specs.Inner.Writing.{written};
-ghost use Rattle.file.specs.Inner.Publishing.{totalsOf, addedTo, bufferAt, Roomy, Next, PutNext};
+ghost use Rattle.file.specs.Inner.Publishing.{totalsOf, addedTo, progressAt, bufferAt, Sound, Roomy, Next, PutNext, Left};
 
 // The length of the file, or the refusal's number.
 pub enum Published {
@@ -43,6 +45,23 @@ pub struct Progress {
     pub pass: Pass,
     pub spans: usize,
     pub totals: Totals,
+}
+
+// Before slot 0.
+fn begin() -> Progress
+    ensures { λ r. ⌜ ((h : DeclaredHead) (b : Cells) → r ≡ progressAt h b 0) ⌝ }
+{
+    let totals = Totals {
+        actual: 0,
+        substituted: 0,
+        none: 0,
+        sum: 0,
+    };
+    Progress {
+        pass: pass::first(),
+        spans: 0,
+        totals: totals,
+    }
 }
 
 fn add(totals: Totals, slot: Outcome) -> Totals
@@ -144,17 +163,7 @@ fn put_tables(
     ensures { λ r. ⌜ (r ≡ totalsOf (outcomes head (lentCells (values .entry) (versions .entry) (statuses .entry) (holidays .entry) (readings .entry) (reads .entry)))) × (now (out .exit) ≡ bufferAt head (lentCells (values .entry) (versions .entry) (statuses .entry) (holidays .entry) (readings .entry) (reads .entry)) (now (out .entry)) (slotCount head)) ⌝ }
 {
     let n = opening::slot_count(head);
-    let totals = Totals {
-        actual: 0,
-        substituted: 0,
-        none: 0,
-        sum: 0,
-    };
-    let mut here = Progress {
-        pass: pass::first(),
-        spans: 0,
-        totals: totals,
-    };
+    let mut here = begin();
     let mut i = 0;
     while i < n {
         here = put_next(
@@ -214,6 +223,47 @@ fn put_file(
     writer::put_trailer(out, table + 10 * spans, g);
 }
 
+// The length of a file with so many spans.
+fn length_of(head: Head, spans: usize) -> usize
+    requires { ⌜ (headOk head ≡ true) × (spans ≤ 400) ⌝ }
+    ensures { λ r. ⌜ r ≡ 6 * slotCount head + 10 * spans + 32 ⌝ }
+{
+    6 * opening::slot_count(head) + 10 * spans + 32
+}
+
+// Writes the file of a book that is refused for a short buffer only.
+fn put_sound(
+    head: Head,
+    values: &[u32],
+    versions: &[u32],
+    statuses: &[u8],
+    holidays: &[u8],
+    readings: &[u32],
+    reads: &[u32],
+    out: &mut [u8],
+) -> Published
+    requires { ⌜ Sound head (lentCells values versions statuses holidays readings reads) ⌝ }
+    ensures { λ r. ⌜ Left head (lentCells (values .entry) (versions .entry) (statuses .entry) (holidays .entry) (readings .entry) (reads .entry)) (now (out .entry)) r (now (out .exit)) ⌝ }
+{
+    let spans = readings::span_count(reads);
+    let length = length_of(head, spans);
+    if out.len() < length {
+        return Published::Refused(7);
+    }
+    put_file(
+        head,
+        values,
+        versions,
+        statuses,
+        holidays,
+        readings,
+        reads,
+        out,
+        spans,
+    );
+    Published::Length(length)
+}
+
 // Writes the file of a book into the first bytes of `out`.
 pub fn publish(
     head: Head,
@@ -250,12 +300,7 @@ pub fn publish(
     if !sound::cells_ok(head, values, versions, statuses, holidays, readings, reads) {
         return Published::Refused(11);
     }
-    let spans = readings::span_count(reads);
-    let length = 6 * opening::slot_count(head) + 10 * spans + 32;
-    if out.len() < length {
-        return Published::Refused(7);
-    }
-    put_file(
+    put_sound(
         head,
         values,
         versions,
@@ -264,7 +309,5 @@ pub fn publish(
         readings,
         reads,
         out,
-        spans,
-    );
-    Published::Length(length)
+    )
 }

@@ -10,7 +10,6 @@ use crate::readings::Next;
 use crate::spans;
 use crate::spans::Scaling;
 use crate::spans::Summary;
-ghost use mathlib.Core.Bool.{true};
 ghost use mathlib.Core.List.{[]};
 ghost use mathlib.Core.Path.{_≡_};
 ghost use Prim.Native.Nat.{_≤_};

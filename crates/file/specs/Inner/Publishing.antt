@@ -1,18 +1,22 @@
 -- What the functions that publish know between two slots.
+use mathlib.Core.Bool.{true}
 use mathlib.Core.Path.{_≡_}
 use mathlib.Core.List.{List}
 use Prim.Native.Nat.{ℕ, _+_, _*_, _≤_, _<_}
 use lib.ListN.{length}
 use Rattle.rules.specs.declared.Head.{Head}
 use Rattle.rules.specs.declared.Outcome.{Outcome}
-use Rattle.rules.specs.Opening.{Cells, slotCount}
-use Rattle.rules.specs.Spans.{isA, isS, isN, outcomeAt, upTo, outcomes, spans}
+use Rattle.rules.specs.Opening.{Cells, headOk, slotCount}
+use Rattle.rules.specs.Spans.{isA, isS, isN, outcomeAt, upTo, spans}
 use Rattle.rules.specs.Inner.Lent.{Whole}
 use Rattle.rules.specs.Inner.Stretches.{beginsAt}
 use Rattle.rules.specs.Inner.Passes.{passAt, listOf, begunBefore}
+use Rattle.book.specs.Cells.{cellsFit, cellsOk}
+use Rattle.file.specs.declared.publish.Published.{Published}
 use Rattle.file.specs.declared.publish.Totals.{Totals}
 use Rattle.file.specs.declared.publish.Progress.{Progress}
 use Rattle.file.specs.Layout.{one, total, row, table, slotRow, spanRow}
+use Rattle.file.specs.Publishing.{publishAnswer, publishAfter}
 use Rattle.file.specs.Inner.Writing.{written}
 
 -- the trailer's counts and sum of a list of outcomes
@@ -52,7 +56,17 @@ nextBytes h b d i =
     written (written d (6 * i) (row (slotRow (outcomeAt h b i)))) (6 * slotCount h + 10 * length (begunBefore h b i))
     (table spanRow (listOf (beginsAt h b i)))
 
--- cells that publishing does not refuse, and room for the file
+-- cells that publishing does not refuse
+pub record Sound (h : Head) (b : Cells) : Type 0 where
+  pub head : headOk h ≡ true
+  pub fit : cellsFit h b ≡ true
+  pub cells : cellsOk h b ≡ true
+
+-- what publishing answers, and leaves of a buffer d
+abbrev pub Left : Head → Cells → List ℕ → Published → List ℕ → Type 0
+Left h b d p e = (p ≡ publishAnswer h b d) × (e ≡ publishAfter h b d)
+
+-- such cells, and room for the file
 pub record Roomy (h : Head) (b : Cells) (d : List ℕ) : Type 0 where
   pub whole : Whole h b
   pub room : 6 * slotCount h + 10 * length (spans h b) + 32 ≤ length d

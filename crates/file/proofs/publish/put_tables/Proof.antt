@@ -1,6 +1,6 @@
 -- `publish::put_tables`. Before slot i the buffer holds the records of the first i slots and of the spans begun.
-use Rattle.rules.specs.Spans.{outcomes}
 use borrow.Author.Needs.{needs}
+use Rattle.rules.specs.Spans.{outcomes}
 use mathlib.Core.Path.{_≡_, refl, sym, ap, _∙_}
 use Prim.Native.Nat.{_+_, _-_, _*_, _≤_, _<_, zero-le}
 use native.Mathlib.Omega.{arith}
@@ -11,32 +11,30 @@ use Rattle.rules.specs.Inner.Lent.{slots, cells}
 use Rattle.rules.proofs.Bounds.{bounded}
 use Rattle.file.specs.declared.publish.Progress.{Progress}
 use Rattle.file.specs.Inner.Publishing.{progressAt, bufferAt}
-use Rattle.file.proofs.Totals.{progress-first, progress-place, progress-here}
+use Rattle.file.proofs.Totals.{progress-place, progress-here}
 use Rattle.file.proofs.Buffers.{buffer-first, buffer-next}
 use Rattle.file.proofs.publish.put_tables.Statement.{statement}
 use Rattle.file.proofs.publish.put_tables.Tie as tie
 
 abbrev Inv-loop : tie.InvT-loop
-Inv-loop head values versions statuses holidays readings reads out₀ table n here₀ i₀ out here i =
-    (i ≤ n)
+Inv-loop head values versions statuses holidays readings reads out₀ table n here₀ i₀ out here i = (i ≤ n)
     × (length out ≡ length out₀)
     × (here ≡ progressAt head (cells (slots values versions statuses) holidays readings reads) i)
     × (out ≡ bufferAt head (cells (slots values versions statuses) holidays readings reads) out₀ i)
 
 abbrev μ-loop : tie.MeasureT-loop
-μ-loop head values versions statuses holidays readings reads out₀ table n here₀ i₀ out here i =
-    n - i
+μ-loop head values versions statuses holidays readings reads out₀ table n here₀ i₀ out here i = n - i
 
 slot-count-requires : tie.Need-slot-count-requires Inv-loop μ-loop
 slot-count-requires c κs = c .before .before .before .before .before .before .before .pre .0 .whole .lent .fitted .head
 
-first-requires : tie.Need-first-requires Inv-loop μ-loop
-first-requires c κs = search needs
+begin-requires : tie.Need-begin-requires Inv-loop μ-loop
+begin-requires c κs = search needs
 
 loop-holds : tie.Need-loop-holds Inv-loop μ-loop
 loop-holds c = let a = c .before .before .before .before .before .before .before .before .before .args in
     let b = cells (slots (a .values .now) (a .versions .now) (a .statuses .now)) (a .holidays .now) (a .readings .now) (a .reads .now) in
-    (zero-le, refl, progress-first (a .head) b (c .first .result) (c .first .ensures (a .head) b), sym (buffer-first (a .head) b (a .out .now)))
+    (zero-le, refl, c .begin .ensures (a .head) b, sym (buffer-first (a .head) b (a .out .now)))
 
 put-next-requires : tie.Need-put-next-requires Inv-loop μ-loop
 put-next-requires c κs = let a = c .before .before .before .before .before .before .before .before .before .before .before .before .args in
@@ -82,7 +80,7 @@ put-tables-spec =
     Inv-loop
     μ-loop
     slot-count-requires
-    first-requires
+    begin-requires
     loop-holds
     put-next-requires
     add-i

@@ -1,5 +1,4 @@
 -- `pass::step`: enter the stretch, fill the slot, settle it.
-use borrow.Author.Needs.{needs}
 use mathlib.Core.Path.{ap}
 use Rattle.rules.specs.declared.pass.Pass.{Pass}
 use Rattle.rules.specs.Inner.Lent.{slots, cells}
