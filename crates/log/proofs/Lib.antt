@@ -2,7 +2,3 @@ pub mod Reading
 pub mod Splitting
 pub mod Fields
 pub mod Calls
-pub mod Parts
-pub mod Played
-pub mod Alike
-pub mod Feeding

@@ -1,8 +1,5 @@
 // Text logs: one call a line.
-pub mod feed;
 pub mod line;
-pub mod lists;
 mod number;
-mod pieces;
-pub mod play;
+pub mod pieces;
 mod words;

@@ -1,0 +1,72 @@
+-- Bytes put into hand, and a step through a block.
+use mathlib.Core.List.{List, [], _∷_, _++_, map, append-assoc}
+use mathlib.Core.Path.{_≡_, sym, ap, _∙_}
+use Prim.Native.Nat.{ℕ, _+_, _-_, _≤_, _<_}
+use native.Mathlib.Numerals.{add-one}
+use native.Mathlib.Omega.{arith}
+use borrow.Author.Tests.{lt-ltb, le-ltb}
+use lib.ListN.{length, getD, take, drop, set, take-append-drop}
+use lib.Seq.{take-suc, take-suc-set, take-at, take-all, length-take-le, drop-length, take-length}
+use Rattle.rules.specs.Opening.{Cells}
+use Rattle.log.specs.declared.line.Line.{Line}
+use Rattle.play.specs.declared.play.Run.{Run}
+use Rattle.play.specs.declared.play.Played.{Played}
+use Rattle.play.specs.declared.play.Said.the-variants.{Nothing}
+use Rattle.log.specs.Words.{split}
+use Rattle.log.specs.Line.{lineOf}
+use Rattle.play.specs.Playing.{played, playedCells}
+use Rattle.play.specs.Log.{linesFrom, withAnswer, outcome}
+use Rattle.log.specs.Inner.Parsing.{piecesFrom}
+use Rattle.play.proofs.Alike.{alike, now-alike, lines-alike}
+
+module _ (part hand bytes : List ℕ) (n i : ℕ) (e : take n part ≡ hand ++ take i bytes) where
+  pub one-kept : n < length part → i < length bytes
+      → take (n + 1) (set part n (getD bytes i 0)) ≡ hand ++ take (i + 1) bytes
+  one-kept l m =
+      rw (add-one, add-one, take-suc-set part n (getD bytes i 0) l, take-suc bytes i 0 m, e, append-assoc hand (take i bytes) (getD bytes i 0 ∷ []))
+
+  -- no more room, or no more bytes
+  pub room-full : (cap : ℕ) → cap ≡ n → n ≤ length part → take n part ≡ take cap (hand ++ bytes)
+  room-full cap c l =
+      let long : length (hand ++ take i bytes) ≡ cap = ap length (sym e) ∙ length-take-le n part l ∙ sym c in
+      let all : hand ++ bytes ≡ (hand ++ take i bytes) ++ drop i bytes = rw (append-assoc hand (take i bytes) (drop i bytes), take-append-drop) in
+      rw all (e ∙ sym (take-at (hand ++ take i bytes) (drop i bytes) cap long))
+
+  pub all-kept : (cap : ℕ) → n ≤ cap → n ≤ length part → i ≡ length bytes → take n part ≡ take cap (hand ++ bytes)
+  all-kept cap c l m =
+      let whole : take i bytes ≡ bytes = rw m (take-length bytes) in
+      let has : take n part ≡ hand ++ bytes = e ∙ ap (λ (x : List ℕ). hand ++ x) whole in
+      let long : length (hand ++ bytes) ≤ cap = omega (arith, ap length (sym has), length-take-le n part l) in
+      has ∙ sym (take-all cap (hand ++ bytes) long)
+
+module _ (block : List ℕ) (at end cap : ℕ) (hand hand′ : List ℕ) (room : 257 ≤ cap)
+    (pieces : (begun more : List ℕ) → split 10 begun (drop at block ++ more) ≡ piecesFrom 10 block end (begun ++ take (end - at) (drop at block)) more)
+    (kept : hand′ ≡ take cap (hand ++ take (end - at) (drop at block))) where
+  abbrev grown : List ℕ
+  grown = hand ++ take (end - at) (drop at block)
+
+  line-goes-on : end ≡ length block → (more : List ℕ) → linesFrom hand (drop at block ++ more) ≡ linesFrom hand′ (drop end block ++ more)
+  unfolding linesFrom piecesFrom
+  line-goes-on e more =
+      let none : drop end block ≡ [] = rw e (drop-length block) in
+      let no : length block ≤ end = omega arith in
+      let grows : split 10 hand (drop at block ++ more) ≡ split 10 grown more = rw (le-ltb _ _ no) at (pieces hand more) in
+      ap (map lineOf) grows ∙ rw (none, kept) (sym (lines-alike (take cap grown) grown more (alike cap grown room)))
+
+  line-ends : end < length block → (more : List ℕ)
+      → linesFrom hand (drop at block ++ more) ≡ lineOf hand′ ∷ linesFrom [] (drop (end + 1) block ++ more)
+  unfolding linesFrom piecesFrom
+  line-ends l more =
+      let ends : split 10 hand (drop at block ++ more) ≡ grown ∷ split 10 [] (drop (end + 1) block ++ more) = rw (lt-ltb _ _ l) at (pieces hand more) in
+      ap (map lineOf) ends ∙ rw kept (ap (λ (x : Line). x ∷ map lineOf (split 10 [] (drop (end + 1) block ++ more))) (sym (now-alike (take cap grown) grown (alike cap grown room))))
+
+  module _ (run : Run) (b : Cells) where
+    pub block-ends : end ≡ length block → (more : List ℕ)
+        → outcome run b (linesFrom hand (drop at block ++ more)) ≡ withAnswer Nothing (outcome run b (linesFrom hand′ (drop end block ++ more)))
+    unfolding withAnswer
+    block-ends e more = ap (outcome run b) (line-goes-on e more)
+
+    pub line-played : (p : Played) (c : Cells) → end < length block → p ≡ played run b (lineOf hand′) → c ≡ playedCells run b (lineOf hand′) → (more : List ℕ)
+        → outcome run b (linesFrom hand (drop at block ++ more)) ≡ withAnswer (p .said) (outcome (p .run) c (linesFrom [] (drop (end + 1) block ++ more)))
+    unfolding outcome
+    line-played p c l f g more = rw (f, g) (ap (outcome run b) (line-ends l more))

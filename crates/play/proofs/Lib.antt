@@ -1,0 +1,4 @@
+pub mod Parts
+pub mod Played
+pub mod Alike
+pub mod Feeding

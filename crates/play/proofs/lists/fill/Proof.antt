@@ -1,0 +1,70 @@
+-- `play::lists::fill` meets its contract.
+use Rattle.play.proofs.Parts.{delivered, named, registered}
+use borrow.Author.Needs.{needs}
+use Rattle.play.proofs.lists.fill.Statement.{statement}
+use Rattle.play.proofs.lists.fill.Tie as tie
+
+enum-known-call : tie.Need-enum-known-call
+enum-known-call c = search needs
+
+deliver-requires : tie.Need-deliver-requires
+deliver-requires c κs = search needs
+
+enum-known-call-2 : tie.Need-enum-known-call-2
+enum-known-call-2 c = search needs
+
+holiday-requires : tie.Need-holiday-requires
+holiday-requires c κs = search needs
+
+enum-known-call-3 : tie.Need-enum-known-call-3
+enum-known-call-3 c = search needs
+
+register-requires : tie.Need-register-requires
+register-requires c κs = search needs
+
+same-length : tie.Need-same-length
+same-length c = search needs
+
+same-length-2 : tie.Need-same-length-2
+same-length-2 c = search needs
+
+same-length-3 : tie.Need-same-length-3
+same-length-3 c = search needs
+
+returns : tie.Need-returns
+returns c = delivered _ _ _ _ _ _ _ _ _ (c .before .before .before .before .before .before .before .before .before .before .before .call .given .1) (c .before .before .before .before .before .before .deliver .ensures .0) (c .before .before .before .before .before .before .deliver .ensures .1)
+
+same-length-4 : tie.Need-same-length-4
+same-length-4 c = search needs
+
+returns-2 : tie.Need-returns-2
+returns-2 c = named _ _ _ _ _ _ (c .before .before .before .before .before .call2 .given .1) (c .before .before .holiday .ensures .0) (c .before .before .holiday .ensures .1)
+
+same-length-5 : tie.Need-same-length-5
+same-length-5 c = search needs
+
+same-length-6 : tie.Need-same-length-6
+same-length-6 c = search needs
+
+returns-3 : tie.Need-returns-3
+returns-3 c = registered _ _ _ _ _ _ _ _ (c .before .before .before .before .before .before .before .before .call3 .given .1) (c .before .before .before .before .register .ensures .0) (c .before .before .before .before .register .ensures .1)
+
+pub fill-spec : {M : Type 1} → statement M
+fill-spec =
+    tie.close
+    (tie.spec
+    enum-known-call
+    deliver-requires
+    enum-known-call-2
+    holiday-requires
+    enum-known-call-3
+    register-requires
+    same-length
+    same-length-2
+    same-length-3
+    returns
+    same-length-4
+    returns-2
+    same-length-5
+    same-length-6
+    returns-3)

@@ -1,0 +1,99 @@
+-- `play::play::play` meets its contract.
+use mathlib.Core.Path.{refl}
+use Rattle.play.proofs.Played.{stage-as}
+use borrow.Author.Needs.{needs}
+use Rattle.play.proofs.play.play.Statement.{statement}
+use Rattle.play.proofs.play.play.Tie as tie
+
+enum-told : tie.Need-enum-told
+enum-told c = search needs
+
+play-closed-requires : tie.Need-play-closed-requires
+play-closed-requires c κs = search needs
+
+enum-told-2 : tie.Need-enum-told-2
+enum-told-2 c = search needs
+
+play-open-requires : tie.Need-play-open-requires
+play-open-requires c κs = search needs
+
+enum-told-3 : tie.Need-enum-told-3
+enum-told-3 c = search needs
+
+enum-told-4 : tie.Need-enum-told-4
+enum-told-4 c = search needs
+
+same-length : tie.Need-same-length
+same-length c = search needs
+
+same-length-2 : tie.Need-same-length-2
+same-length-2 c = search needs
+
+same-length-3 : tie.Need-same-length-3
+same-length-3 c = search needs
+
+same-length-4 : tie.Need-same-length-4
+same-length-4 c = search needs
+
+same-length-5 : tie.Need-same-length-5
+same-length-5 c = search needs
+
+same-length-6 : tie.Need-same-length-6
+same-length-6 c = search needs
+
+returns : tie.Need-returns
+returns c = stage-as _ _ _ _ _ _ (c .before .before .before .before .before .before .before .before .before .before .before .before .before .before .before .before .before .before .before .enum-told .given .1) (c .before .before .before .before .before .before .before .before .before .before .before .before .play-closed .ensures .0) (c .before .before .before .before .before .before .before .before .before .before .before .before .play-closed .ensures .1)
+
+same-length-7 : tie.Need-same-length-7
+same-length-7 c = search needs
+
+same-length-8 : tie.Need-same-length-8
+same-length-8 c = search needs
+
+same-length-9 : tie.Need-same-length-9
+same-length-9 c = search needs
+
+same-length-10 : tie.Need-same-length-10
+same-length-10 c = search needs
+
+same-length-11 : tie.Need-same-length-11
+same-length-11 c = search needs
+
+same-length-12 : tie.Need-same-length-12
+same-length-12 c = search needs
+
+returns-2 : tie.Need-returns-2
+returns-2 c = stage-as _ _ _ _ _ _ (c .before .before .before .before .before .before .before .before .before .before .before .before .before .before .before .before .before .before .before .enum-told2 .given .1) (c .before .before .before .before .before .before .before .before .before .before .before .before .play-open .ensures .0) (c .before .before .before .before .before .before .before .before .before .before .before .before .play-open .ensures .1)
+
+returns-3 : tie.Need-returns-3
+returns-3 c = stage-as _ _ _ _ _ _ (c .enum-told3 .given .1) refl refl
+
+returns-4 : tie.Need-returns-4
+returns-4 c = stage-as _ _ _ _ _ _ (c .enum-told4 .given .1) refl refl
+
+pub play-spec : {M : Type 1} → statement M
+play-spec =
+    tie.close
+    (tie.spec
+    enum-told
+    play-closed-requires
+    enum-told-2
+    play-open-requires
+    enum-told-3
+    enum-told-4
+    same-length
+    same-length-2
+    same-length-3
+    same-length-4
+    same-length-5
+    same-length-6
+    returns
+    same-length-7
+    same-length-8
+    same-length-9
+    same-length-10
+    same-length-11
+    same-length-12
+    returns-2
+    returns-3
+    returns-4)

@@ -1,0 +1,93 @@
+-- `play::play::play_closed` meets its contract.
+use mathlib.Core.Path.{refl}
+use Rattle.play.specs.Playing.{playedClosed, closedCells}
+use Rattle.play.proofs.Played.{closed-as, opening-as}
+use borrow.Author.Needs.{needs}
+use Rattle.play.proofs.play.play_closed.Statement.{statement}
+use Rattle.play.proofs.play.play_closed.Tie as tie
+
+enum-told : tie.Need-enum-told
+enum-told c = search needs
+
+quiet-requires : tie.Need-quiet-requires
+quiet-requires c κs = search needs
+
+enum-known-line : tie.Need-enum-known-line
+enum-known-line c = search needs
+
+open-requires : tie.Need-open-requires
+open-requires c κs = search needs
+
+after-opening-requires : tie.Need-after-opening-requires
+after-opening-requires c κs = search needs
+
+enum-told-2 : tie.Need-enum-told-2
+enum-told-2 c = search needs
+
+quiet-requires-2 : tie.Need-quiet-requires-2
+quiet-requires-2 c κs = search needs
+
+enum-told-3 : tie.Need-enum-told-3
+enum-told-3 c = search needs
+
+quiet-requires-3 : tie.Need-quiet-requires-3
+quiet-requires-3 c κs = search needs
+
+returns : tie.Need-returns
+unfolding playedClosed closedCells
+returns c = closed-as _ _ _ _ _ _ (c .before .enum-told .given .1) (c .quiet .ensures) refl
+
+same-length : tie.Need-same-length
+same-length c = search needs
+
+same-length-2 : tie.Need-same-length-2
+same-length-2 c = search needs
+
+same-length-3 : tie.Need-same-length-3
+same-length-3 c = search needs
+
+same-length-4 : tie.Need-same-length-4
+same-length-4 c = search needs
+
+same-length-5 : tie.Need-same-length-5
+same-length-5 c = search needs
+
+same-length-6 : tie.Need-same-length-6
+same-length-6 c = search needs
+
+returns-2 : tie.Need-returns-2
+unfolding playedClosed closedCells
+returns-2 c = let e = c .before .before .before .before .before .before .before .before .before .before .before .before .before .«open» .ensures in
+    opening-as _ _ _ _ _ _ _ (c .before .before .before .before .before .before .before .before .before .before .before .before .before .before .before .before .before .before .before .before .before .line .given .1) (c .after-opening .ensures) (e .0) (e .1)
+
+returns-3 : tie.Need-returns-3
+unfolding playedClosed closedCells
+returns-3 c = closed-as _ _ _ _ _ _ (c .before .enum-told2 .given .1) (c .quiet2 .ensures) refl
+
+returns-4 : tie.Need-returns-4
+unfolding playedClosed closedCells
+returns-4 c = closed-as _ _ _ _ _ _ (c .before .enum-told3 .given .1) (c .quiet3 .ensures) refl
+
+pub play-closed-spec : {M : Type 1} → statement M
+play-closed-spec =
+    tie.close
+    (tie.spec
+    enum-told
+    quiet-requires
+    enum-known-line
+    open-requires
+    after-opening-requires
+    enum-told-2
+    quiet-requires-2
+    enum-told-3
+    quiet-requires-3
+    returns
+    same-length
+    same-length-2
+    same-length-3
+    same-length-4
+    same-length-5
+    same-length-6
+    returns-2
+    returns-3
+    returns-4)

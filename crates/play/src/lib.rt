@@ -1,0 +1,4 @@
+// Text logs played on a book, block by block and line by line.
+pub mod feed;
+pub mod lists;
+pub mod play;
