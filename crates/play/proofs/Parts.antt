@@ -148,12 +148,12 @@ module _ (h : Head) (b : Cells) (call : Call) (a : Answer) where
 module _ (h : Head) (b : Cells) {i j k l m n : ℕ}
     (p : Cut (slotsOf h) (b .slots .values) i) (q : Cut (slotsOf h) (b .slots .versions) j) (r : Cut (slotsOf h) (b .slots .statuses) k)
     (u : Cut (h .days) (b .holidays) l) (v : Cut (h .days + 1) (b .readings) m) (w : Cut (h .days + 1) (b .readVersions) n) where
-  abbrev lent : Cells
+  abbrev pub lent : Cells
   lent =
       cells (slots (take i (b .slots .values)) (take j (b .slots .versions)) (take k (b .slots .statuses))) (take l (b .holidays))
       (take m (b .readings)) (take n (b .readVersions))
 
-  cells-lent : lent ≡ partOf h b
+  pub cells-lent : lent ≡ partOf h b
   unfolding partOf
   cells-lent = λ t. record {
     slots = slots-lent h (b .slots) p q r t;

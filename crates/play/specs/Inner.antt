@@ -1,2 +1,3 @@
 -- What the contracts of inner functions say.
 pub mod Feeding
+pub mod Console

@@ -1,4 +1,5 @@
 pub mod Lists
 pub mod Playing
 pub mod Log
+pub mod Texts
 pub mod Inner

@@ -1,5 +1,5 @@
 -- What a log comes to: its lines played one after another.
-use mathlib.Core.Bool.{cond}
+use mathlib.Core.Bool.{Bool, true, false, cond}
 use Prim.Native.Nat.{ℕ, _+_}
 use lib.Dec.{ltb}
 use Rattle.rules.specs.declared.Head.{Head}
@@ -17,6 +17,22 @@ use Rattle.play.specs.declared.play.Said.the-variants as said
 use Rattle.play.specs.declared.play.Run.{Run}
 use Rattle.play.specs.declared.play.Played.{Played}
 use Rattle.play.specs.Lists.{callMeant, partOf, withPart}
+
+-- before the first line, where no head is known
+abbrev pub started : Run
+started = record {
+  stage = stage.Closed;
+  head = record { year = 0; month = 0; day = 0; days = 0; interval = 0; kind = 0; tolerance = 0 };
+  lines = 0;
+  refused = 0;
+}
+
+-- a line that is no call, and a refused opening, end the log
+abbrev pub isOver : Stage → Bool
+isOver stage.Closed = false
+isOver stage.Open = false
+isOver stage.Unfit = true
+isOver (stage.Refused n) = true
 
 -- 01's answer as the enum has it
 abbrev pub saidOf : Answer → Said
@@ -90,7 +106,7 @@ openCells run b (line.Open h) = b
 openCells run b (line.Fill call) = withPart (run .head) (after (run .head) (partOf (run .head) b) (callMeant call)) b
 openCells run b line.NoCall = b
 
--- a line that is no call, and a refused opening, end the log
+-- where the log is over, nothing more is done
 abbrev pub playedAt : Stage → Run → Cells → Line → Played
 playedAt stage.Closed run b l = playedClosed run b l
 playedAt stage.Open run b l = playedOpen run b l

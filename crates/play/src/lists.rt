@@ -1,6 +1,8 @@
 // Calls on the part of longer lists that a head asks for.
 use book::Filed;
 use book::Opened;
+use file::publish;
+use file::publish::Published;
 use log::line::Call;
 use rules::Head;
 use rules::opening;
@@ -11,6 +13,7 @@ ghost use Rattle.book.specs.Answers.{openedMeant, filedMeant};
 ghost use Rattle.book.specs.Filling.{deliverAnswer, deliverAfter, holidayAnswer, holidayAfter, registerAnswer, registerAfter, answer, after};
 ghost use Rattle.book.specs.Inner.Lent.{lentReads};
 ghost use Rattle.book.specs.Opening.{openAnswer, openAfter};
+ghost use Rattle.file.specs.Publishing.{publishAnswer, publishAfter};
 ghost use Rattle.play.specs.Lists.{callMeant, slotsOf, slotsPart, daysPart, readsPart, partOf, withSlots, withDays, withReads, withPart};
 
 fn least(a: usize, b: usize) -> usize
@@ -176,4 +179,42 @@ pub fn fill(
             reading,
         } => register(head, readings, reads, boundary, version, reading),
     }
+}
+
+// Publishes the part of the lists that the head asks for.
+pub fn publish(
+    head: Head,
+    values: &[u32],
+    versions: &[u32],
+    statuses: &[u8],
+    holidays: &[u8],
+    readings: &[u32],
+    reads: &[u32],
+    out: &mut [u8],
+) -> Published
+    ensures { λ r. ⌜
+        (let cells =
+        partOf head (lentCells (values .entry) (versions .entry) (statuses .entry) (holidays .entry) (readings .entry) (reads .entry)) in
+        (r ≡ publishAnswer head cells (now (out .entry)))
+        × (now (out .exit) ≡ publishAfter head cells (now (out .entry))))
+        ⌝ }
+{
+    let slots = slots_of(head);
+    let days = head.days as usize;
+    let a = least(slots, values.len());
+    let b = least(slots, versions.len());
+    let c = least(slots, statuses.len());
+    let d = least(days, holidays.len());
+    let e = least(days + 1, readings.len());
+    let f = least(days + 1, reads.len());
+    publish::publish(
+        head,
+        &values[..a],
+        &versions[..b],
+        &statuses[..c],
+        &holidays[..d],
+        &readings[..e],
+        &reads[..f],
+        out,
+    )
 }

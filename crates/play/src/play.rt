@@ -7,7 +7,7 @@ use rules::Head;
 ghost use mathlib.Core.Path.{_≡_};
 ghost use Rattle.rules.specs.Inner.Lent.{lentCells};
 ghost use Rattle.book.specs.Answers.{openedMeant, filedMeant};
-ghost use Rattle.play.specs.Playing.{counted as Playing·counted, moved as Playing·moved, quiet as Playing·quiet, afterOpening, afterFilling, playedClosed, closedCells, playedOpen, openCells, played, playedCells};
+ghost use Rattle.play.specs.Playing.{started, isOver, counted as Playing·counted, moved as Playing·moved, quiet as Playing·quiet, afterOpening, afterFilling, playedClosed, closedCells, playedOpen, openCells, played, playedCells};
 
 // No call has come; the book is open; a line was no call; the opening was refused.
 pub enum Stage {
@@ -38,6 +38,39 @@ pub enum Said {
 pub struct Played {
     pub run: Run,
     pub said: Said,
+}
+
+pub fn start() -> Run
+    ensures { λ r. ⌜ r ≡ started ⌝ }
+{
+    let head = Head {
+        year: 0,
+        month: 0,
+        day: 0,
+        days: 0,
+        interval: 0,
+        kind: 0,
+        tolerance: 0,
+    };
+    Run {
+        stage: Stage::Closed,
+        head,
+        lines: 0,
+        refused: 0,
+    }
+}
+
+// Nothing more is done with the log.
+pub fn is_over(run: Run) -> bool
+    ensures { λ r. ⌜ r ≡ isOver (run .stage) ⌝ }
+{
+    let stage = run.stage;
+    match stage {
+        Stage::Closed => false,
+        Stage::Open => false,
+        Stage::Unfit => true,
+        Stage::Refused(_) => true,
+    }
 }
 
 // One more, up to the largest number.

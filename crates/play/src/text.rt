@@ -1,0 +1,113 @@
+// An answer as a line of text.
+use crate::feed;
+use crate::play::Said;
+ghost use mathlib.Core.List.{_++_};
+ghost use mathlib.Core.Path.{_≡_};
+ghost use Prim.Native.Nat.{_+_, _≤_};
+ghost use lib.ListN.{length, take};
+ghost use Rattle.play.specs.Texts.{refusedText, answerText};
+
+// The first `count` bytes are the text.
+struct Text {
+    bytes: [u8; 12],
+    count: usize,
+}
+
+fn refused_text(n: u8) -> Text
+    ensures { λ r. ⌜ (take (r .count) (r .bytes) ≡ refusedText n) × (r .count ≤ 12) × (r .count ≤ length (r .bytes)) ⌝ }
+{
+    if n < 10 {
+        return Text {
+            bytes: [
+                b'r',
+                b'e',
+                b'f',
+                b'u',
+                b's',
+                b'e',
+                b'd',
+                b' ',
+                48 + n,
+                10,
+                0,
+                0,
+            ],
+            count: 10,
+        };
+    }
+    if n < 100 {
+        return Text {
+            bytes: [
+                b'r',
+                b'e',
+                b'f',
+                b'u',
+                b's',
+                b'e',
+                b'd',
+                b' ',
+                48 + n / 10,
+                48 + n % 10,
+                10,
+                0,
+            ],
+            count: 11,
+        };
+    }
+    Text {
+        bytes: [
+            b'r',
+            b'e',
+            b'f',
+            b'u',
+            b's',
+            b'e',
+            b'd',
+            b' ',
+            48 + n / 100,
+            48 + n / 10 % 10,
+            48 + n % 10,
+            10,
+        ],
+        count: 12,
+    }
+}
+
+fn text_of(said: Said) -> Text
+    ensures { λ r. ⌜ (take (r .count) (r .bytes) ≡ answerText said) × (r .count ≤ 12) × (r .count ≤ length (r .bytes)) ⌝ }
+{
+    match said {
+        Said::Nothing => Text {
+            bytes: [0u8; 12],
+            count: 0,
+        },
+        Said::Done => Text {
+            bytes: [b'd', b'o', b'n', b'e', 10, 0, 0, 0, 0, 0, 0, 0],
+            count: 5,
+        },
+        Said::Stored => Text {
+            bytes: [b's', b't', b'o', b'r', b'e', b'd', 10, 0, 0, 0, 0, 0],
+            count: 7,
+        },
+        Said::Late => Text {
+            bytes: [b'l', b'a', b't', b'e', 10, 0, 0, 0, 0, 0, 0, 0],
+            count: 5,
+        },
+        Said::Repeat => Text {
+            bytes: [b'r', b'e', b'p', b'e', b'a', b't', 10, 0, 0, 0, 0, 0],
+            count: 7,
+        },
+        Said::Refused(n) => refused_text(n),
+    }
+}
+
+// Puts the text of an answer behind the first `at` bytes of `out`, and answers the place after it.
+pub fn put(out: &mut [u8], at: usize, said: Said) -> usize
+    requires { ⌜ at + 12 ≤ length (now out) ⌝ }
+    ensures { λ r. ⌜ (r ≤ length (now (out .entry))) × (take r (now (out .exit)) ≡ take at (now (out .entry)) ++ answerText said) ⌝ }
+{
+    let text = text_of(said);
+    let bytes = text.bytes;
+    let count = text.count;
+    feed::keep(out, at, &bytes[..count])
+}
