@@ -21,6 +21,7 @@ ghost use Rattle.rules.specs.Opening.{Cells, headOk, slotCount};
 ghost use Rattle.rules.specs.Spans.{outcomes, spans as spansOf};
 ghost use Rattle.rules.specs.Inner.Lent.{lentCells};
 ghost use Rattle.rules.specs.Inner.Passes.{listOf};
+ghost use Rattle.book.specs.Cells.{cellsFit};
 ghost use Rattle.file.specs.Layout.{table, spanRow, fileOf};
 ghost use Rattle.file.specs.Publishing.{published, fileLength, publishAnswer, publishAfter};
 ghost use Rattle.file.specs.Inner.Writing.{written};
@@ -264,6 +265,30 @@ fn put_sound(
     Published::Length(length)
 }
 
+// The six lists have the lengths that the head asks.
+fn lists_fit(
+    head: Head,
+    values: &[u32],
+    versions: &[u32],
+    statuses: &[u8],
+    holidays: &[u8],
+    readings: &[u32],
+    reads: &[u32],
+) -> bool
+    requires { ⌜ headOk head ≡ true ⌝ }
+    ensures { λ r. ⌜ r ≡ cellsFit head (lentCells (values .entry) (versions .entry) (statuses .entry) (holidays .entry) (readings .entry) (reads .entry)) ⌝ }
+{
+    lengths::cells_fit(
+        head,
+        values.len(),
+        versions.len(),
+        statuses.len(),
+        holidays.len(),
+        readings.len(),
+        reads.len(),
+    )
+}
+
 // Writes the file of a book into the first bytes of `out`.
 pub fn publish(
     head: Head,
@@ -285,16 +310,7 @@ pub fn publish(
     if !opening::head_ok(head) {
         return Published::Refused(1);
     }
-    let fit = lengths::cells_fit(
-        head,
-        values.len(),
-        versions.len(),
-        statuses.len(),
-        holidays.len(),
-        readings.len(),
-        reads.len(),
-    );
-    if !fit {
+    if !lists_fit(head, values, versions, statuses, holidays, readings, reads) {
         return Published::Refused(2);
     }
     if !sound::cells_ok(head, values, versions, statuses, holidays, readings, reads) {

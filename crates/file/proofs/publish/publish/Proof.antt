@@ -5,7 +5,7 @@ use mathlib.Core.Path.{_≡_, sym, _∙_}
 use borrow.Author.Tests.{not-true, not-false}
 use Rattle.rules.specs.Opening.{headOk}
 use Rattle.rules.specs.Inner.Lent.{slots, cells}
-use Rattle.book.specs.Cells.{slotsFit, daysFit, readsFit, cellsFit}
+use Rattle.book.specs.Cells.{cellsFit}
 use Rattle.file.proofs.Publishing.{refused-1, refused-2, refused-11}
 use Rattle.file.proofs.publish.publish.Statement.{statement}
 use Rattle.file.proofs.publish.publish.Tie as tie
@@ -18,33 +18,29 @@ returns c = let a = c .before .before .before .before .before .before .before .b
     let b = cells (slots (a .values .now) (a .versions .now) (a .statuses .now)) (a .holidays .now) (a .readings .now) (a .reads .now) in
     refused-1 (a .head) b (a .out .now) (sym (c .before .head-ok .ensures) ∙ not-true _ (c .if1 .taken))
 
-cells-fit-requires : tie.Need-cells-fit-requires
-cells-fit-requires c κs = sym (c .before .head-ok .ensures) ∙ not-false _ (c .if1 .left)
+lists-fit-requires : tie.Need-lists-fit-requires
+lists-fit-requires c κs = sym (c .before .head-ok .ensures) ∙ not-false _ (c .if1 .left)
 
 returns-2 : tie.Need-returns-2
-unfolding cellsFit slotsFit daysFit readsFit
 returns-2 c = let a = c .before .before .before .before .before .before .before .before .before .before .before .args in
     let b = cells (slots (a .values .now) (a .versions .now) (a .statuses .now)) (a .holidays .now) (a .readings .now) (a .reads .now) in
     let good : headOk (a .head) ≡ true = sym (c .before .before .before .head-ok .ensures) ∙ not-false _ (c .before .before .if1 .left) in
-    refused-2 (a .head) b (a .out .now) good (sym (c .before .cells-fit .ensures) ∙ not-true _ (c .if2 .taken))
+    refused-2 (a .head) b (a .out .now) good (sym (c .before .lists-fit .ensures) ∙ not-true _ (c .if2 .taken))
 
 cells-ok-requires : tie.Need-cells-ok-requires
-unfolding cellsFit slotsFit daysFit readsFit
-cells-ok-requires c κs = sym (c .before .cells-fit .ensures) ∙ not-false _ (c .if2 .left)
+cells-ok-requires c κs = sym (c .before .lists-fit .ensures) ∙ not-false _ (c .if2 .left)
 
 returns-3 : tie.Need-returns-3
-unfolding cellsFit slotsFit daysFit readsFit
 returns-3 c = let a = c .before .before .before .before .before .before .before .before .before .before .before .before .before .args in
     let b = cells (slots (a .values .now) (a .versions .now) (a .statuses .now)) (a .holidays .now) (a .readings .now) (a .reads .now) in
     let good : headOk (a .head) ≡ true = sym (c .before .before .before .before .before .head-ok .ensures) ∙ not-false _ (c .before .before .before .before .if1 .left) in
-    let fit : cellsFit (a .head) b ≡ true = sym (c .before .before .before .cells-fit .ensures) ∙ not-false _ (c .before .before .if2 .left) in
+    let fit : cellsFit (a .head) b ≡ true = sym (c .before .before .before .lists-fit .ensures) ∙ not-false _ (c .before .before .if2 .left) in
     refused-11 (a .head) b (a .out .now) good fit (sym (c .before .cells-ok .ensures) ∙ not-true _ (c .if3 .taken))
 
 put-sound-requires : tie.Need-put-sound-requires
-unfolding cellsFit slotsFit daysFit readsFit
 put-sound-requires c κs = record {
   head = sym (c .before .before .before .before .before .before .head-ok .ensures) ∙ not-false _ (c .before .before .before .before .before .if1 .left);
-  fit = sym (c .before .before .before .before .cells-fit .ensures) ∙ not-false _ (c .before .before .before .if2 .left);
+  fit = sym (c .before .before .before .before .lists-fit .ensures) ∙ not-false _ (c .before .before .before .if2 .left);
   cells = sym (c .before .before .cells-ok .ensures) ∙ not-false _ (c .before .if3 .left);
 }
 
@@ -60,7 +56,7 @@ publish-spec =
     (tie.spec
     head-ok-requires
     returns
-    cells-fit-requires
+    lists-fit-requires
     returns-2
     cells-ok-requires
     returns-3
