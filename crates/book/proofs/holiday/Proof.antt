@@ -1,14 +1,102 @@
 -- `holiday`: the first broken rule is given; else the answer is that of `against_day`, and a stored holiday writes 1.
-use mathlib.Core.Path.{refl, sym, _∙_}
+use mathlib.Core.Bool.{true}
+use mathlib.Core.List.{List}
+use mathlib.Core.Path.{_≡_, refl, sym, _∙_}
+use Prim.Native.Nat.{ℕ, _<_, _≤_}
 use native.Mathlib.Omega.{arith}
+use lib.ListN.{length, getD, drop}
 use borrow.Author.Tests.{not-true, not-false, le-leb, lt-leb}
-use Rattle.book.specs.Arguments.{argumentRules}
-use Rattle.book.specs.Cells.{daysFit}
-use Rattle.book.specs.Filling.{holidayAnswer, holidayAfter}
-use Rattle.book.proofs.Fits.{long}
 use borrow.Author.Needs.{needs}
+use Rattle.rules.specs.Opening.{headOk}
+use Rattle.rules.proofs.opening.head_ok.Reads as head-ok-reads
+use Rattle.book.specs.Answers.{Answer, filedMeant, unless}
+use Rattle.book.specs.Arguments.{argumentRules}
+use Rattle.book.specs.Arguments.Call.{holiday}
+use Rattle.book.specs.Cells.{daysFit}
+use Rattle.book.specs.Filling.{inputRules, againstDay, holidayAnswer, holidayAfter}
+use Rattle.book.proofs.Fits.{long}
+use Rattle.book.proofs.lengths.days_fit.Reads as days-fit-reads
+use Rattle.book.proofs.filing.against_day.Reads as against-day-reads
+use Rattle.book.proofs.filing.is_stored.Reads as is-stored-reads
+use Rattle.book.proofs.holiday.Reads as reads
+use Rattle.book.proofs.holiday.Lts as lts
 use Rattle.book.proofs.holiday.Statement.{statement}
 use Rattle.book.proofs.holiday.Tie as tie
+
+abbrev claims : lts.Claims
+claims = (
+  head-ok-reads.Asked,
+  head-ok-reads.Learnt,
+  days-fit-reads.Asked,
+  days-fit-reads.Learnt,
+  against-day-reads.Asked,
+  against-day-reads.Learnt,
+  is-stored-reads.Asked,
+  is-stored-reads.Learnt,
+)
+
+abbrev Start : Type 0
+Start = lts.Start claims reads.Pre reads.Post
+
+abbrev lent : Start → List ℕ
+lent c = c .args .holidays .now
+
+-- the answer, and what is left of it past the first k rules
+abbrev whole : Start → Answer
+whole c = holidayAnswer (c .args .head) (lent c) (c .args .day)
+
+abbrev past : ℕ → Start → Answer
+past k c =
+    unless (drop k (inputRules (c .args .head) (daysFit (c .args .head) (lent c)) (holiday (c .args .day))))
+    (againstDay (getD (lent c) (c .args .day) 0))
+
+-- ---- The tests that were passed
+
+abbrev Past1 : Type 0
+Past1 = lts.Else1 claims reads.Pre reads.Post
+
+abbrev Past2 : Type 0
+Past2 = lts.Else2 claims reads.Pre reads.Post
+
+abbrev Past3 : Type 0
+Past3 = lts.Else3 claims reads.Pre reads.Post
+
+abbrev from1 : Past1 → Start
+from1 c = c .before .before .before
+
+abbrev from2 : Past2 → Start
+from2 c = from1 (c .before .before)
+
+abbrev from3 : Past3 → Start
+from3 c = from2 (c .before .before)
+
+past-1 : (c : Past1) → whole (from1 c) ≡ past 1 (from1 c)
+unfolding holidayAnswer
+past-1 c =
+    let passed : headOk (from1 c .args .head) ≡ true = sym (c .before .head-ok .ensures) ∙ not-false _ (c .if1 .left) in
+    rw passed
+
+fit-found : (c : lts.After-days-fit claims reads.Pre reads.Post) → daysFit (from1 (c .before) .args .head) (lent (from1 (c .before))) ≡ c .days-fit .result
+unfolding daysFit
+fit-found c = sym (c .days-fit .ensures)
+
+past-2 : (c : Past2) → whole (from2 c) ≡ past 2 (from2 c)
+past-2 c = past-1 (c .before .before) ∙ rw (fit-found (c .before) ∙ not-false _ (c .if2 .left))
+
+under : (c : Past3) → from3 c .args .day < from3 c .args .head .days
+under c = omega (arith, c .if3 .left)
+
+past-3 : (c : Past3) → whole (from3 c) ≡ past 3 (from3 c)
+unfolding argumentRules
+past-3 c = past-2 (c .before .before) ∙ rw (lt-leb _ _ (under c))
+
+inside : (c : Past3) → from3 c .args .day < length (lent (from3 c))
+inside c =
+    let fits = long _ _ (sym (c .before .before .before .days-fit .ensures) ∙ not-false _ (c .before .before .if2 .left)) in
+    let less = under c in
+    omega (arith, fits 0)
+
+-- ---- The needs
 
 head-ok-requires : tie.Need-head-ok-requires
 head-ok-requires c κs = search needs
@@ -21,32 +109,17 @@ days-fit-requires : tie.Need-days-fit-requires
 days-fit-requires c κs = search needs
 
 returns-2 : tie.Need-returns-2
-unfolding holidayAnswer holidayAfter daysFit
-returns-2 c =
-    rw (
-      sym (c .before .before .before .head-ok .ensures) ∙ not-false _ (c .before .before .if1 .left),
-      sym (c .before .days-fit .ensures) ∙ not-true _ (c .if2 .taken),
-    )
-    (refl, refl)
+unfolding holidayAfter
+returns-2 c = rw (past-1 (c .before .before), fit-found (c .before) ∙ not-true _ (c .if2 .taken)) (refl, refl)
 
 returns-3 : tie.Need-returns-3
-unfolding holidayAnswer holidayAfter daysFit argumentRules
+unfolding holidayAfter argumentRules
 returns-3 c =
-    let b = c .before .before .before .before in
-    rw (
-      sym (b .before .head-ok .ensures) ∙ not-false _ (b .if1 .left),
-      sym (c .before .before .before .days-fit .ensures) ∙ not-false _ (c .before .before .if2 .left),
-      le-leb _ _ (c .if3 .taken),
-    )
-    (refl, refl)
+    let over : from2 (c .before .before) .args .head .days ≤ from2 (c .before .before) .args .day = omega (arith, c .if3 .taken) in
+    rw (past-2 (c .before .before), le-leb _ _ over) (refl, refl)
 
 slice-read-against-day : tie.Need-slice-read-against-day
-slice-read-against-day c =
-    let b = c .before .before .before .before in
-    omega (
-      arith,
-      long _ _ (sym (b .days-fit .ensures) ∙ not-false _ (c .before .before .before .if2 .left)) 0,
-    )
+slice-read-against-day c = omega (arith, inside (c .before))
 
 against-day-requires : tie.Need-against-day-requires
 against-day-requires c κs = search needs
@@ -55,43 +128,23 @@ is-stored-requires : tie.Need-is-stored-requires
 is-stored-requires c κs = search needs
 
 slice-write-holidays : tie.Need-slice-write-holidays
-slice-write-holidays c =
-    let b = c .before .before .before .before in
-    omega (
-      arith,
-      long _ _ (sym (b .before .before .before .days-fit .ensures) ∙ not-false _ (b .before .before .if2 .left)) 0,
-    )
+slice-write-holidays c = omega (arith, inside (c .before .before .before .before))
 
 same-length : tie.Need-same-length
 same-length c = search needs
 
+-- what `against_day` found is the answer
+found : (c : lts.After-against-day claims reads.Pre reads.Post) → whole (from3 (c .before .before)) ≡ filedMeant (c .against-day .result)
+unfolding argumentRules
+found c = past-3 (c .before .before) ∙ sym (c .against-day .ensures)
+
 returns-4 : tie.Need-returns-4
-unfolding holidayAnswer holidayAfter daysFit argumentRules
-returns-4 c =
-    let b = c .before .before .before .before in
-    let d = b .before .before .before .before in
-    rw (
-      sym (d .before .head-ok .ensures) ∙ not-false _ (d .if1 .left),
-      sym (b .before .before .before .days-fit .ensures) ∙ not-false _ (b .before .before .if2 .left),
-      lt-leb _ _ (b .if3 .left),
-      sym (c .before .before .against-day .ensures),
-      sym (c .before .is-stored .ensures) ∙ c .if4 .taken,
-    )
-    (refl, refl)
+unfolding holidayAfter
+returns-4 c = rw (found (c .before .before), sym (c .before .is-stored .ensures) ∙ c .if4 .taken) (refl, refl)
 
 returns-5 : tie.Need-returns-5
-unfolding holidayAnswer holidayAfter daysFit argumentRules
-returns-5 c =
-    let b = c .before .before .before .before in
-    let d = b .before .before .before .before in
-    rw (
-      sym (d .before .head-ok .ensures) ∙ not-false _ (d .if1 .left),
-      sym (b .before .before .before .days-fit .ensures) ∙ not-false _ (b .before .before .if2 .left),
-      lt-leb _ _ (b .if3 .left),
-      sym (c .before .before .against-day .ensures),
-      sym (c .before .is-stored .ensures) ∙ c .if4 .left,
-    )
-    (refl, refl)
+unfolding holidayAfter
+returns-5 c = rw (found (c .before .before), sym (c .before .is-stored .ensures) ∙ c .if4 .left) (refl, refl)
 
 pub holiday-spec : {M : Type 1} → statement M
 holiday-spec =

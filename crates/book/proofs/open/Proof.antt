@@ -1,6 +1,7 @@
 -- `open`: the first broken rule is given; the six clears leave zeros of the right lengths.
 use mathlib.Core.List.{List}
-use mathlib.Core.Path.{refl, sym, ap, _∙_}
+use mathlib.Core.Bool.{true, false}
+use mathlib.Core.Path.{_≡_, refl, sym, ap, _∙_}
 use Prim.Native.Nat.{ℕ}
 use lib.ListN.{replicate}
 use borrow.Author.Tests.{not-true, not-false}
@@ -25,10 +26,10 @@ cells-fit-requires c κs = sym (c .before .head-ok .ensures) ∙ not-false _ (c 
 returns-2 : tie.Need-returns-2
 unfolding openAnswer openAfter cellsFit slotsFit daysFit readsFit
 returns-2 c =
-    rw (
-      sym (c .before .before .before .head-ok .ensures) ∙ not-false _ (c .before .before .if1 .left),
-      sym (c .before .cells-fit .ensures) ∙ not-true _ (c .if2 .taken),
-    )
+    let a = c .before .before .before .before .before .before .before .before .before .before .args in
+    let broken : cellsFit (a .head) (lentCells (a .values) (a .versions) (a .statuses) (a .holidays) (a .readings) (a .read-versions)) ≡ false =
+    sym (c .before .cells-fit .ensures) ∙ not-true _ (c .if2 .taken) in
+    rw (sym (c .before .before .before .head-ok .ensures) ∙ not-false _ (c .before .before .if1 .left), broken)
     (refl, refl, refl, refl, refl, refl, refl)
 
 clear-words-requires : tie.Need-clear-words-requires
@@ -79,8 +80,9 @@ returns-3 c =
     let i = h .before .before .before .before in
     let j = i .before .before .before .before in
     let a = j .before .before .args in
-    let fit = sym (h .before .cells-fit .ensures) ∙ not-false _ (h .if2 .left) in
-    let long = lengths-of (a .head) (lentCells (a .values) (a .versions) (a .statuses) (a .holidays) (a .readings) (a .read-versions)) fit in
+    let lent = lentCells (a .values) (a .versions) (a .statuses) (a .holidays) (a .readings) (a .read-versions) in
+    let fit : cellsFit (a .head) lent ≡ true = sym (h .before .cells-fit .ensures) ∙ not-false _ (h .if2 .left) in
+    let long = lengths-of (a .head) lent fit in
     let zeros : ℕ → List ℕ = λ n. replicate n 0 in
     rw (sym (h .before .before .before .head-ok .ensures) ∙ not-false _ (h .before .before .if1 .left), fit) (
       refl,

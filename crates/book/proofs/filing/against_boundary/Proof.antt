@@ -1,5 +1,7 @@
 -- `filing::against_boundary`: 11, else the version rule.
-use mathlib.Core.Path.{sym, _∙_}
+use mathlib.Core.Bool.{true, false}
+use mathlib.Core.Path.{_≡_, sym, _∙_}
+use Rattle.book.specs.Cells.{readFault}
 use Rattle.book.specs.Filling.{againstBoundary}
 use borrow.Author.Needs.{needs}
 use Rattle.book.proofs.filing.against_boundary.Statement.{statement}
@@ -10,14 +12,20 @@ read-fault-requires c κs = search needs
 
 returns : tie.Need-returns
 unfolding againstBoundary
-returns c = simp (sym (c .before .read-fault .ensures) ∙ c .if1 .taken)
+returns c =
+    let a = c .before .before .args in
+    let fault : readFault (a .old-version) (a .old-reading) ≡ true = sym (c .before .read-fault .ensures) ∙ c .if1 .taken in
+    rw fault
 
 by-version-requires : tie.Need-by-version-requires
 by-version-requires c κs = search needs
 
 returns-2 : tie.Need-returns-2
 unfolding againstBoundary
-returns-2 c = rw (sym (c .before .before .read-fault .ensures) ∙ c .before .if1 .left) (c .by-version .ensures)
+returns-2 c =
+    let a = c .before .before .before .args in
+    let clean : readFault (a .old-version) (a .old-reading) ≡ false = sym (c .before .before .read-fault .ensures) ∙ c .before .if1 .left in
+    rw clean (c .by-version .ensures)
 
 pub against-boundary-spec : {M : Type 1} → statement M
 against-boundary-spec =

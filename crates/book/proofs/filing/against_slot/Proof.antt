@@ -1,5 +1,7 @@
 -- `filing::against_slot`: 11, else the version rule with the content compared by `is_same`.
-use mathlib.Core.Path.{sym, _∙_}
+use mathlib.Core.Bool.{true, false}
+use mathlib.Core.Path.{_≡_, sym, _∙_}
+use Rattle.book.specs.Cells.{slotFault}
 use Rattle.book.specs.Filling.{againstSlot}
 use borrow.Author.Needs.{needs}
 use Rattle.book.proofs.filing.against_slot.Statement.{statement}
@@ -10,7 +12,10 @@ slot-fault-requires c κs = search needs
 
 returns : tie.Need-returns
 unfolding againstSlot
-returns c = simp (sym (c .before .slot-fault .ensures) ∙ c .if1 .taken)
+returns c =
+    let a = c .before .before .args in
+    let fault : slotFault (a .old-version) (a .old-value) (a .old-status) ≡ true = sym (c .before .slot-fault .ensures) ∙ c .if1 .taken in
+    rw fault
 
 is-same-requires : tie.Need-is-same-requires
 is-same-requires c κs = search needs
@@ -21,11 +26,9 @@ by-version-requires c κs = search needs
 returns-2 : tie.Need-returns-2
 unfolding againstSlot
 returns-2 c =
-    rw (
-      sym (c .before .before .before .slot-fault .ensures) ∙ c .before .before .if1 .left,
-      sym (c .before .is-same .ensures),
-    )
-    (c .by-version .ensures)
+    let a = c .before .before .before .before .args in
+    let clean : slotFault (a .old-version) (a .old-value) (a .old-status) ≡ false = sym (c .before .before .before .slot-fault .ensures) ∙ c .before .before .if1 .left in
+    rw (clean, sym (c .before .is-same .ensures)) (c .by-version .ensures)
 
 pub against-slot-spec : {M : Type 1} → statement M
 against-slot-spec =

@@ -1,4 +1,6 @@
 -- `versions::by_version` is `byVersion`, one test a return.
+use Prim.Native.Nat.{_<_, _≤_}
+use native.Mathlib.Omega.{arith}
 use borrow.Author.Tests.{lt-ltb, le-ltb}
 use Rattle.book.specs.Answers.{byVersion}
 use Rattle.book.proofs.versions.by_version.Statement.{statement}
@@ -6,11 +8,18 @@ use Rattle.book.proofs.versions.by_version.Tie as tie
 
 returns : tie.Need-returns
 unfolding byVersion
-returns c = simp (lt-ltb _ _ (c .if1 .taken))
+returns c =
+    let a = c .before .args in
+    let higher : a .before < a .version = omega (arith, c .if1 .taken) in
+    rw (lt-ltb _ _ higher)
 
 returns-2 : tie.Need-returns-2
 unfolding byVersion
-returns-2 c = simp (le-ltb _ _ (c .before .if1 .left), lt-ltb _ _ (c .if2 .taken))
+returns-2 c =
+    let a = c .before .before .args in
+    let none-higher : a .version ≤ a .before = omega (arith, c .before .if1 .left) in
+    let lower : a .version < a .before = omega (arith, c .if2 .taken) in
+    rw (le-ltb _ _ none-higher, lt-ltb _ _ lower)
 
 returns-3 : tie.Need-returns-3
 unfolding byVersion
