@@ -13,7 +13,7 @@ ghost use Rattle.rules.specs.Inner.Lent.{lentSlots, lentCells};
 ghost use Rattle.book.specs.Answers.{openedMeant, filedMeant};
 ghost use Rattle.book.specs.Opening.{openAnswer, openAfter};
 ghost use Rattle.book.specs.Filling.{deliverAnswer, deliverAfter, holidayAnswer, holidayAfter, registerAnswer, registerAfter};
-ghost use Rattle.book.specs.Inner.Lent.{lentReads};
+ghost use Rattle.book.specs.Inner.Lent.{lentReads, HoldSlots, HoldCells};
 
 // What opening answers.
 pub enum Opened {
@@ -39,16 +39,9 @@ pub fn open(
     read_versions: &mut [u32],
 ) -> Opened
     ensures { λ r. ⌜
-        (let cells =
-        lentCells (values .entry) (versions .entry) (statuses .entry) (holidays .entry) (readings .entry)
-        («read_versions» .entry) in
+        (let cells = lentCells (values .entry) (versions .entry) (statuses .entry) (holidays .entry) (readings .entry) («read_versions» .entry) in
         (openedMeant r ≡ openAnswer head cells)
-        × (now (values .exit) ≡ openAfter head cells .slots .values)
-        × (now (versions .exit) ≡ openAfter head cells .slots .versions)
-        × (now (statuses .exit) ≡ openAfter head cells .slots .statuses)
-        × (now (holidays .exit) ≡ openAfter head cells .holidays)
-        × (now (readings .exit) ≡ openAfter head cells .readings)
-        × (now («read_versions» .exit) ≡ openAfter head cells .readVersions))
+        × HoldCells (values .exit) (versions .exit) (statuses .exit) (holidays .exit) (readings .exit) («read_versions» .exit) (openAfter head cells))
         ⌝ }
 {
     if !opening::head_ok(head) {
@@ -88,9 +81,7 @@ pub fn deliver(
     ensures { λ r. ⌜
         (let slots = lentSlots (values .entry) (versions .entry) (statuses .entry) in
         (filedMeant r ≡ deliverAnswer head slots slot version value status)
-        × (now (values .exit) ≡ deliverAfter head slots slot version value status .values)
-        × (now (versions .exit) ≡ deliverAfter head slots slot version value status .versions)
-        × (now (statuses .exit) ≡ deliverAfter head slots slot version value status .statuses))
+        × HoldSlots (values .exit) (versions .exit) (statuses .exit) (deliverAfter head slots slot version value status))
         ⌝ }
 {
     if !opening::head_ok(head) {

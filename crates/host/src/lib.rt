@@ -11,7 +11,7 @@ ghost use Rattle.rules.specs.Inner.Lent.{lentSlots, lentCells};
 ghost use Rattle.book.specs.Answers.{openedMeant, filedMeant};
 ghost use Rattle.book.specs.Opening.{openAnswer, openAfter};
 ghost use Rattle.book.specs.Filling.{deliverAnswer, deliverAfter, holidayAnswer, holidayAfter, registerAnswer, registerAfter};
-ghost use Rattle.book.specs.Inner.Lent.{lentReads};
+ghost use Rattle.book.specs.Inner.Lent.{lentReads, HoldSlots, HoldCells};
 ghost use Rattle.file.specs.Publishing.{publishAnswer, publishAfter};
 ghost use Rattle.file.specs.Reader.{tablesPart};
 ghost use Rattle.host.specs.Codes.{headOf, publishCode, readAnswer, figuresAfter};
@@ -89,15 +89,9 @@ pub extern "C" fn sawmauve_open(
 ) -> u32
     ensures { λ r. ⌜
         (let head = headOf year month day days interval kind tolerance in
-        let cells =
-        lentCells (values .entry) (versions .entry) (statuses .entry) (holidays .entry) (readings .entry) (reads .entry) in
+        let cells = lentCells (values .entry) (versions .entry) (statuses .entry) (holidays .entry) (readings .entry) (reads .entry) in
         (r ≡ answerCode (openAnswer head cells))
-        × (now (values .exit) ≡ openAfter head cells .slots .values)
-        × (now (versions .exit) ≡ openAfter head cells .slots .versions)
-        × (now (statuses .exit) ≡ openAfter head cells .slots .statuses)
-        × (now (holidays .exit) ≡ openAfter head cells .holidays)
-        × (now (readings .exit) ≡ openAfter head cells .readings)
-        × (now (reads .exit) ≡ openAfter head cells .readVersions))
+        × HoldCells (values .exit) (versions .exit) (statuses .exit) (holidays .exit) (readings .exit) (reads .exit) (openAfter head cells))
         ⌝ }
 {
     let head = head_of(year, month, day, days, interval, kind, tolerance);
@@ -125,9 +119,7 @@ pub extern "C" fn sawmauve_deliver(
         (let head = headOf year month day days interval kind tolerance in
         let slots = lentSlots (values .entry) (versions .entry) (statuses .entry) in
         (r ≡ answerCode (deliverAnswer head slots slot version value status))
-        × (now (values .exit) ≡ deliverAfter head slots slot version value status .values)
-        × (now (versions .exit) ≡ deliverAfter head slots slot version value status .versions)
-        × (now (statuses .exit) ≡ deliverAfter head slots slot version value status .statuses))
+        × HoldSlots (values .exit) (versions .exit) (statuses .exit) (deliverAfter head slots slot version value status))
         ⌝ }
 {
     let head = head_of(year, month, day, days, interval, kind, tolerance);
@@ -211,8 +203,7 @@ pub extern "C" fn sawmauve_publish(
 ) -> u64
     ensures { λ r. ⌜
         (let head = headOf year month day days interval kind tolerance in
-        let cells =
-        lentCells (values .entry) (versions .entry) (statuses .entry) (holidays .entry) (readings .entry) (reads .entry) in
+        let cells = lentCells (values .entry) (versions .entry) (statuses .entry) (holidays .entry) (readings .entry) (reads .entry) in
         (r ≡ publishCode (publishAnswer head cells (now (out .entry))))
         × (now (out .exit) ≡ publishAfter head cells (now (out .entry))))
         ⌝ }

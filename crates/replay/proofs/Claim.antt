@@ -65,23 +65,25 @@ module _ {h : Head} {calls answers : List ℕ} {b : Cells} {out : List ℕ} wher
       → (let after = cellsAfter h calls answers b in
       (r ≡ replayAnswer h calls answers b out)
       × (answers' ≡ answersAfter h calls answers b)
-      × (b' .slots .values ≡ after .slots .values)
+      × ((b' .slots .values ≡ after .slots .values)
       × (b' .slots .versions ≡ after .slots .versions)
       × (b' .slots .statuses ≡ after .slots .statuses)
       × (b' .holidays ≡ after .holidays)
       × (b' .readings ≡ after .readings)
-      × (b' .readVersions ≡ after .readVersions)
+      × (b' .readVersions ≡ after .readVersions))
       × (out' ≡ outAfter h calls answers b out))
   each m =
       let e = m .cells in (
         m .answer,
         m .told,
-        (λ t. e t .slots .values),
-        (λ t. e t .slots .versions),
-        (λ t. e t .slots .statuses),
-        (λ t. e t .holidays),
-        (λ t. e t .readings),
-        (λ t. e t .readVersions),
+        (
+          (λ t. e t .slots .values),
+          (λ t. e t .slots .versions),
+          (λ t. e t .slots .statuses),
+          (λ t. e t .holidays),
+          (λ t. e t .readings),
+          (λ t. e t .readVersions),
+        ),
         m .bytes,
       )
 

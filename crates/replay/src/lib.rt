@@ -13,6 +13,7 @@ ghost use Prim.Native.Nat.{_*_};
 ghost use lib.ListN.{length};
 ghost use Rattle.rules.specs.Inner.Lent.{lentCells};
 ghost use Rattle.book.specs.Filling.{answers as answersOf, afterAll};
+ghost use Rattle.book.specs.Inner.Lent.{HoldCells};
 ghost use Rattle.file.specs.Publishing.{publishAnswer, publishAfter};
 ghost use Rattle.replay.specs.Packing.{packedOk, unpack};
 ghost use Rattle.replay.specs.Replaying.{replayAnswer, answersAfter, cellsAfter, outAfter};
@@ -50,8 +51,7 @@ fn play_and_publish(
 ) -> Replayed
     requires { ⌜ (packedOk (now calls) ≡ true) × (length (now calls) ≡ 5 * length (now answers)) ⌝ }
     ensures { λ r. ⌜
-        (let cells =
-        lentCells (values .entry) (versions .entry) (statuses .entry) (holidays .entry) (readings .entry) (reads .entry) in
+        (let cells = lentCells (values .entry) (versions .entry) (statuses .entry) (holidays .entry) (readings .entry) (reads .entry) in
         let after = afterAll head cells (unpack (now (calls .entry))) in
         (r ≡ publishedMeant (publishAnswer head after (now (out .entry))))
         × (now (answers .exit) ≡ map answerCode (answersOf head cells (unpack (now (calls .entry)))))
@@ -96,17 +96,10 @@ pub fn replay(
     out: &mut [u8],
 ) -> Replayed
     ensures { λ r. ⌜
-        (let cells =
-        lentCells (values .entry) (versions .entry) (statuses .entry) (holidays .entry) (readings .entry) (reads .entry) in
-        let after = cellsAfter head (now (calls .entry)) (now (answers .entry)) cells in
+        (let cells = lentCells (values .entry) (versions .entry) (statuses .entry) (holidays .entry) (readings .entry) (reads .entry) in
         (r ≡ replayAnswer head (now (calls .entry)) (now (answers .entry)) cells (now (out .entry)))
         × (now (answers .exit) ≡ answersAfter head (now (calls .entry)) (now (answers .entry)) cells)
-        × (now (values .exit) ≡ after .slots .values)
-        × (now (versions .exit) ≡ after .slots .versions)
-        × (now (statuses .exit) ≡ after .slots .statuses)
-        × (now (holidays .exit) ≡ after .holidays)
-        × (now (readings .exit) ≡ after .readings)
-        × (now (reads .exit) ≡ after .readVersions)
+        × HoldCells (values .exit) (versions .exit) (statuses .exit) (holidays .exit) (readings .exit) (reads .exit) (cellsAfter head (now (calls .entry)) (now (answers .entry)) cells)
         × (now (out .exit) ≡ outAfter head (now (calls .entry)) (now (answers .entry)) cells (now (out .entry))))
         ⌝ }
 {

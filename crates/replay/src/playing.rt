@@ -37,11 +37,9 @@ fn play(
 ) -> u8
     requires { ⌜ callOk call ≡ true ⌝ }
     ensures { λ r. ⌜
-        (let cells =
-        lentCells (values .entry) (versions .entry) (statuses .entry) (holidays .entry) (readings .entry) (reads .entry) in
+        (let cells = lentCells (values .entry) (versions .entry) (statuses .entry) (holidays .entry) (readings .entry) (reads .entry) in
         (r ≡ answerCode (answer head cells (callOf call)))
-        × (lentCells (values .exit) (versions .exit) (statuses .exit) (holidays .exit) (readings .exit) (reads .exit)
-        ≡ after head cells (callOf call)))
+        × (lentCells (values .exit) (versions .exit) (statuses .exit) (holidays .exit) (readings .exit) (reads .exit) ≡ after head cells (callOf call)))
         ⌝ }
 {
     if call.kind == 1 {
@@ -84,11 +82,9 @@ pub fn play_all(
 )
     requires { ⌜ (packedOk (now calls) ≡ true) × (length (now calls) ≡ 5 * length (now answers)) ⌝ }
     ensures { λ _. ⌜
-        (let cells =
-        lentCells (values .entry) (versions .entry) (statuses .entry) (holidays .entry) (readings .entry) (reads .entry) in
+        (let cells = lentCells (values .entry) (versions .entry) (statuses .entry) (holidays .entry) (readings .entry) (reads .entry) in
         (now (answers .exit) ≡ map answerCode (answersOf head cells (unpack (now (calls .entry)))))
-        × (lentCells (values .exit) (versions .exit) (statuses .exit) (holidays .exit) (readings .exit) (reads .exit)
-        ≡ afterAll head cells (unpack (now (calls .entry)))))
+        × (lentCells (values .exit) (versions .exit) (statuses .exit) (holidays .exit) (readings .exit) (reads .exit) ≡ afterAll head cells (unpack (now (calls .entry)))))
         ⌝ }
 {
     let mut i = 0;

@@ -123,14 +123,14 @@ head-ok-requires c κs = search needs
 
 returns : tie.Need-returns
 unfolding deliverAnswer deliverAfter
-returns c = rw (sym (c .before .head-ok .ensures) ∙ not-true _ (c .if1 .taken)) (refl, refl, refl, refl)
+returns c = rw (sym (c .before .head-ok .ensures) ∙ not-true _ (c .if1 .taken)) (refl, (refl, refl, refl))
 
 slots-fit-requires : tie.Need-slots-fit-requires
 slots-fit-requires c κs = head-passed c
 
 returns-2 : tie.Need-returns-2
 unfolding deliverAfter
-returns-2 c = rw (past-1 (c .before .before), fit-found (c .before) ∙ not-true _ (c .if2 .taken)) (refl, refl, refl, refl)
+returns-2 c = rw (past-1 (c .before .before), fit-found (c .before) ∙ not-true _ (c .if2 .taken)) (refl, (refl, refl, refl))
 
 slot-count-requires : tie.Need-slot-count-requires
 slot-count-requires c κs = head-passed (c .before .before)
@@ -140,17 +140,17 @@ unfolding deliverAfter argumentRules
 returns-3 c =
     let over : slotCount (from2 (c .before .before) .args .head) ≤ from2 (c .before .before) .args .slot =
     omega (arith, c .before .slot-count .ensures, c .if3 .taken) in
-    rw (past-2 (c .before .before), le-leb _ _ over) (refl, refl, refl, refl)
+    rw (past-2 (c .before .before), le-leb _ _ over) (refl, (refl, refl, refl))
 
 returns-4 : tie.Need-returns-4
 unfolding deliverAfter argumentRules
-returns-4 c = rw (past-3 (c .before), eq-eqb _ _ (c .if4 .taken)) (refl, refl, refl, refl)
+returns-4 c = rw (past-3 (c .before), eq-eqb _ _ (c .if4 .taken)) (refl, (refl, refl, refl))
 
 returns-5 : tie.Need-returns-5
 unfolding deliverAfter argumentRules
 returns-5 c =
     let over : 7 < from3 (c .before .before) .args .status = omega (arith, c .if5 .taken) in
-    rw (past-4 (c .before), lt-ltb _ _ over) (refl, refl, refl, refl)
+    rw (past-4 (c .before), lt-ltb _ _ over) (refl, (refl, refl, refl))
 
 slice-read-old-status : tie.Need-slice-read-old-status
 slice-read-old-status c = omega (arith, inside (c .before .before .before) .2)
@@ -204,11 +204,11 @@ found c = past-5 (c .before .before .before .before) ∙ sym (c .against-slot .e
 
 returns-6 : tie.Need-returns-6
 unfolding deliverAfter
-returns-6 c = rw (found (c .before .before), sym (c .before .is-stored .ensures) ∙ c .if6 .taken) (refl, refl, refl, refl)
+returns-6 c = rw (found (c .before .before), sym (c .before .is-stored .ensures) ∙ c .if6 .taken) (refl, (refl, refl, refl))
 
 returns-7 : tie.Need-returns-7
 unfolding deliverAfter
-returns-7 c = rw (found (c .before .before), sym (c .before .is-stored .ensures) ∙ c .if6 .left) (refl, refl, refl, refl)
+returns-7 c = rw (found (c .before .before), sym (c .before .is-stored .ensures) ∙ c .if6 .left) (refl, (refl, refl, refl))
 
 pub deliver-spec : {M : Type 1} → statement M
 deliver-spec =

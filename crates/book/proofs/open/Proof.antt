@@ -18,7 +18,7 @@ head-ok-requires c κs = search needs
 
 returns : tie.Need-returns
 unfolding openAnswer openAfter
-returns c = rw (sym (c .before .head-ok .ensures) ∙ not-true _ (c .if1 .taken)) (refl, refl, refl, refl, refl, refl, refl)
+returns c = rw (sym (c .before .head-ok .ensures) ∙ not-true _ (c .if1 .taken)) (refl, (refl, refl, refl, refl, refl, refl))
 
 cells-fit-requires : tie.Need-cells-fit-requires
 cells-fit-requires c κs = sym (c .before .head-ok .ensures) ∙ not-false _ (c .if1 .left)
@@ -30,7 +30,7 @@ returns-2 c =
     let broken : cellsFit (a .head) (lentCells (a .values) (a .versions) (a .statuses) (a .holidays) (a .readings) (a .read-versions)) ≡ false =
     sym (c .before .cells-fit .ensures) ∙ not-true _ (c .if2 .taken) in
     rw (sym (c .before .before .before .head-ok .ensures) ∙ not-false _ (c .before .before .if1 .left), broken)
-    (refl, refl, refl, refl, refl, refl, refl)
+    (refl, (refl, refl, refl, refl, refl, refl))
 
 clear-words-requires : tie.Need-clear-words-requires
 clear-words-requires c κs = search needs
@@ -86,12 +86,14 @@ returns-3 c =
     let zeros : ℕ → List ℕ = λ n. replicate n 0 in
     rw (sym (h .before .before .before .head-ok .ensures) ∙ not-false _ (h .before .before .if1 .left), fit) (
       refl,
-      g .before .before .clear-words .ensures ∙ ap zeros (long .values),
-      f .before .before .clear-words2 .ensures ∙ ap zeros (long .versions),
-      e .before .before .clear-bytes .ensures ∙ ap zeros (long .statuses),
-      d .before .before .clear-bytes2 .ensures ∙ ap zeros (long .holidays),
-      b .before .before .clear-words3 .ensures ∙ ap zeros (long .readings),
-      c .before .before .clear-words4 .ensures ∙ ap zeros (long .readVersions),
+      (
+        g .before .before .clear-words .ensures ∙ ap zeros (long .values),
+        f .before .before .clear-words2 .ensures ∙ ap zeros (long .versions),
+        e .before .before .clear-bytes .ensures ∙ ap zeros (long .statuses),
+        d .before .before .clear-bytes2 .ensures ∙ ap zeros (long .holidays),
+        b .before .before .clear-words3 .ensures ∙ ap zeros (long .readings),
+        c .before .before .clear-words4 .ensures ∙ ap zeros (long .readVersions),
+      ),
     )
 
 pub open-spec : {M : Type 1} → statement M

@@ -27,7 +27,7 @@ returns : tie.Need-returns
 returns c =
     let o = c .before .before .before .before .before .before .before in
     let h = rw (o .before .before .before .before .head-of .ensures) at (o .deliver .ensures) in
-    (c .filed-code .ensures ∙ ap answerCode (h .0), h .1, h .2, h .3)
+    (c .filed-code .ensures ∙ ap answerCode (h .0), h .1)
 
 pub sawmauve-deliver-spec : {M : Type 1} → statement M
 sawmauve-deliver-spec =

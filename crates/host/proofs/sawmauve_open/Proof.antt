@@ -36,7 +36,7 @@ returns : tie.Need-returns
 returns c =
     let o = c .before .before .before .before .before .before .before .before .before .before .before .before .before in
     let h = rw (o .before .before .before .before .before .before .before .head-of .ensures) at (o .«open» .ensures) in
-    (c .opened-code .ensures ∙ ap answerCode (h .0), h .1, h .2, h .3, h .4, h .5, h .6)
+    (c .opened-code .ensures ∙ ap answerCode (h .0), h .1)
 
 pub sawmauve-open-spec : {M : Type 1} → statement M
 sawmauve-open-spec =

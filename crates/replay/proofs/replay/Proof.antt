@@ -64,7 +64,7 @@ returns-3 c =
     let at-if2 = at-open .before .before .before .before .before .before .before in
     let e = at-open .«open» .ensures in
     let good = good-packing _ _ (sym (at-if2 .before .before .packed-ok .ensures) ∙ not-false _ (at-if2 .before .if1 .left)) (at-if2 .if2 .left) in
-    each (played good (sym (e .0) ∙ ap openedMeant (at-enum-told .enum-told .given .1)) (same-cells (e .1) (e .2) (e .3) (e .4) (e .5) (e .6)) (at-play-and-publish .play-and-publish .ensures))
+    each (played good (sym (e .0) ∙ ap openedMeant (at-enum-told .enum-told .given .1)) (same-cells (e .1 .0) (e .1 .1) (e .1 .2) (e .1 .3) (e .1 .4) (e .1 .5)) (at-play-and-publish .play-and-publish .ensures))
 
 same-length-9 : tie.Need-same-length-9
 same-length-9 c = search needs
@@ -90,7 +90,7 @@ returns-4 c =
     let at-if2 = at-open .before .before .before .before .before .before .before in
     let e = at-open .«open» .ensures in
     let good = good-packing _ _ (sym (at-if2 .before .before .packed-ok .ensures) ∙ not-false _ (at-if2 .before .if1 .left)) (at-if2 .if2 .left) in
-    each (refused-open good (sym (e .0) ∙ ap openedMeant (c .before .opened .given .1)) (same-cells (e .1) (e .2) (e .3) (e .4) (e .5) (e .6)))
+    each (refused-open good (sym (e .0) ∙ ap openedMeant (c .before .opened .given .1)) (same-cells (e .1 .0) (e .1 .1) (e .1 .2) (e .1 .3) (e .1 .4) (e .1 .5)))
 
 pub replay-spec : {M : Type 1} → statement M
 replay-spec =

@@ -31,7 +31,7 @@ returns c =
     let at-if1 = at-deliver .before .before .before .before .before in
     let e = at-deliver .deliver .ensures in
     delivered _ _ _ _ _ (c .byte-of .ensures) _ _ _ (at-if1 .if1 .taken) (e .0)
-    (λ t. record { values = e .1 t; versions = e .2 t; statuses = e .3 t })
+    (λ t. record { values = e .1 .0 t; versions = e .1 .1 t; statuses = e .1 .2 t })
 
 holiday-requires : tie.Need-holiday-requires
 holiday-requires c κs = search needs
