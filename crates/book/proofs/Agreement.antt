@@ -19,7 +19,7 @@ use Rattle.book.specs.Cells.{readsOf, allLong, slotsFit, daysFit, readsF
 use Rattle.book.specs.Opening.{opened}
 use Rattle.book.specs.Filling.{inputRules, againstSlot, againstDay, againstBoundary, deliverAnswer, holidayAnswer, registerAnswer, answer, after, answers, afterAll}
 use Rattle.book.specs.Plain.{deliveries, reads, named, highest, contentWith, againstKept, plainAnswer, keep, plainAnswers, keptOf, bookOf}
-use Rattle.book.proofs.Tables.{length-tabulate, getD-tabulate, tabulate-zero}
+use Rattle.book.proofs.Tables.{length-upTo, getD-upTo, upTo-zero}
 use Rattle.book.proofs.Next.{filedIn, after-filed, filed-refused, book-next}
 use Rattle.book.proofs.Kept.{Kept, Sound, sound, accepted, unless-same, keep-kept}
 use Rattle.book.proofs.Clean.{slot-clean, day-clean, read-clean}
@@ -27,19 +27,19 @@ use Rattle.book.proofs.Clean.{slot-clean, day-clean, read-clean}
 -- the lists of kept calls have the right lengths
 pub book-fits : (h : Head) (kept : List Call) → cellsFit h (bookOf h kept) ≡ true
 unfolding cellsFit slotsFit daysFit readsFit allLong bookOf
-book-fits h kept = simp (length-tabulate, eq-eqb (slotCount h) (slotCount h) refl, eq-eqb (h .days) (h .days) refl, eq-eqb (suc (h .days)) (suc (h .days)) refl)
+book-fits h kept = simp (length-upTo, eq-eqb (slotCount h) (slotCount h) refl, eq-eqb (h .days) (h .days) refl, eq-eqb (suc (h .days)) (suc (h .days)) refl)
 
 -- against its cell a sound call is what it is against the kept calls
 against-slot : (h : Head) (kept : List Call) (slot version value status : ℕ) → Kept h kept → slot < slotCount h
     → againstSlot (getD (bookOf h kept .slots .versions) slot 0) (getD (bookOf h kept .slots .values) slot 0) (getD (bookOf h kept .slots .statuses) slot 0) version value status
     ≡ againstKept kept (delivery slot version value status)
 unfolding againstSlot againstKept bookOf
-against-slot h kept slot version value status ok lt = simp getD-tabulate (rw (slot-clean h kept ok slot))
+against-slot h kept slot version value status ok lt = simp getD-upTo (rw (slot-clean h kept ok slot))
 
 against-day : (h : Head) (kept : List Call) (day : ℕ) → Kept h kept → day < h .days
     → againstDay (getD (bookOf h kept .holidays) day 0) ≡ againstKept kept (holiday day)
 unfolding againstDay againstKept bookOf
-against-day h kept day ok lt = simp getD-tabulate (rw (day-clean h kept ok day) (go (named day kept)))
+against-day h kept day ok lt = simp getD-upTo (rw (day-clean h kept ok day) (go (named day kept)))
   where
     go : (t : Bool) → cond (eqb (cond t 1 0) 0) stored repeat ≡ cond t repeat stored
     go true = refl
@@ -49,7 +49,7 @@ against-boundary : (h : Head) (kept : List Call) (boundary version reading : ℕ
     → againstBoundary (getD (bookOf h kept .readVersions) boundary 0) (getD (bookOf h kept .readings) boundary 0) version reading
     ≡ againstKept kept (register boundary version reading)
 unfolding againstBoundary againstKept bookOf
-against-boundary h kept boundary version reading ok lt = simp getD-tabulate (rw (read-clean h kept ok boundary))
+against-boundary h kept boundary version reading ok lt = simp getD-upTo (rw (read-clean h kept ok boundary))
 
 -- where the lists fit, answers that are equal for a sound call are equal behind the rules
 behind : (h : Head) (c : Call) (fit : Bool) (a b : Answer) → fit ≡ true → (Sound h c → a ≡ b)
@@ -84,7 +84,7 @@ after-agrees h kept c ok =
 -- nothing is kept of a book that was only opened
 opened-book : (h : Head) → opened h ≡ bookOf h []
 unfolding opened bookOf deliveries reads named highest contentWith
-opened-book h = simp tabulate-zero
+opened-book h = simp (upTo-zero 0)
 
 -- a whole list, from any kept calls
 answers-from : (h : Head) (kept cs : List Call) → Kept h kept → answers h (bookOf h kept) cs ≡ plainAnswers h kept cs

@@ -8,13 +8,14 @@ use borrow.Author.Tests.{eqb-true, eq-eqb, ne-eqb}
 use Rattle.rules.specs.declared.Head.{Head}
 use Rattle.rules.specs.Opening.{slotCount, Cells}
 use Rattle.rules.proofs.Logic.{and-parts}
+use Rattle.rules.specs.Spans.{upTo}
 use Rattle.book.specs.Answers.{Answer, isAccepted, isStored, byVersion}
 use Rattle.book.specs.Answers.Answer.{done, stored, late, repeat, refused}
 use Rattle.book.specs.Arguments.{Call}
 use Rattle.book.specs.Arguments.Call.{delivery, holiday, register}
 use Rattle.book.specs.Filling.{storedIn, deliverAfter, holidayAfter, registerAfter, answer, after}
-use Rattle.book.specs.Plain.{Measured, deliveries, reads, named, slotVersion, slotContent, readVersion, readContent, againstKept, tabulate, bookOf}
-use Rattle.book.proofs.Tables.{tabulate-filed}
+use Rattle.book.specs.Plain.{Measured, deliveries, reads, named, slotVersion, slotContent, readVersion, readContent, againstKept, bookOf}
+use Rattle.book.proofs.Tables.{upTo-filed}
 use Rattle.book.proofs.Said.{said-filed}
 
 -- the cells after a call with this answer
@@ -75,8 +76,8 @@ module _ (h : Head) (kept : List Call) (slot version value status : ℕ) where
   sameSlot = eqb (slotContent kept slot .value) value && eqb (slotContent kept slot .status) status
 
   slots-next : isAccepted (byVersion (slotVersion kept slot) version sameSlot) ≡ true → (m : ℕ → Measured → ℕ)
-      → tabulate (λ i. m (slotVersion (delivery slot version value status ∷ kept) i) (slotContent (delivery slot version value status ∷ kept) i)) (slotCount h)
-      ≡ storedIn (byVersion (slotVersion kept slot) version sameSlot) (tabulate (λ i. m (slotVersion kept i) (slotContent kept i)) (slotCount h))
+      → upTo (λ i. m (slotVersion (delivery slot version value status ∷ kept) i) (slotContent (delivery slot version value status ∷ kept) i)) 0 (slotCount h)
+      ≡ storedIn (byVersion (slotVersion kept slot) version sameSlot) (upTo (λ i. m (slotVersion kept i) (slotContent kept i)) 0 (slotCount h))
       slot (m version (record { value = value; status = status }))
   unfolding deliveries sameSlot
   slots-next ok m =
@@ -86,11 +87,11 @@ module _ (h : Head) (kept : List Call) (slot version value status : ℕ) where
 
 -- the list of holidays, when one holiday more is kept
 days-next : (h : Head) (kept : List Call) (day : ℕ)
-    → tabulate (λ d. cond (named d (holiday day ∷ kept)) 1 0) (h .days)
-    ≡ storedIn (cond (named day kept) repeat stored) (tabulate (λ d. cond (named d kept) 1 0) (h .days)) day 1
+    → upTo (λ d. cond (named d (holiday day ∷ kept)) 1 0) 0 (h .days)
+    ≡ storedIn (cond (named day kept) repeat stored) (upTo (λ d. cond (named d kept) 1 0) 0 (h .days)) day 1
 unfolding named
 days-next h kept day =
-    tabulate-filed (λ d. cond (named d kept) 1 0) (λ d. cond (named d (holiday day ∷ kept)) 1 0) (h .days) day 1
+    upTo-filed (λ d. cond (named d kept) 1 0) (λ d. cond (named d (holiday day ∷ kept)) 1 0) (h .days) day 1
     (λ d ne. rw (ne-eqb day d ne)) (cond (named day kept) repeat stored) (rw (eq-eqb day day refl) (here (named day kept)))
   where
     here : (t : Bool) → _≡_ {A = ℕ} 1 (cond (isStored (cond t repeat stored)) 1 (cond t 1 0))
@@ -100,9 +101,9 @@ days-next h kept day =
 -- the lists of boundaries, when one accepted register read more is kept
 reads-next : (h : Head) (kept : List Call) (boundary version reading : ℕ)
     → isAccepted (byVersion (readVersion kept boundary) version (eqb (readContent kept boundary) reading)) ≡ true → (m : ℕ → ℕ → ℕ)
-    → tabulate (λ d. m (readVersion (register boundary version reading ∷ kept) d) (readContent (register boundary version reading ∷ kept) d)) (suc (h .days))
+    → upTo (λ d. m (readVersion (register boundary version reading ∷ kept) d) (readContent (register boundary version reading ∷ kept) d)) 0 (suc (h .days))
     ≡ storedIn (byVersion (readVersion kept boundary) version (eqb (readContent kept boundary) reading))
-    (tabulate (λ d. m (readVersion kept d) (readContent kept d)) (suc (h .days))) boundary (m version reading)
+    (upTo (λ d. m (readVersion kept d) (readContent kept d)) 0 (suc (h .days))) boundary (m version reading)
 unfolding reads
 reads-next h kept boundary version reading ok m =
     said-filed 0 (λ d. reads d kept) (λ d. reads d (register boundary version reading ∷ kept)) boundary

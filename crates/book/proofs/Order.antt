@@ -11,7 +11,7 @@ use Rattle.book.specs.Answers.{isAccepted}
 use Rattle.book.specs.Arguments.{Call}
 use Rattle.book.specs.Arguments.Call.{delivery, holiday, register}
 use Rattle.book.specs.Plain.{Said, Measured, deliveries, reads, named, highest, slotVersion, slotContent, readVersion, readContent, againstKept, plainAnswer, keptOf, bookOf}
-use Rattle.book.proofs.Tables.{tabulate-same}
+use Rattle.book.proofs.Tables.{upTo-same}
 use Rattle.book.proofs.Said.{latest, AllFair, fair-next, ruled, ruled-same, same-said}
 use Rattle.book.proofs.Kept.{Kept, accepted, keptOf-kept}
 use Rattle.book.proofs.Members.{deliveries-from, deliveries-of, reads-from, reads-of, named-from, named-of}
@@ -91,13 +91,13 @@ module _ (h : Head) (kept other : List Call) (ok : Kept h kept) (ok′ : Kept h 
   unfolding bookOf
   same-book = λ t. record {
     slots = record {
-      values = tabulate-same _ _ (slotCount h) (λ i. ap (λ (a : Measured). a .value) (same-slot i .1)) t;
-      versions = tabulate-same _ _ (slotCount h) (λ i. same-slot i .0) t;
-      statuses = tabulate-same _ _ (slotCount h) (λ i. ap (λ (a : Measured). a .status) (same-slot i .1)) t;
+      values = upTo-same _ _ (slotCount h) (λ i. ap (λ (a : Measured). a .value) (same-slot i .1)) t;
+      versions = upTo-same _ _ (slotCount h) (λ i. same-slot i .0) t;
+      statuses = upTo-same _ _ (slotCount h) (λ i. ap (λ (a : Measured). a .status) (same-slot i .1)) t;
     };
-    holidays = tabulate-same _ _ (h .days) (λ d. ap (λ (t : Bool). cond t 1 0) (same-day d)) t;
-    readings = tabulate-same _ _ (suc (h .days)) (λ d. same-read d .1) t;
-    readVersions = tabulate-same _ _ (suc (h .days)) (λ d. same-read d .0) t;
+    holidays = upTo-same _ _ (h .days) (λ d. ap (λ (t : Bool). cond t 1 0) (same-day d)) t;
+    readings = upTo-same _ _ (suc (h .days)) (λ d. same-read d .1) t;
+    readVersions = upTo-same _ _ (suc (h .days)) (λ d. same-read d .0) t;
   }
 
 -- two lists of calls with the same accepted calls amount to the same book, whatever their order and repetition

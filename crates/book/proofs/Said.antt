@@ -9,11 +9,12 @@ use native.Mathlib.Omega.{arith}
 use lib.Dec.{ltb}
 use borrow.Author.Tests.{ltb-true, ltb-false, eq-eqb, ne-eqb}
 use Rattle.rules.proofs.Logic.{either}
+use Rattle.rules.specs.Spans.{upTo}
 use Rattle.book.specs.Answers.{Answer, isAccepted, isStored, byVersion}
 use Rattle.book.specs.Answers.Answer.{stored, late, repeat, refused}
 use Rattle.book.specs.Filling.{storedIn}
-use Rattle.book.specs.Plain.{Said, highest, contentWith, tabulate}
-use Rattle.book.proofs.Tables.{tabulate-filed}
+use Rattle.book.specs.Plain.{Said, highest, contentWith}
+use Rattle.book.proofs.Tables.{upTo-filed}
 
 -- the content of the call with the highest version
 abbrev pub latest : {A : Type 0} → A → List (Said A) → A
@@ -85,11 +86,11 @@ module _ {A : Type 0} (zeros : A) where
   pub said-filed : (of next : ℕ → List (Said A)) (j : ℕ) (s : Said A) (same : Bool) → (same ≡ true → s .content ≡ latest zeros (of j))
       → isAccepted (byVersion (highest (of j)) (s .version) same) ≡ true
       → next j ≡ s ∷ of j → ((i : ℕ) → (j ≡ i → ⊥) → next i ≡ of i) → (m : ℕ → A → ℕ) (n : ℕ)
-      → tabulate (λ i. m (highest (next i)) (latest zeros (next i))) n
-      ≡ storedIn (byVersion (highest (of j)) (s .version) same) (tabulate (λ i. m (highest (of i)) (latest zeros (of i))) n) j (m (s .version) (s .content))
+      → upTo (λ i. m (highest (next i)) (latest zeros (next i))) 0 n
+      ≡ storedIn (byVersion (highest (of j)) (s .version) same) (upTo (λ i. m (highest (of i)) (latest zeros (of i))) 0 n) j (m (s .version) (s .content))
   said-filed of next j s same alike ok here there m n =
       let a = byVersion (highest (of j)) (s .version) same in
-      tabulate-filed (λ i. m (highest (of i)) (latest zeros (of i))) (λ i. m (highest (next i)) (latest zeros (next i))) n j
+      upTo-filed (λ i. m (highest (of i)) (latest zeros (of i))) (λ i. m (highest (next i)) (latest zeros (next i))) n j
       (m (s .version) (s .content)) (λ i ne. rw (there i ne)) a
       (rw here (step s (of j) same alike a (ruled (highest (of j)) (s .version) same) ok m))
 

@@ -13,7 +13,7 @@ use Rattle.book.specs.Cells.{readsOf, slotFaultAt, dayFaultAt, readFault
 use Rattle.book.specs.Opening.{opened}
 use Rattle.book.specs.Filling.{afterAll}
 use Rattle.book.specs.Plain.{keptOf, bookOf}
-use Rattle.book.proofs.Tables.{getD-tabulate}
+use Rattle.book.proofs.Tables.{getD-upTo}
 use Rattle.book.proofs.Kept.{Kept, keptOf-kept}
 use Rattle.book.proofs.Clean.{slot-clean, day-clean, read-clean}
 use Rattle.book.proofs.Agreement.{book-fits, cells-agree}
@@ -23,19 +23,19 @@ module _ (h : Head) (kept : List Call) (ok : Kept h kept) where
   unfolding bookOf
   slots-clean =
       any-none (slotFaultAt (bookOf h kept .slots)) 0 (slotCount h)
-      (λ i l m. let lt : i < slotCount h = omega arith in simp getD-tabulate (slot-clean h kept ok i))
+      (λ i l m. let lt : i < slotCount h = omega arith in simp getD-upTo (slot-clean h kept ok i))
 
   days-clean : any (dayFaultAt (bookOf h kept .holidays)) 0 (h .days) ≡ false
   unfolding bookOf
   days-clean =
       any-none (dayFaultAt (bookOf h kept .holidays)) 0 (h .days)
-      (λ i l m. let lt : i < h .days = omega arith in simp getD-tabulate (day-clean h kept ok i))
+      (λ i l m. let lt : i < h .days = omega arith in simp getD-upTo (day-clean h kept ok i))
 
   reads-clean : any (readFaultAt (readsOf (bookOf h kept))) 0 (suc (h .days)) ≡ false
   unfolding bookOf
   reads-clean =
       any-none (readFaultAt (readsOf (bookOf h kept))) 0 (suc (h .days))
-      (λ i l m. let lt : i < suc (h .days) = omega arith in simp getD-tabulate (read-clean h kept ok i))
+      (λ i l m. let lt : i < suc (h .days) = omega arith in simp getD-upTo (read-clean h kept ok i))
 
   book-ok : cellsOk h (bookOf h kept) ≡ true
   unfolding cellsOk

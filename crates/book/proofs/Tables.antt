@@ -1,58 +1,71 @@
 -- Tables f 0, f 1, ..: their length and places, and what one stored call changes in them.
-use mathlib.Core.Path.{_≡_, refl, ap, _∙_, fun-ext}
+use mathlib.Core.Path.{_≡_, refl, sym, ap, _∙_, fun-ext}
 use mathlib.Core.Bool.{Bool, true, false, cond}
 use mathlib.Core.List.{List, _∷_}
-use Prim.Native.Nat.{ℕ, zero, suc, _<_}
-use native.Mathlib.Nat.{not-suc-le-zero, le-of-suc-le-suc}
+use Prim.Native.Nat.{ℕ, zero, suc, _+_, _<_, _≤_}
+use native.Mathlib.Nat.{add-zero, zero-add, not-suc-le-zero, le-of-suc-le-suc}
 use native.Mathlib.Omega.{arith}
 use lib.Dec.{eqb}
 use lib.ListN.{length, getD, set, replicate}
 use borrow.Author.Tests.{eqb-true, eqb-false}
+use Rattle.rules.specs.Spans.{upTo}
 use Rattle.book.specs.Answers.{Answer, isStored}
 use Rattle.book.specs.Filling.{storedIn}
-use Rattle.book.specs.Plain.{tabulate}
 
-pub length-tabulate : (f : ℕ → ℕ) (n : ℕ) → length (tabulate f n) ≡ n
-unfolding tabulate
-length-tabulate f zero = refl
-length-tabulate f (suc n) = ap suc (length-tabulate (λ i. f (suc i)) n)
+pub length-upTo : {X : Type 0} (f : ℕ → X) (a n : ℕ) → length (upTo f a n) ≡ n
+unfolding upTo
+length-upTo f a zero = refl
+length-upTo f a (suc n) = ap suc (length-upTo f (suc a) n)
 
-pub getD-tabulate : (f : ℕ → ℕ) (n i : ℕ) → i < n → getD (tabulate f n) i 0 ≡ f i
-unfolding tabulate
-getD-tabulate f zero i lt = absurd (not-suc-le-zero lt)
-getD-tabulate f (suc n) zero lt = refl
-getD-tabulate f (suc n) (suc i) lt = getD-tabulate (λ j. f (suc j)) n i (le-of-suc-le-suc lt)
+pub getD-from : {X : Type 0} (f : ℕ → X) (d : X) (a n i : ℕ) → i < n → getD (upTo f a n) i d ≡ f (a + i)
+unfolding upTo
+getD-from f d a zero i lt = absurd (not-suc-le-zero lt)
+getD-from f d a (suc n) zero lt = ap f (sym (add-zero a))
+getD-from f d a (suc n) (suc i) lt = getD-from f d (suc a) n i (le-of-suc-le-suc lt) ∙ ap f (omega arith)
 
-pub tabulate-zero : (n : ℕ) → replicate n 0 ≡ tabulate (λ i. 0) n
-unfolding tabulate
-tabulate-zero zero = refl
-tabulate-zero (suc n) = ap {B = List ℕ} (λ l. 0 ∷ l) (tabulate-zero n)
+pub getD-upTo : (f : ℕ → ℕ) (n i : ℕ) → i < n → getD (upTo f 0 n) i 0 ≡ f i
+getD-upTo f n i lt = getD-from f 0 0 n i lt ∙ ap f (zero-add i)
 
-pub tabulate-same : (f g : ℕ → ℕ) (n : ℕ) → ((i : ℕ) → g i ≡ f i) → tabulate g n ≡ tabulate f n
-tabulate-same f g n same = ap (λ (k : ℕ → ℕ). tabulate k n) (fun-ext same)
+pub upTo-zero : (a n : ℕ) → replicate {A = ℕ} n 0 ≡ upTo (λ i. 0) a n
+unfolding upTo
+upTo-zero a zero = refl
+upTo-zero a (suc n) = ap {B = List ℕ} (λ l. 0 ∷ l) (upTo-zero (suc a) n)
+
+pub upTo-same : (f g : ℕ → ℕ) (n : ℕ) → ((i : ℕ) → g i ≡ f i) → upTo g 0 n ≡ upTo f 0 n
+upTo-same f g n same = ap (λ (k : ℕ → ℕ). upTo k 0 n) (fun-ext same)
+
+-- functions that are equal from a on
+upTo-from : (f g : ℕ → ℕ) (a n : ℕ) → ((i : ℕ) → a ≤ i → g i ≡ f i) → upTo g a n ≡ upTo f a n
+unfolding upTo
+upTo-from f g a zero same = refl
+upTo-from f g a (suc n) same =
+    rw (same a (omega arith)) (ap {B = List ℕ} (λ l. f a ∷ l) (upTo-from f g (suc a) n (λ i l. same i (omega arith))))
 
 -- a function that differs at j alone makes a table that differs at j alone
-tabulate-set : (f g : ℕ → ℕ) (n j : ℕ) → ((i : ℕ) → (j ≡ i → ⊥) → g i ≡ f i) → tabulate g n ≡ set (tabulate f n) j (g j)
-unfolding tabulate
-tabulate-set f g zero j same = refl
-tabulate-set f g (suc n) zero same =
-    ap {B = List ℕ} (λ l. g 0 ∷ l) (tabulate-same (λ i. f (suc i)) (λ i. g (suc i)) n (λ i. same (suc i) (λ e. omega arith)))
-tabulate-set f g (suc n) (suc j) same =
-    rw (same 0 (λ e. omega arith))
-    (ap {B = List ℕ} (λ l. f 0 ∷ l) (tabulate-set (λ i. f (suc i)) (λ i. g (suc i)) n j (λ i ne. same (suc i) (λ e. ne (omega arith)))))
+upTo-set : (f g : ℕ → ℕ) (a n j : ℕ) → ((i : ℕ) → (a + j ≡ i → ⊥) → g i ≡ f i) → upTo g a n ≡ set (upTo f a n) j (g (a + j))
+unfolding upTo
+upTo-set f g a zero j same = refl
+upTo-set f g a (suc n) zero same =
+    rw (add-zero a) (ap {B = List ℕ} (λ l. g a ∷ l) (upTo-from f g (suc a) n (λ i l. same i (λ e. omega arith))))
+upTo-set f g a (suc n) (suc j) same =
+    let next : suc a + j ≡ a + suc j = omega arith in
+    rw (same a (λ e. omega arith), ← next)
+    (ap {B = List ℕ} (λ l. f a ∷ l) (upTo-set f g (suc a) n j (λ i ne. same i (λ e. ne (omega arith)))))
 
 -- a table that differs at j alone, and there as the answer says, is the table before with the call filed in it
 module _ (f g : ℕ → ℕ) (n j x : ℕ) (elsewhere : (i : ℕ) → (j ≡ i → ⊥) → g i ≡ f i) where
-  unchanged : g j ≡ f j → tabulate g n ≡ tabulate f n
-  unchanged e = tabulate-same f g n (λ i. at i (eqb j i) refl)
+  unchanged : g j ≡ f j → upTo g 0 n ≡ upTo f 0 n
+  unchanged e = upTo-same f g n (λ i. at i (eqb j i) refl)
     where
       at : (i : ℕ) (t : Bool) → eqb j i ≡ t → g i ≡ f i
       at i true d = rw (← eqb-true j i d) e
       at i false d = elsewhere i (eqb-false j i d)
 
-  pub tabulate-filed : (a : Answer) → g j ≡ cond (isStored a) x (f j) → tabulate g n ≡ storedIn a (tabulate f n) j x
-  tabulate-filed a = go (isStored a)
+  pub upTo-filed : (a : Answer) → g j ≡ cond (isStored a) x (f j) → upTo g 0 n ≡ storedIn a (upTo f 0 n) j x
+  upTo-filed a = go (isStored a)
     where
-      go : (t : Bool) → g j ≡ cond t x (f j) → tabulate g n ≡ cond t (set (tabulate f n) j x) (tabulate f n)
-      go true e = tabulate-set f g n j elsewhere ∙ rw e
+      go : (t : Bool) → g j ≡ cond t x (f j) → upTo g 0 n ≡ cond t (set (upTo f 0 n) j x) (upTo f 0 n)
+      go true e =
+          let here = upTo-set f g 0 n j (λ i ne. elsewhere i (λ d. ne (zero-add j ∙ d))) in
+          rw (zero-add j, e) at here
       go false e = unchanged e

@@ -1,10 +1,11 @@
 -- What a list of calls amounts to, from the head and the calls' arguments alone (01, The plain book).
 use mathlib.Core.Bool.{Bool, false, not, cond, _&&_, _||_}
 use mathlib.Core.List.{List, [], _∷_}
-use Prim.Native.Nat.{ℕ, zero, suc, max}
+use Prim.Native.Nat.{ℕ, suc, max}
 use lib.Dec.{eqb}
 use Rattle.rules.specs.declared.Head.{Head}
 use Rattle.rules.specs.Opening.{headOk, slotCount, Cells}
+use Rattle.rules.specs.Spans.{upTo}
 use Rattle.book.specs.Answers.{Answer, isAccepted, unless, byVersion}
 use Rattle.book.specs.Answers.Answer.{stored, repeat}
 use Rattle.book.specs.Answers.Rule.{rule}
@@ -93,20 +94,15 @@ unfoldable pub keptOf : Head → List Call → List Call → List Call
 keptOf h kept [] = kept
 keptOf h kept (c ∷ cs) = keptOf h (keep h kept c) cs
 
--- f 0, f 1, .. , n of them
-unfoldable pub tabulate : (ℕ → ℕ) → ℕ → List ℕ
-tabulate f zero = []
-tabulate f (suc n) = f 0 ∷ tabulate (λ i. f (suc i)) n
-
 -- "At the end a slot or boundary has the version and content of its kept call with the highest version .."
 unfoldable pub bookOf : Head → List Call → Cells
 bookOf h kept = record {
   slots = record {
-    values = tabulate (λ i. slotContent kept i .value) (slotCount h);
-    versions = tabulate (slotVersion kept) (slotCount h);
-    statuses = tabulate (λ i. slotContent kept i .status) (slotCount h);
+    values = upTo (λ i. slotContent kept i .value) 0 (slotCount h);
+    versions = upTo (slotVersion kept) 0 (slotCount h);
+    statuses = upTo (λ i. slotContent kept i .status) 0 (slotCount h);
   };
-  holidays = tabulate (λ d. cond (named d kept) 1 0) (h .days);
-  readings = tabulate (readContent kept) (suc (h .days));
-  readVersions = tabulate (readVersion kept) (suc (h .days));
+  holidays = upTo (λ d. cond (named d kept) 1 0) 0 (h .days);
+  readings = upTo (readContent kept) 0 (suc (h .days));
+  readVersions = upTo (readVersion kept) 0 (suc (h .days));
 }

@@ -79,8 +79,7 @@ pub fn deliver(
     status: u8,
 ) -> Filed
     ensures { λ r. ⌜
-        (let slots = lentSlots (values .entry) (versions .entry) (statuses .entry) in
-        (filedMeant r ≡ deliverAnswer head slots slot version value status)
+        (let slots = lentSlots (values .entry) (versions .entry) (statuses .entry) in (filedMeant r ≡ deliverAnswer head slots slot version value status)
         × HoldSlots (values .exit) (versions .exit) (statuses .exit) (deliverAfter head slots slot version value status))
         ⌝ }
 {

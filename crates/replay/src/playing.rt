@@ -42,6 +42,7 @@ fn play(
         × (lentCells (values .exit) (versions .exit) (statuses .exit) (holidays .exit) (readings .exit) (reads .exit) ≡ after head cells (callOf call)))
         ⌝ }
 {
+    let place = call.place;
     if call.kind == 1 {
         let status = call.status as u8;
         return byte_of(book::deliver(
@@ -49,23 +50,16 @@ fn play(
             values,
             versions,
             statuses,
-            call.place,
+            place,
             call.version,
             call.content,
             status,
         ));
     }
     if call.kind == 2 {
-        return byte_of(book::holiday(head, holidays, call.place));
+        return byte_of(book::holiday(head, holidays, place));
     }
-    byte_of(book::register(
-        head,
-        readings,
-        reads,
-        call.place,
-        call.version,
-        call.content,
-    ))
+    byte_of(book::register(head, readings, reads, place, call.version, call.content))
 }
 
 // Every call in order, each answer a byte of `answers`.
