@@ -5,7 +5,7 @@ use Prim.Native.Nat.{ℕ, _+_, _-_, _≤_, _<_}
 use native.Mathlib.Numerals.{add-one}
 use native.Mathlib.Omega.{arith}
 use borrow.Author.Tests.{lt-ltb, le-ltb}
-use lib.ListN.{length, getD, take, drop, set, take-append-drop, length-append}
+use lib.ListN.{length, getD, take, drop, set, take-append-drop}
 use lib.Seq.{take-suc, take-suc-set, take-at, take-all, length-take-le, drop-length, take-length}
 use Rattle.rules.specs.Opening.{Cells}
 use Rattle.log.specs.declared.line.Line.{Line}
@@ -70,7 +70,3 @@ module _ (block : List ℕ) (at end cap : ℕ) (hand hand′ : List ℕ) (room :
         → outcome run b (linesFrom hand (drop at block ++ more)) ≡ withAnswer (p .said) (outcome (p .run) c (linesFrom [] (drop (end + 1) block ++ more)))
     unfolding outcome
     line-played p c l f g more = rw (f, g) (ap (outcome run b) (line-ends l more))
-
--- there is room for all bytes
-pub with-room : (cap : ℕ) (hand bytes : List ℕ) → length hand + length bytes ≤ cap → take cap (hand ++ bytes) ≡ hand ++ bytes
-with-room cap hand bytes l = take-all cap (hand ++ bytes) (rw (length-append hand bytes) l)

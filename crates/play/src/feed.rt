@@ -23,7 +23,7 @@ pub struct Step {
 }
 
 // Puts bytes behind the first `count` of `part`, as many as it has room for; how many are in hand then.
-pub fn keep(part: &mut [u8], count: usize, bytes: &[u8]) -> usize
+fn keep(part: &mut [u8], count: usize, bytes: &[u8]) -> usize
     requires { ⌜ count ≤ length (now part) ⌝ }
     ensures { λ r. ⌜ (r ≤ length (now (part .entry))) × (take r (now (part .exit)) ≡ take (length (now (part .entry))) (take count (now (part .entry)) ++ now (bytes .entry))) ⌝ }
 {

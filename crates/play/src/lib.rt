@@ -3,4 +3,5 @@ pub mod console;
 pub mod feed;
 pub mod lists;
 pub mod play;
+pub mod program;
 pub mod text;

@@ -1,9 +1,7 @@
 // An answer as a line of text.
-use crate::feed;
 use crate::play::Said;
-ghost use mathlib.Core.List.{_++_};
 ghost use mathlib.Core.Path.{_≡_};
-ghost use Prim.Native.Nat.{_+_, _≤_};
+ghost use Prim.Native.Nat.{_≤_};
 ghost use lib.ListN.{length, take};
 ghost use Rattle.play.specs.Texts.{refusedText, answerText};
 
@@ -14,7 +12,7 @@ struct Text {
 }
 
 fn refused_text(n: u8) -> Text
-    ensures { λ r. ⌜ (take (r .count) (r .bytes) ≡ refusedText n) × (r .count ≤ 12) × (r .count ≤ length (r .bytes)) ⌝ }
+    ensures { λ r. ⌜ (take (r .count) (r .bytes) ≡ refusedText n) × (r .count ≤ length (r .bytes)) ⌝ }
 {
     if n < 10 {
         return Text {
@@ -74,7 +72,7 @@ fn refused_text(n: u8) -> Text
 }
 
 fn text_of(said: Said) -> Text
-    ensures { λ r. ⌜ (take (r .count) (r .bytes) ≡ answerText said) × (r .count ≤ 12) × (r .count ≤ length (r .bytes)) ⌝ }
+    ensures { λ r. ⌜ (take (r .count) (r .bytes) ≡ answerText said) × (r .count ≤ length (r .bytes)) ⌝ }
 {
     match said {
         Said::Nothing => Text {
@@ -101,13 +99,20 @@ fn text_of(said: Said) -> Text
     }
 }
 
-// Puts the text of an answer behind the first `at` bytes of `out`, and answers the place after it.
-pub fn put(out: &mut [u8], at: usize, said: Said) -> usize
-    requires { ⌜ at + 12 ≤ length (now out) ⌝ }
-    ensures { λ r. ⌜ (r ≤ length (now (out .entry))) × (take r (now (out .exit)) ≡ take at (now (out .entry)) ++ answerText said) ⌝ }
-{
+// Writes the text of an answer to a descriptor that is not negative, unless a write has failed before; whether all were done.
+pub fn tell(fd: i32, good: bool, said: Said) -> bool {
+    if fd < 0 {
+        return good;
+    }
+    if !good {
+        return false;
+    }
     let text = text_of(said);
     let bytes = text.bytes;
     let count = text.count;
-    feed::keep(out, at, &bytes[..count])
+    if !io::write_all(fd, &bytes[..count]) {
+        os::fail(b"temporary file");
+        return false;
+    }
+    true
 }

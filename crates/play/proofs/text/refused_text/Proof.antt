@@ -10,7 +10,7 @@ add-t3 c = search needs
 
 returns : tie.Need-returns
 unfolding refusedText
-returns c = (rw (lt-ltb _ _ (c .if1 .taken)), search needs, search needs)
+returns c = (rw (lt-ltb _ _ (c .if1 .taken)), search needs)
 
 add-t6 : tie.Need-add-t6
 add-t6 c = search needs
@@ -20,7 +20,7 @@ add-t8 c = search needs
 
 returns-2 : tie.Need-returns-2
 unfolding refusedText
-returns-2 c = (rw (le-ltb _ _ (c .before .if1 .left), lt-ltb _ _ (c .if2 .taken)), search needs, search needs)
+returns-2 c = (rw (le-ltb _ _ (c .before .if1 .left), lt-ltb _ _ (c .if2 .taken)), search needs)
 
 add-t11 : tie.Need-add-t11
 add-t11 c = search needs
@@ -33,7 +33,7 @@ add-t16 c = search needs
 
 returns-3 : tie.Need-returns-3
 unfolding refusedText
-returns-3 c = (rw (le-ltb _ _ (c .before .if1 .left), le-ltb _ _ (c .if2 .left)), search needs, search needs)
+returns-3 c = (rw (le-ltb _ _ (c .before .if1 .left), le-ltb _ _ (c .if2 .left)), search needs)
 
 pub refused-text-spec : {M : Type 1} → statement M
 refused-text-spec =

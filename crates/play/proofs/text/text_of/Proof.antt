@@ -28,27 +28,27 @@ refused-text-requires c κs = search needs
 
 returns : tie.Need-returns
 unfolding answerText
-returns c = (sym (ap answerText (c .enum-told .given .1)), search needs, search needs)
+returns c = (sym (ap answerText (c .enum-told .given .1)), search needs)
 
 returns-2 : tie.Need-returns-2
 unfolding answerText
-returns-2 c = (sym (ap answerText (c .enum-told2 .given .1)), search needs, search needs)
+returns-2 c = (sym (ap answerText (c .enum-told2 .given .1)), search needs)
 
 returns-3 : tie.Need-returns-3
 unfolding answerText
-returns-3 c = (sym (ap answerText (c .enum-told3 .given .1)), search needs, search needs)
+returns-3 c = (sym (ap answerText (c .enum-told3 .given .1)), search needs)
 
 returns-4 : tie.Need-returns-4
 unfolding answerText
-returns-4 c = (sym (ap answerText (c .enum-told4 .given .1)), search needs, search needs)
+returns-4 c = (sym (ap answerText (c .enum-told4 .given .1)), search needs)
 
 returns-5 : tie.Need-returns-5
 unfolding answerText
-returns-5 c = (sym (ap answerText (c .enum-told5 .given .1)), search needs, search needs)
+returns-5 c = (sym (ap answerText (c .enum-told5 .given .1)), search needs)
 
 returns-6 : tie.Need-returns-6
 unfolding answerText
-returns-6 c = (c .refused-text .ensures .0 ∙ sym (ap answerText (c .before .before .said .given .1)), c .refused-text .ensures .1, c .refused-text .ensures .2)
+returns-6 c = (c .refused-text .ensures .0 ∙ sym (ap answerText (c .before .before .said .given .1)), c .refused-text .ensures .1)
 
 pub text-of-spec : {M : Type 1} → statement M
 text-of-spec =

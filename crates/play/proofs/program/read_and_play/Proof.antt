@@ -1,9 +1,9 @@
--- `publish::read_and_play` meets its contract.
+-- `play::program::read_and_play` meets its contract.
 use mathlib.Core.Path.{sym}
 use lib.Seq.{length-take-le}
 use borrow.Author.Needs.{needs}
-use Rattle.publish.proofs.read_and_play.Statement.{statement}
-use Rattle.publish.proofs.read_and_play.Tie as tie
+use Rattle.play.proofs.program.read_and_play.Statement.{statement}
+use Rattle.play.proofs.program.read_and_play.Tie as tie
 
 large-buffer-requires : tie.Need-large-buffer-requires
 large-buffer-requires c κs = search needs

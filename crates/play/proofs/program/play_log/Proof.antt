@@ -1,17 +1,17 @@
--- `publish::play_log` meets its contract.
+-- `play::program::play_log` meets its contract.
 use borrow.Author.Needs.{needs}
 use mathlib.Core.Path.{_≡_, refl}
 use Prim.Native.Nat.{_≤_}
 use native.Mathlib.Omega.{arith}
 use lib.ListN.{length}
-use Rattle.publish.proofs.play_log.Statement.{statement}
-use Rattle.publish.proofs.play_log.Tie as tie
+use Rattle.play.proofs.program.play_log.Statement.{statement}
+use Rattle.play.proofs.program.play_log.Tie as tie
 
 abbrev Inv-loop : tie.InvT-loop
-Inv-loop part₀ values₀ versions₀ statuses₀ holidays₀ readings₀ reads₀ progress₀ turns₀ part values versions statuses holidays readings reads progress turns = (progress .count ≤ length part₀) × (length part ≡ length part₀) × (length values ≡ length values₀) × (length versions ≡ length versions₀) × (length statuses ≡ length statuses₀) × (length holidays ≡ length holidays₀) × (length readings ≡ length readings₀) × (length reads ≡ length reads₀)
+Inv-loop part₀ fd values₀ versions₀ statuses₀ holidays₀ readings₀ reads₀ progress₀ turns₀ part values versions statuses holidays readings reads progress turns = (progress .count ≤ length part₀) × (length part ≡ length part₀) × (length values ≡ length values₀) × (length versions ≡ length versions₀) × (length statuses ≡ length statuses₀) × (length holidays ≡ length holidays₀) × (length readings ≡ length readings₀) × (length reads ≡ length reads₀)
 
 abbrev μ-loop : tie.MeasureT-loop
-μ-loop part₀ values₀ versions₀ statuses₀ holidays₀ readings₀ reads₀ progress₀ turns₀ part values versions statuses holidays readings reads progress turns = turns
+μ-loop part₀ fd values₀ versions₀ statuses₀ holidays₀ readings₀ reads₀ progress₀ turns₀ part values versions statuses holidays readings reads progress turns = turns
 
 start-requires : tie.Need-start-requires Inv-loop μ-loop
 start-requires c κs = tt

@@ -1,0 +1,99 @@
+// Plays the text log on standard input and writes one answer a line to standard output.
+use libc::STDOUT_FILENO;
+use play::console;
+use play::program;
+
+// A file without a name, for a log has any length and nothing is written before its end is known to be good.
+fn temporary() -> i32 {
+    let mut name = [
+        b'/',
+        b't',
+        b'm',
+        b'p',
+        b'/',
+        b'a',
+        b'n',
+        b's',
+        b'w',
+        b'e',
+        b'r',
+        b's',
+        b'-',
+        b'X',
+        b'X',
+        b'X',
+        b'X',
+        b'X',
+        b'X',
+    ];
+    let fd = os::create_temp(&mut name);
+    if fd < 0 {
+        os::fail(b"temporary file");
+        return fd;
+    }
+    os::unlink(&name);
+    fd
+}
+
+// Copies what one read gives, and answers whether to go on.
+fn copy_some(fd: i32) -> bool {
+    let mut block = io::large_buffer();
+    let got = libc::read(fd, &mut block);
+    if got < 0 {
+        os::fail(b"temporary file");
+        return false;
+    }
+    if got == 0 {
+        return false;
+    }
+    let n = io::count(got, &block);
+    let is_written = io::write_all(STDOUT_FILENO, &block[..n]);
+    if !is_written {
+        os::fail(b"standard output");
+    }
+    is_written
+}
+
+// Counts its turns down, from a number that no file uses up, so that it is proved to end.
+fn copy_all(fd: i32) {
+    let mut turns = u64::MAX;
+    while 0 < turns {
+        if !copy_some(fd) {
+            return;
+        }
+        turns -= 1;
+    }
+}
+
+fn main() {
+    let mut values = [0u32; 115200];
+    let mut versions = [0u32; 115200];
+    let mut statuses = [0u8; 115200];
+    let mut holidays = [0u8; 400];
+    let mut readings = [0u32; 401];
+    let mut reads = [0u32; 401];
+    let fd = temporary();
+    if fd < 0 {
+        return;
+    }
+    let end = program::play_input(
+        fd,
+        &mut values,
+        &mut versions,
+        &mut statuses,
+        &mut holidays,
+        &mut readings,
+        &mut reads,
+    );
+    if !end.good {
+        return;
+    }
+    if !console::is_log(end.run) {
+        return;
+    }
+    if libc::lseek(fd, 0, libc::SEEK_SET) < 0 {
+        os::fail(b"temporary file");
+        return;
+    }
+    copy_all(fd);
+}

@@ -1,0 +1,118 @@
+#!/bin/sh
+# Builds publish, answers and show, plays the logs of examples/ and compares; then logs that are none, and logs that come
+# in other pieces. Exits 1 on a difference.
+set -u
+cd "$(dirname "$0")/.."
+rt check publish answers show > /dev/null || { echo "a program is not proved, or differs on its own input"; exit 1; }
+work=$(mktemp -d) || exit 2
+trap 'rm -rf "$work"' EXIT
+bad=0
+
+ok() { echo "ok: $1"; }
+differs() { echo "differs: $1"; bad=1; }
+same() { if cmp -s "$1" "$2"; then ok "$3"; else differs "$3"; fi; }
+
+# good NAME LINE REFUSED COUNTS: the file's line in show, what publish says of refused calls, and how often each answer comes
+good() {
+    target/bin/publish < "examples/$1.log" > "$work/$1.file" 2> "$work/err"
+    target/bin/show < "$work/$1.file" > "$work/line"
+    printf '%s\n' "$2" > "$work/want"
+    same "$work/line" "$work/want" "$1: its line in show"
+    printf '%s' "$3" > "$work/want"
+    same "$work/err" "$work/want" "$1: calls refused"
+    target/bin/answers < "examples/$1.log" > "$work/$1.answers" 2> "$work/err"
+    sort "$work/$1.answers" | uniq -c | awk '{$1 = $1; print}' > "$work/counts"
+    printf '%s' "$4" > "$work/want"
+    same "$work/counts" "$work/want" "$1: answers"
+    [ -s "$work/err" ] && differs "$1: answers on standard error"
+}
+
+# none NAME MESSAGE < log: nothing on standard output, the message on standard error, from both programs. In a pipe it runs in a subshell, which ends with `bad`
+none() {
+    cat > "$work/log"
+    printf '%s\n' "$2" > "$work/want"
+    for program in publish answers; do
+        "target/bin/$program" < "$work/log" > "$work/out" 2> "$work/err"
+        if [ ! -s "$work/out" ] && cmp -s "$work/err" "$work/want"; then ok "$1, $program"; else differs "$1, $program"; fi
+    done
+}
+
+# like NAME FILE ANSWERS < log: the same file and answers
+like() {
+    cat > "$work/log"
+    target/bin/publish < "$work/log" > "$work/out" 2> "$work/err"
+    same "$work/out" "$2" "$1: file"
+    target/bin/answers < "$work/log" > "$work/out" 2> "$work/err"
+    same "$work/out" "$3" "$1: answers"
+}
+
+# in pieces of 1, 2, 4, .. bytes, with a pause after each
+slowly() {
+    at=0
+    step=1
+    size=$(wc -c < "$1")
+    while [ "$at" -lt "$size" ]; do
+        tail -c +$((at + 1)) "$1" | head -c "$step"
+        at=$((at + step))
+        step=$((step * 2))
+        sleep 0.05
+    done
+}
+
+# so many letters
+letters() { head -c "$1" /dev/zero | tr '\000' x; }
+
+open='open 2024-05-01 1 30 1 0'
+newline='
+'
+good quiet-day '2024-05-01 1 30 47 1 0 25020' '' "1 done${newline}49 stored${newline}"
+good wrap '2024-12-31 1 30 48 0 0 25' '' "1 done${newline}50 stored${newline}"
+good month '2024-05-01 31 30 1471 14 3 773597' "9 refused${newline}" "1 done${newline}1 late${newline}2 refused 10${newline}3 refused 3${newline}1 refused 4${newline}2 refused 5${newline}1 refused 6${newline}3 repeat${newline}1478 stored${newline}"
+day=$work/quiet-day
+
+printf '%s\nhello\n' "$open" | { none 'not a call' 'line 2: not a call'; exit "$bad"; } || bad=1
+printf '# a comment\n\n%s\nholiday 0\nDelivery 0 1 1 0\n' "$open" | { none 'a keyword in other letters' 'line 5: not a call'; exit "$bad"; } || bad=1
+printf '%s\nholiday  0\n' "$open" | { none 'two spaces' 'line 2: not a call'; exit "$bad"; } || bad=1
+printf '%s\nholiday 0 \n' "$open" | { none 'a space behind' 'line 2: not a call'; exit "$bad"; } || bad=1
+printf '%s\ndelivery 1 1 4294967296 0\n' "$open" | { none 'a number of 4,294,967,296' 'line 2: not a call'; exit "$bad"; } || bad=1
+printf '%s\nholiday %0248d\n' "$open" 0 | { none 'a line of 256 bytes' 'line 2: not a call'; exit "$bad"; } || bad=1
+printf 'holiday 0\n%s\n' "$open" | { none 'a call before the opening' 'line 1: not a call'; exit "$bad"; } || bad=1
+printf '%s\n%s\n' "$open" "$open" | { none 'a second opening' 'line 2: not a call'; exit "$bad"; } || bad=1
+printf '\nopen 2024-02-30 1 30 1 0\n%s\n' "$open" | { none 'a refused opening' 'line 2: refused 1'; exit "$bad"; } || bad=1
+printf '# nothing\n' | { none 'no opening' 'no opening'; exit "$bad"; } || bad=1
+none 'an empty log' 'no opening' < /dev/null
+
+# a line of 255 bytes is a call, a longer comment is passed over, and a status over 255 is refused with 5
+{
+    printf '#%s\n%s\nholiday %0247d\n' "$(letters 1000)" "$open" 0
+    printf 'delivery 4294967295 1 0 0\ndelivery 0 1 0 4294967295\n'
+} > "$work/log"
+printf 'done\nstored\nrefused 3\nrefused 5\n' > "$work/want"
+target/bin/answers < "$work/log" > "$work/out"
+same "$work/out" "$work/want" 'the longest line and the largest number'
+
+sed 's/$/\r/' examples/quiet-day.log | { like 'CR LF' "$day.file" "$day.answers"; exit "$bad"; } || bad=1
+head -c -1 examples/quiet-day.log | { like 'no LF at the end' "$day.file" "$day.answers"; exit "$bad"; } || bad=1
+slowly examples/quiet-day.log | { like 'a slow pipe' "$day.file" "$day.answers"; exit "$bad"; } || bad=1
+slowly examples/quiet-day.log | target/bin/publish > "$work/out"
+same "$work/out" "$day.file" 'a slow pipe without a file between'
+
+# several MB: the month again and again, without its opening
+{
+    cat examples/month.log
+    i=0
+    while [ "$i" -lt 120 ]; do
+        grep -v '^open' examples/month.log
+        i=$((i + 1))
+    done
+} > "$work/large"
+target/bin/publish < "$work/large" > "$work/out" 2> "$work/err"
+same "$work/out" "$work/month.file" 'several MB: file'
+target/bin/answers < "$work/large" > "$work/out"
+if [ "$(wc -l < "$work/out")" -eq "$(grep -c '^[a-z]' "$work/large")" ]; then ok 'several MB: answers'; else differs 'several MB: answers'; fi
+
+for program in publish answers; do
+    "target/bin/$program" < / > "$work/out" 2> "$work/err"
+    if [ ! -s "$work/out" ] && grep -q '^standard input: ' "$work/err"; then ok "a read that fails, $program"; else differs "a read that fails, $program"; fi
+done
+exit $bad
