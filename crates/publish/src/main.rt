@@ -6,6 +6,15 @@ use play::console;
 use play::lists;
 use play::program;
 use rules::Head;
+ghost use mathlib.Core.Path.{_≡_};
+ghost use lib.ListN.{length};
+
+// Room for the largest file: 115,200 slots, 400 spans and the trailer.
+fn file_buffer() -> [u8; 695232]
+    ensures { λ r. ⌜ 695232 ≡ length r ⌝ }
+{
+    [0; 695232]
+}
 
 fn write_file(
     head: Head,
@@ -45,7 +54,7 @@ fn main() {
     let mut holidays = [0u8; 400];
     let mut readings = [0u32; 401];
     let mut reads = [0u32; 401];
-    let mut out = [0u8; 695232];
+    let mut out = file_buffer();
     let end = program::play_input(
         -1,
         &mut values,

@@ -1,5 +1,6 @@
 -- `log::line::line_of` meets its contract.
 use mathlib.Core.Path.{sym, _∙_}
+use native.Mathlib.Omega.{arith}
 use lib.Seq.{length-take-le}
 use Rattle.log.proofs.Calls.{line-empty, line-comment, line-long, line-call}
 use borrow.Author.Needs.{needs}
@@ -19,7 +20,7 @@ returns-2 : tie.Need-returns-2
 returns-2 c = line-comment (c .before .before .before .before .before .args .bytes .now) _ (c .before .before .before .without-cr .ensures .0) (c .before .before .before .without-cr .ensures .1) (c .before .before .if1 .left) (c .if2 .taken)
 
 returns-3 : tie.Need-returns-3
-returns-3 c = line-long (c .before .before .before .before .before .before .args .bytes .now) _ (c .before .before .before .before .without-cr .ensures .0) (c .before .before .before .before .without-cr .ensures .1) (c .before .before .before .if1 .left) (c .before .if2 .left) (c .if3 .taken)
+returns-3 c = line-long (c .before .before .before .before .before .before .args .bytes .now) (c .before .before .before .before .without-cr .result) (c .before .before .before .before .without-cr .ensures .0) (c .before .before .before .before .without-cr .ensures .1) (c .before .before .before .if1 .left) (c .before .if2 .left) (omega (arith, c .if3 .taken))
 
 slice-aggregate-call-of : tie.Need-slice-aggregate-call-of
 slice-aggregate-call-of c = sym (length-take-le _ _ (c .before .before .before .before .before .without-cr .ensures .0))

@@ -1,9 +1,9 @@
 -- `log::number::number_of` meets its contract.
 use borrow.Author.Needs.{needs}
 use mathlib.Core.Path.{_≡_, sym, _∙_}
-use Prim.Native.Nat.{_≤_, _-_}
+use Prim.Native.Nat.{_≤_, _-_, _+_, _*_}
 use native.Mathlib.Omega.{arith}
-use lib.ListN.{length, drop}
+use lib.ListN.{length, drop, getD}
 use Rattle.log.specs.Numbers.{numberOf}
 use Rattle.log.proofs.Reading.{numberAfter, number-empty, number-starts, number-digit, number-below, number-above, number-over, number-ends}
 use Rattle.log.proofs.number.number_of.Statement.{statement}
@@ -28,7 +28,7 @@ returns-2 : tie.Need-returns-2 Inv-loop μ-loop
 returns-2 c = sym (c .before .before .before .loop .inv .2 ∙ number-below (c .before .before .before .before .before .args .word .now) (c .before .before .before .loop .i) (c .before .before .before .loop .value) (search needs) (c .if2 .taken))
 
 returns-3 : tie.Need-returns-3 Inv-loop μ-loop
-returns-3 c = sym (c .before .before .before .before .loop .inv .2 ∙ number-above (c .before .before .before .before .before .before .args .word .now) (c .before .before .before .before .loop .i) (c .before .before .before .before .loop .value) (search needs) (c .before .if2 .left) (c .if3 .taken))
+returns-3 c = sym (c .before .before .before .before .loop .inv .2 ∙ number-above (c .before .before .before .before .before .before .args .word .now) (c .before .before .before .before .loop .i) (c .before .before .before .before .loop .value) (search needs) (c .before .if2 .left) (omega (arith, c .if3 .taken)))
 
 mul-value : tie.Need-mul-value Inv-loop μ-loop
 mul-value c = search needs
@@ -40,7 +40,7 @@ add-value : tie.Need-add-value Inv-loop μ-loop
 add-value c = search needs
 
 returns-4 : tie.Need-returns-4 Inv-loop μ-loop
-returns-4 c = sym (c .before .before .before .before .before .loop .inv .2 ∙ number-digit (c .before .before .before .before .before .before .before .args .word .now) (c .before .before .before .before .before .loop .i) (c .before .before .before .before .before .loop .value) (search needs) (c .before .before .if2 .left) (c .before .if3 .left) ∙ number-over _ _ (c .if4 .taken))
+returns-4 c = sym (c .before .before .before .before .before .loop .inv .2 ∙ number-digit (c .before .before .before .before .before .before .before .args .word .now) (c .before .before .before .before .before .loop .i) (c .before .before .before .before .before .loop .value) (search needs) (c .before .before .if2 .left) (c .before .if3 .left) ∙ number-over (10 * c .before .before .before .before .before .loop .value + (getD (c .before .before .before .before .before .before .before .args .word .now) (c .before .before .before .before .before .loop .i) 0 - 48)) _ (omega (arith, c .if4 .taken)))
 
 add-i : tie.Need-add-i Inv-loop μ-loop
 add-i c = search needs

@@ -16,7 +16,7 @@ abbrev μ-loop : tie.MeasureT-loop
 μ-loop word other i₀ i = length word - i
 
 returns : tie.Need-returns Inv-loop μ-loop
-returns c = sym (same-length (c .before .args .word .now) (c .before .args .other .now) (c .if1 .taken))
+returns c = sym (same-length (c .before .args .word .now) (c .before .args .other .now) (λ e. omega (arith, c .if1 .taken)))
 
 loop-holds : tie.Need-loop-holds Inv-loop μ-loop
 loop-holds c = (search needs, refl)
