@@ -14,61 +14,33 @@ struct Text {
 fn refused_text(n: u8) -> Text
     ensures { λ r. ⌜ (take (r .count) (r .bytes) ≡ refusedText n) × (r .count ≤ length (r .bytes)) ⌝ }
 {
+    let mut bytes = [
+        b'r',
+        b'e',
+        b'f',
+        b'u',
+        b's',
+        b'e',
+        b'd',
+        b' ',
+        10,
+        10,
+        10,
+        10,
+    ];
     if n < 10 {
-        return Text {
-            bytes: [
-                b'r',
-                b'e',
-                b'f',
-                b'u',
-                b's',
-                b'e',
-                b'd',
-                b' ',
-                48 + n,
-                10,
-                0,
-                0,
-            ],
-            count: 10,
-        };
+        bytes[8] = 48 + n;
+        return Text { bytes, count: 10 };
     }
     if n < 100 {
-        return Text {
-            bytes: [
-                b'r',
-                b'e',
-                b'f',
-                b'u',
-                b's',
-                b'e',
-                b'd',
-                b' ',
-                48 + n / 10,
-                48 + n % 10,
-                10,
-                0,
-            ],
-            count: 11,
-        };
+        bytes[8] = 48 + n / 10;
+        bytes[9] = 48 + n % 10;
+        return Text { bytes, count: 11 };
     }
-    Text {
-        bytes: [
-            b'r',
-            b'e',
-            b'f',
-            b'u',
-            b's',
-            b'e',
-            b'd',
-            b' ',
-            48 + n / 100,
-            48 + n / 10 % 10,
-            48 + n % 10,
-            10,
-        ],
-        count: 12,
-    }
+    bytes[8] = 48 + n / 100;
+    bytes[9] = 48 + n / 10 % 10;
+    bytes[10] = 48 + n % 10;
+    Text { bytes, count: 12 }
 }
 
 fn text_of(said: Said) -> Text
