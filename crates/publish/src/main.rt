@@ -43,7 +43,9 @@ fn write_file(
                 }
             }
         }
-        Published::Refused(_) => {}
+        Published::Refused(_) => {
+            io::write_all(STDERR_FILENO, b"publishing was refused\n");
+        }
     }
 }
 

@@ -29,6 +29,12 @@ fail-requires c κs = search needs
 enum-told : tie.Need-enum-told
 enum-told c = search needs
 
+slice-aggregate-write-all-2 : tie.Need-slice-aggregate-write-all-2
+slice-aggregate-write-all-2 c = search needs
+
+write-all-requires-2 : tie.Need-write-all-requires-2
+write-all-requires-2 c κs = search needs
+
 same-length : tie.Need-same-length
 same-length c = search needs
 
@@ -65,6 +71,8 @@ write-file-spec =
     slice-aggregate-fail
     fail-requires
     enum-told
+    slice-aggregate-write-all-2
+    write-all-requires-2
     same-length
     returns
     same-length-2

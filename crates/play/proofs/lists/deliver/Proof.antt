@@ -57,7 +57,7 @@ returns c = let a = c .before .before .before .before .before .before .before .b
     let q = cut (a .versions .now) n (c .before .before .before .before .before .before .before .before .before .before .before .least2 .ensures) in
     let r = cut (a .statuses .now) n (c .before .before .before .before .before .before .before .before .before .before .least3 .ensures) in
     let e = c .before .before .before .before .before .before .deliver .ensures in
-    (e .0 ∙ ap (λ s. deliverAnswer (a .head) s (a .slot) (a .version) (a .value) (a .status)) (slots-lent (a .head) lent p q r), slots-back (a .head) lent p q r (λ s. deliverAfter (a .head) s (a .slot) (a .version) (a .value) (a .status)) _ _ _ (λ t. record { values = e .1 t; versions = e .2 t; statuses = e .3 t }))
+    (e .0 ∙ ap (λ s. deliverAnswer (a .head) s (a .slot) (a .version) (a .value) (a .status)) (slots-lent (a .head) lent p q r), slots-back (a .head) lent p q r (λ s. deliverAfter (a .head) s (a .slot) (a .version) (a .value) (a .status)) _ _ _ (λ t. record { values = e .1 .0 t; versions = e .1 .1 t; statuses = e .1 .2 t }))
 
 pub deliver-spec : {M : Type 1} → statement M
 deliver-spec =

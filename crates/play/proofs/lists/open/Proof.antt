@@ -97,7 +97,7 @@ returns : tie.Need-returns
 returns c = let a = c .before .before .before .before .before .before .before .before .before .before .before .before .before .before .before .before .before .before .before .before .before .before .before .before .before .before .before .before .before .before .before .before .before .args in
     let n = c .before .before .before .before .before .before .before .before .before .before .before .before .before .before .before .before .before .before .before .before .before .before .before .before .before .before .slots-of .ensures in
     let e = c .before .before .before .before .before .before .before .before .before .before .before .before .«open» .ensures in
-    was-opened (a .head) (cells (slots (a .values .now) (a .versions .now) (a .statuses .now)) (a .holidays .now) (a .readings .now) (a .reads .now)) (cut (a .values .now) n (c .before .before .before .before .before .before .before .before .before .before .before .before .before .before .before .before .before .before .before .before .before .before .before .before .least .ensures)) (cut (a .versions .now) n (c .before .before .before .before .before .before .before .before .before .before .before .before .before .before .before .before .before .before .before .before .before .before .before .least2 .ensures)) (cut (a .statuses .now) n (c .before .before .before .before .before .before .before .before .before .before .before .before .before .before .before .before .before .before .before .before .before .before .least3 .ensures)) (cut (a .holidays .now) refl (c .before .before .before .before .before .before .before .before .before .before .before .before .before .before .before .before .before .before .before .before .before .least4 .ensures)) (cut (a .readings .now) refl (c .before .before .before .before .before .before .before .before .before .before .before .before .before .before .before .before .before .before .before .before .least5 .ensures)) (cut (a .reads .now) refl (c .before .before .before .before .before .before .before .before .before .before .before .before .before .before .before .before .before .before .before .least6 .ensures)) _ (cells (slots _ _ _) _ _ _) (e .0) (λ t. record { slots = record { values = e .1 t; versions = e .2 t; statuses = e .3 t }; holidays = e .4 t; readings = e .5 t; readVersions = e .6 t })
+    was-opened (a .head) (cells (slots (a .values .now) (a .versions .now) (a .statuses .now)) (a .holidays .now) (a .readings .now) (a .reads .now)) (cut (a .values .now) n (c .before .before .before .before .before .before .before .before .before .before .before .before .before .before .before .before .before .before .before .before .before .before .before .before .least .ensures)) (cut (a .versions .now) n (c .before .before .before .before .before .before .before .before .before .before .before .before .before .before .before .before .before .before .before .before .before .before .before .least2 .ensures)) (cut (a .statuses .now) n (c .before .before .before .before .before .before .before .before .before .before .before .before .before .before .before .before .before .before .before .before .before .before .least3 .ensures)) (cut (a .holidays .now) refl (c .before .before .before .before .before .before .before .before .before .before .before .before .before .before .before .before .before .before .before .before .before .least4 .ensures)) (cut (a .readings .now) refl (c .before .before .before .before .before .before .before .before .before .before .before .before .before .before .before .before .before .before .before .before .least5 .ensures)) (cut (a .reads .now) refl (c .before .before .before .before .before .before .before .before .before .before .before .before .before .before .before .before .before .before .before .least6 .ensures)) _ (cells (slots _ _ _) _ _ _) (e .0) (λ t. record { slots = record { values = e .1 .0 t; versions = e .1 .1 t; statuses = e .1 .2 t }; holidays = e .1 .3 t; readings = e .1 .4 t; readVersions = e .1 .5 t })
 
 pub open-spec : {M : Type 1} → statement M
 open-spec =
