@@ -6,12 +6,10 @@ use Prim.Native.Nat.{ℕ, zero, suc, _+_, _-_, _≤_, _<_}
 use native.Mathlib.Nat.{add-suc, suc-add, add-zero, zero-add, not-suc-le-zero, le-of-suc-le-suc, eq-or-lt-of-le}
 use native.Mathlib.Numerals.{add-one}
 use native.Mathlib.Omega.{arith}
-use borrow.Author.Tests.{lt-ltb}
-use lib.Dec.{ltb}
 use Rattle.rules.specs.Lists.{sum, any}
 use Rattle.rules.proofs.Logic.{and-parts}
 use Rattle.file.specs.Lists.{all, count}
-use Rattle.file.proofs.Logic.{both, or-true, or-false}
+use Rattle.file.proofs.Logic.{both, or-true}
 
 all-each : (p : ℕ → Bool) (a k : ℕ) → all p a k ≡ true → (i : ℕ) → i < k → p (a + i) ≡ true
 unfolding all
@@ -71,15 +69,14 @@ all-done p i k l =
 
 -- ---- Searches
 
--- a place passes exactly when there are some to count
-pub any-count : (p : ℕ → Bool) (a k : ℕ) → ltb 0 (count p a k) ≡ any p a k
-unfolding any sum
-any-count p a zero = refl
-any-count p a (suc k) = step (p (a + k)) (count p a k) (any p a k) (any-count p a k)
-  where
-    step : (b : Bool) (c : ℕ) (x : Bool) → ltb 0 c ≡ x → ltb 0 (c + cond b 1 0) ≡ (x || b)
-    step true c x e = lt-ltb 0 (c + 1) (omega arith) ∙ sym (or-true x)
-    step false c x e = ap (ltb 0) (add-zero c) ∙ e ∙ sym (or-false x)
+-- none of no places passes; none of one more, where the next does not
+pub any-none : (p : ℕ → Bool) (a : ℕ) → any p a 0 ≡ false
+unfolding any
+any-none p a = refl
+
+pub any-on : (p : ℕ → Bool) (a k : ℕ) → any p a k ≡ false → p (a + k) ≡ false → any p a (k + 1) ≡ false
+unfolding any
+any-on p a k e f = rw (add-one, e, f)
 
 -- a place that passes is found
 pub any-at : (p : ℕ → Bool) (a k i : ℕ) → a ≤ i → i < a + k → p i ≡ true → any p a k ≡ true

@@ -114,7 +114,14 @@ pub fn has_kind(file: &[u8], kind: Kind, a: usize, k: usize) -> bool
     requires { ⌜ 6 * (a + k) ≤ length (now file) ⌝ }
     ensures { λ r. ⌜ r ≡ any (kindAt (now (file .entry)) kind) a k ⌝ }
 {
-    0 < count_kind(file, kind, a, k)
+    let mut i = 0;
+    while i < k {
+        if is_kind(kind, slot_at(file, a + i)) {
+            return true;
+        }
+        i += 1;
+    }
+    false
 }
 
 // The sum of the values of the `k` slots from slot `a`.

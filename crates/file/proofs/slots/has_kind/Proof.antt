@@ -1,19 +1,68 @@
--- `file::slots::has_kind` meets its contract.
-use mathlib.Core.Path.{ap, _∙_}
+-- `file::slots::has_kind`. No slot passed is of the kind.
+use mathlib.Core.Bool.{false}
+use mathlib.Core.Path.{_≡_, sym, ap, _∙_}
+use Prim.Native.Nat.{_≤_, _-_, _+_}
+use native.Mathlib.Omega.{arith}
 use borrow.Author.Needs.{needs}
-use lib.Dec.{ltb}
-use Rattle.file.specs.Inner.Reading.{kindAt}
-use Rattle.file.proofs.Stretches.{any-count}
+use Rattle.rules.specs.Lists.{any}
+use Rattle.file.specs.Inner.Reading.{kindAt, isKind}
+use Rattle.file.proofs.Stretches.{any-none, any-on, any-at}
 use Rattle.file.proofs.slots.has_kind.Statement.{statement}
 use Rattle.file.proofs.slots.has_kind.Tie as tie
 
-count-kind-requires : tie.Need-count-kind-requires
-count-kind-requires c κs = search needs
+abbrev Inv-loop : tie.InvT-loop
+Inv-loop file kind a k i₀ i = (i ≤ k) × (any (kindAt file kind) a i ≡ false)
 
-returns : tie.Need-returns
+abbrev μ-loop : tie.MeasureT-loop
+μ-loop file kind a k i₀ i = k - i
+
+loop-holds : tie.Need-loop-holds Inv-loop μ-loop
+loop-holds c = (search needs, any-none _ _)
+
+add-slot-at : tie.Need-add-slot-at Inv-loop μ-loop
+add-slot-at c = search needs
+
+slot-at-requires : tie.Need-slot-at-requires Inv-loop μ-loop
+slot-at-requires c κs = search needs
+
+is-kind-requires : tie.Need-is-kind-requires Inv-loop μ-loop
+is-kind-requires c κs = search needs
+
+returns : tie.Need-returns Inv-loop μ-loop
 returns c =
-    let args = c .before .before .args in
-    ap (ltb 0) (c .count-kind .ensures) ∙ any-count (kindAt (args .file .now) (args .kind)) (args .a) (args .k)
+    let args = c .before .before .before .before .before .before .args in
+    let loop = c .before .before .before .before .loop in
+    let is-kind = ap (isKind (args .kind)) (sym (c .before .before .slot-at .ensures)) ∙ sym (c .before .is-kind .ensures) in
+    sym (any-at (kindAt (args .file .now) (args .kind)) (args .a) (args .k) (args .a + loop .i) (omega arith) (omega arith) (is-kind ∙ c .if1 .taken))
+
+add-i : tie.Need-add-i Inv-loop μ-loop
+add-i c = search needs
+
+loop-less : tie.Need-loop-less Inv-loop μ-loop
+loop-less c = search needs
+
+loop-again : tie.Need-loop-again Inv-loop μ-loop
+loop-again c =
+    let args = c .before .before .before .before .before .before .args in
+    let loop = c .before .before .before .before .loop in
+    let is-kind = ap (isKind (args .kind)) (sym (c .before .before .slot-at .ensures)) ∙ sym (c .before .is-kind .ensures) in
+    (search needs, any-on (kindAt (args .file .now) (args .kind)) (args .a) (loop .i) (loop .inv .1) (is-kind ∙ c .if1 .left))
+
+returns-2 : tie.Need-returns-2 Inv-loop μ-loop
+returns-2 c = let done : c .before .loop .i ≡ c .before .before .before .args .k = omega arith in sym (rw done at (c .before .loop .inv .1))
 
 pub has-kind-spec : {M : Type 1} → statement M
-has-kind-spec = tie.close (tie.spec count-kind-requires returns)
+has-kind-spec =
+    tie.close
+    (tie.spec
+    Inv-loop
+    μ-loop
+    loop-holds
+    add-slot-at
+    slot-at-requires
+    is-kind-requires
+    returns
+    add-i
+    loop-less
+    loop-again
+    returns-2)
