@@ -1,6 +1,6 @@
 -- Tests, counts and searches over a stretch of places, and what a turn of a loop adds to them.
-use mathlib.Core.Path.{_≡_, refl, sym, ap, _∙_}
-use mathlib.Core.Bool.{Bool, true, false, cond, _&&_, _||_}
+use mathlib.Core.Path.{_≡_, refl, sym, ap, ap₂, _∙_}
+use mathlib.Core.Bool.{Bool, true, false, _&&_, _||_}
 use mathlib.Core.Logic.{⊎-elim}
 use Prim.Native.Nat.{ℕ, zero, suc, _+_, _-_, _≤_, _<_}
 use native.Mathlib.Nat.{add-suc, suc-add, add-zero, zero-add, not-suc-le-zero, le-of-suc-le-suc, eq-or-lt-of-le}
@@ -8,7 +8,7 @@ use native.Mathlib.Numerals.{add-one}
 use native.Mathlib.Omega.{arith}
 use Rattle.rules.specs.Lists.{sum, any}
 use Rattle.rules.proofs.Logic.{and-parts}
-use Rattle.file.specs.Lists.{all, count}
+use Rattle.file.specs.Lists.{all}
 use Rattle.file.proofs.Logic.{both, or-true}
 
 all-each : (p : ℕ → Bool) (a k : ℕ) → all p a k ≡ true → (i : ℕ) → i < k → p (a + i) ≡ true
@@ -42,11 +42,9 @@ pub sum-none : (f : ℕ → ℕ) (a : ℕ) → sum f a 0 ≡ 0
 unfolding sum
 sum-none f a = refl
 
-pub count-yes : (p : ℕ → Bool) (a i : ℕ) → p (a + i) ≡ true → count p a i + 1 ≡ count p a (i + 1)
-count-yes p a i e = sym (sum-more (λ x. cond (p x) 1 0) a i ∙ rw e)
-
-pub count-no : (p : ℕ → Bool) (a i : ℕ) → p (a + i) ≡ false → count p a i ≡ count p a (i + 1)
-count-no p a i e = sym (sum-more (λ x. cond (p x) 1 0) a i ∙ rw (e, add-zero))
+-- n is the sum of the first i places, and m what the next one adds
+pub summed-on : (f : ℕ → ℕ) (i n m : ℕ) → n ≡ sum f 0 i → m ≡ f i → n + m ≡ sum f 0 (i + 1)
+summed-on f i n m e g = ap₂ _+_ e (g ∙ ap f (sym (zero-add i))) ∙ sym (sum-more f 0 i)
 
 -- the test of what is left, from i up to k
 all-step : (p : ℕ → Bool) (i k : ℕ) → i < k → all p i (k - i) ≡ (p i && all p (i + 1) (k - (i + 1)))

@@ -9,7 +9,6 @@ mod writer;
 ghost use mathlib.Core.Path.{_≡_};
 ghost use Rattle.file.specs.Reader.{tablesOk, figuresOk, readFile, tablesPart};
 ghost use Rattle.file.specs.Inner.Reading.{Ready};
-use crate::slots::Kind;
 
 // The figures of a file's trailer: first day number, D, L, M, counts of A, S and N slots, sum.
 pub struct Figures {
@@ -51,25 +50,21 @@ fn figures_ok(file: &[u8], g: Figures) -> bool
     requires { ⌜ Ready (now file) g ⌝ }
     ensures { λ r. ⌜ r ≡ figuresOk (now (file .entry)) g ⌝ }
 {
-    let n = trailer::slot_count(g);
-    let actuals = slots::count_kind(file, Kind::Actual, 0, n);
+    let found = slots::totals(file, trailer::slot_count(g));
     let actual = g.actual as usize;
-    if actuals != actual {
+    if found.actual != actual {
         return false;
     }
-    let substitutes = slots::count_kind(file, Kind::Substituted, 0, n);
     let substituted = g.substituted as usize;
-    if substitutes != substituted {
+    if found.substituted != substituted {
         return false;
     }
-    let nones = slots::count_kind(file, Kind::None, 0, n);
     let none = g.none as usize;
-    if nones != none {
+    if found.none != none {
         return false;
     }
-    let values = slots::sum_values(file, 0, n);
     let sum = g.sum;
-    values == sum
+    found.sum == sum
 }
 
 // A file's figures, or the number that it is refused with.

@@ -1,5 +1,6 @@
 // The slot table: its records, their counts and their sums.
 use crate::fields;
+ghost use mathlib.Core.Bool.{cond};
 ghost use mathlib.Core.Path.{_≡_};
 ghost use Prim.Native.Nat.{_+_, _*_, _≤_};
 ghost use lib.ListN.{length};
@@ -7,6 +8,7 @@ ghost use Rattle.rules.specs.Lists.{sum, any};
 ghost use Rattle.rules.specs.Spans.{isScaled};
 ghost use Rattle.file.specs.Lists.{all, count};
 ghost use Rattle.file.specs.Reader.{slotAt, recordOk};
+ghost use Rattle.file.specs.declared.slots.Kind.the-variants.{Actual, Substituted, None};
 ghost use Rattle.file.specs.Inner.Reading.{isKind, kindAt};
 
 // A record of the slot table.
@@ -16,7 +18,7 @@ pub struct SlotRecord {
     pub method: u8,
 }
 
-// The slots that are counted: of a letter, or scaled, or S and not scaled.
+// The slots that are looked for or counted: of a letter, or scaled, or S and not scaled.
 pub enum Kind {
     Actual,
     Substituted,
@@ -93,22 +95,6 @@ pub fn records_ok(file: &[u8], k: usize) -> bool
     true
 }
 
-// How many of the `k` slots from slot `a` are of a kind.
-pub fn count_kind(file: &[u8], kind: Kind, a: usize, k: usize) -> usize
-    requires { ⌜ 6 * (a + k) ≤ length (now file) ⌝ }
-    ensures { λ r. ⌜ r ≡ count (kindAt (now (file .entry)) kind) a k ⌝ }
-{
-    let mut n: usize = 0;
-    let mut i = 0;
-    while i < k {
-        if is_kind(kind, slot_at(file, a + i)) {
-            n += 1;
-        }
-        i += 1;
-    }
-    n
-}
-
 // One of the `k` slots from slot `a` is of a kind.
 pub fn has_kind(file: &[u8], kind: Kind, a: usize, k: usize) -> bool
     requires { ⌜ 6 * (a + k) ≤ length (now file) ⌝ }
@@ -137,4 +123,48 @@ pub fn sum_values(file: &[u8], a: usize, k: usize) -> u64
         i += 1;
     }
     n
+}
+
+// The counts of A, S and N slots, and the sum of all values.
+pub struct Counted {
+    pub actual: usize,
+    pub substituted: usize,
+    pub none: usize,
+    pub sum: u64,
+}
+
+// 1 for a slot of a kind.
+fn one(kind: Kind, slot: SlotRecord) -> usize
+    ensures { λ r. ⌜ (r ≡ cond (isKind kind slot) 1 0) × (r ≤ 1) ⌝ }
+{
+    if is_kind(kind, slot) {
+        return 1;
+    }
+    0
+}
+
+// The totals of the first `k` slots.
+pub fn totals(file: &[u8], k: usize) -> Counted
+    requires { ⌜ (6 * k ≤ length (now file)) × (k ≤ 115200) ⌝ }
+    ensures { λ r. ⌜ (r .actual ≡ count (kindAt (now (file .entry)) Actual) 0 k) × (r .substituted ≡ count (kindAt (now (file .entry)) Substituted) 0 k) × (r .none ≡ count (kindAt (now (file .entry)) None) 0 k) × (r .sum ≡ sum (λ i. slotAt (now (file .entry)) i .value) 0 k) ⌝ }
+{
+    let mut actual: usize = 0;
+    let mut substituted: usize = 0;
+    let mut none: usize = 0;
+    let mut energy: u64 = 0;
+    let mut i = 0;
+    while i < k {
+        let slot = slot_at(file, i);
+        actual += one(Kind::Actual, slot);
+        substituted += one(Kind::Substituted, slot);
+        none += one(Kind::None, slot);
+        energy += slot.value as u64;
+        i += 1;
+    }
+    Counted {
+        actual: actual,
+        substituted: substituted,
+        none: none,
+        sum: energy,
+    }
 }
