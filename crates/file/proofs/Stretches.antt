@@ -72,9 +72,12 @@ pub any-none : (p : ℕ → Bool) (a : ℕ) → any p a 0 ≡ false
 unfolding any
 any-none p a = refl
 
-pub any-on : (p : ℕ → Bool) (a k : ℕ) → any p a k ≡ false → p (a + k) ≡ false → any p a (k + 1) ≡ false
+pub any-more : (p : ℕ → Bool) (a k : ℕ) → any p a (k + 1) ≡ (any p a k || p (a + k))
 unfolding any
-any-on p a k e f = rw (add-one, e, f)
+any-more p a k = rw add-one
+
+pub any-on : (p : ℕ → Bool) (a k : ℕ) → any p a k ≡ false → p (a + k) ≡ false → any p a (k + 1) ≡ false
+any-on p a k e f = any-more p a k ∙ rw (e, f)
 
 -- a place that passes is found
 pub any-at : (p : ℕ → Bool) (a k i : ℕ) → a ≤ i → i < a + k → p i ≡ true → any p a k ≡ true

@@ -1,6 +1,6 @@
 // The slot table: its records, their counts and their sums.
 use crate::fields;
-ghost use mathlib.Core.Bool.{cond};
+ghost use mathlib.Core.Bool.{cond, _||_};
 ghost use mathlib.Core.Path.{_≡_};
 ghost use Prim.Native.Nat.{_+_, _*_, _≤_};
 ghost use lib.ListN.{length};
@@ -8,7 +8,7 @@ ghost use Rattle.rules.specs.Lists.{sum, any};
 ghost use Rattle.rules.specs.Spans.{isScaled};
 ghost use Rattle.file.specs.Lists.{all, count};
 ghost use Rattle.file.specs.Reader.{slotAt, recordOk};
-ghost use Rattle.file.specs.declared.slots.Kind.the-variants.{Actual, Substituted, None};
+ghost use Rattle.file.specs.declared.slots.Kind.the-variants.{Actual, Substituted, None, Scaled, Unscaled};
 ghost use Rattle.file.specs.Inner.Reading.{isKind, kindAt};
 
 // A record of the slot table.
@@ -110,19 +110,52 @@ pub fn has_kind(file: &[u8], kind: Kind, a: usize, k: usize) -> bool
     false
 }
 
-// The sum of the values of the `k` slots from slot `a`.
-pub fn sum_values(file: &[u8], a: usize, k: usize) -> u64
-    requires { ⌜ (6 * (a + k) ≤ length (now file)) × (k ≤ 115200) ⌝ }
-    ensures { λ r. ⌜ r ≡ sum (λ i. slotAt (now (file .entry)) i .value) a k ⌝ }
+// Which kinds of slots a span has, and the sum of its values.
+pub struct Tally {
+    pub none: bool,
+    pub scaled: bool,
+    pub unscaled: bool,
+    pub substituted: bool,
+    pub sum: u64,
+}
+
+// One was found before, or the slot is of the kind.
+fn also(found: bool, kind: Kind, slot: SlotRecord) -> bool
+    ensures { λ r. ⌜ r ≡ (found || isKind kind slot) ⌝ }
 {
-    let mut n: u64 = 0;
+    if found {
+        return true;
+    }
+    is_kind(kind, slot)
+}
+
+// The tally of the `k` slots from slot `a`.
+pub fn tally_of(file: &[u8], a: usize, k: usize) -> Tally
+    requires { ⌜ (6 * (a + k) ≤ length (now file)) × (k ≤ 115200) ⌝ }
+    ensures { λ r. ⌜ (r .none ≡ any (kindAt (now (file .entry)) None) a k) × (r .scaled ≡ any (kindAt (now (file .entry)) Scaled) a k) × (r .unscaled ≡ any (kindAt (now (file .entry)) Unscaled) a k) × (r .substituted ≡ any (kindAt (now (file .entry)) Substituted) a k) × (r .sum ≡ sum (λ i. slotAt (now (file .entry)) i .value) a k) ⌝ }
+{
+    let mut none = false;
+    let mut scaled = false;
+    let mut unscaled = false;
+    let mut substituted = false;
+    let mut energy: u64 = 0;
     let mut i = 0;
     while i < k {
         let slot = slot_at(file, a + i);
-        n += slot.value as u64;
+        none = also(none, Kind::None, slot);
+        scaled = also(scaled, Kind::Scaled, slot);
+        unscaled = also(unscaled, Kind::Unscaled, slot);
+        substituted = also(substituted, Kind::Substituted, slot);
+        energy += slot.value as u64;
         i += 1;
     }
-    n
+    Tally {
+        none: none,
+        scaled: scaled,
+        unscaled: unscaled,
+        substituted: substituted,
+        sum: energy,
+    }
 }
 
 // The counts of A, S and N slots, and the sum of all values.

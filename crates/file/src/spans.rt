@@ -127,14 +127,15 @@ fn state_ok(file: &[u8], g: Figures, j: usize) -> bool
     let n = trailer::per_day(g);
     let a = s.first as usize * n;
     let k = (s.last - s.first) as usize * n;
-    let sum = slots::sum_values(file, a, k);
+    let found = slots::tally_of(file, a, k);
+    let sum = found.sum;
     let r = s.advance as u64;
     state_rule(
         s.state,
-        slots::has_kind(file, Kind::None, a, k),
-        slots::has_kind(file, Kind::Scaled, a, k),
-        slots::has_kind(file, Kind::Unscaled, a, k),
-        slots::has_kind(file, Kind::Substituted, a, k),
+        found.none,
+        found.scaled,
+        found.unscaled,
+        found.substituted,
         sum == r,
     )
 }

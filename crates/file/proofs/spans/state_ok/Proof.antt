@@ -27,79 +27,33 @@ mul-a : tie.Need-mul-a
 mul-a c = rw (c .before .before .span-at .ensures, c .before .per-day .ensures .0) (omega (arith, inside (c .before .before .before .before)))
 
 sub-k : tie.Need-sub-k
-sub-k c =
-    let args = c .before .before .before .before .before .args in
-    let pre = c .before .before .before .before .before .pre in
-    let span-at = c .before .before .before .span-at in
-    rw (span-at .ensures) (omega (arith, ordered (tablesAt (args .file .now) (args .g)) (args .j) (pre .2)))
+sub-k c = rw (c .before .before .before .span-at .ensures) (omega (arith, ordered (tablesAt (c .before .before .before .before .before .args .file .now) (c .before .before .before .before .before .args .g)) (c .before .before .before .before .before .args .j) (c .before .before .before .before .before .pre .2)))
 
 cast-k : tie.Need-cast-k
 cast-k c = search needs
 
 mul-k : tie.Need-mul-k
-mul-k c =
-    let before = c .before .before .before .before .before in
-    let span-at = c .before .before .before .span-at in
-    let per-day = c .before .before .per-day in
-    rw (span-at .ensures, per-day .ensures .0) (omega (arith, inside before))
+mul-k c = rw (c .before .before .before .span-at .ensures, c .before .before .per-day .ensures .0) (omega (arith, inside (c .before .before .before .before .before)))
 
-sum-values-requires : tie.Need-sum-values-requires
-sum-values-requires c κs =
-    let before = c .before .before .before .before .before in
-    let span-at = c .before .before .before .span-at in
-    let per-day = c .before .before .per-day in
-    rw (span-at .ensures, per-day .ensures .0) (omega (arith, inside before))
+tally-of-requires : tie.Need-tally-of-requires
+tally-of-requires c κs = rw (c .before .before .before .span-at .ensures, c .before .before .per-day .ensures .0) (omega (arith, inside (c .before .before .before .before .before)))
 
 cast-r : tie.Need-cast-r
 cast-r c = search needs
-
-has-kind-requires : tie.Need-has-kind-requires
-has-kind-requires c κs =
-    let before = c .before .before .before .before .before .before .before in
-    let span-at = c .before .before .before .before .before .span-at in
-    let per-day = c .before .before .before .before .per-day in
-    rw (span-at .ensures, per-day .ensures .0) (omega (arith, inside before))
-
-has-kind-requires-2 : tie.Need-has-kind-requires-2
-has-kind-requires-2 c κs =
-    let before = c .before .before .before .before .before .before .before .before in
-    let span-at = c .before .before .before .before .before .before .span-at in
-    let per-day = c .before .before .before .before .before .per-day in
-    rw (span-at .ensures, per-day .ensures .0) (omega (arith, inside before))
-
-has-kind-requires-3 : tie.Need-has-kind-requires-3
-has-kind-requires-3 c κs =
-    let before = c .before .before .before .before .before .before .before .before .before in
-    let span-at = c .before .before .before .before .before .before .before .span-at in
-    let per-day = c .before .before .before .before .before .before .per-day in
-    rw (span-at .ensures, per-day .ensures .0) (omega (arith, inside before))
-
-has-kind-requires-4 : tie.Need-has-kind-requires-4
-has-kind-requires-4 c κs =
-    let before = c .before .before .before .before .before .before .before .before .before .before in
-    let span-at = c .before .before .before .before .before .before .before .before .span-at in
-    let per-day = c .before .before .before .before .before .before .before .per-day in
-    rw (span-at .ensures, per-day .ensures .0) (omega (arith, inside before))
 
 state-rule-requires : tie.Need-state-rule-requires
 state-rule-requires c κs = search needs
 
 returns : tie.Need-returns
 unfolding stateOk
-returns c =
-    let span-at = c .before .before .before .before .before .before .before .before .before .before .span-at in
-    let per-day = c .before .before .before .before .before .before .before .before .before .per-day in
-    let sum-values = c .before .before .before .before .before .before .sum-values in
-    let has-kind = c .before .before .before .before .has-kind in
-    let has-kind2 = c .before .before .before .has-kind2 in
-    let has-kind3 = c .before .before .has-kind3 in
-    let s = span-at .ensures in
-    let n = per-day .ensures .0 in
+returns c = let s = c .before .before .before .before .before .before .span-at .ensures in
+    let n = c .before .before .before .before .before .per-day .ensures .0 in
+    let e = c .before .before .tally-of .ensures in
     c .state-rule .ensures
     ∙ rule-same (ap (λ x. x .state) s)
-    (rw (s, n) at (has-kind .ensures)) (rw (s, n) at (has-kind2 .ensures))
-    (rw (s, n) at (has-kind3 .ensures)) (rw (s, n) at (c .before .has-kind4 .ensures))
-    (rw (s, n) at (sum-values .ensures)) (ap (λ x. x .advance) s)
+    (rw (s, n) at (e .0)) (rw (s, n) at (e .1))
+    (rw (s, n) at (e .2)) (rw (s, n) at (e .3))
+    (rw (s, n) at (e .4)) (ap (λ x. x .advance) s)
 
 pub state-ok-spec : {M : Type 1} → statement M
 state-ok-spec =
@@ -112,11 +66,7 @@ state-ok-spec =
     sub-k
     cast-k
     mul-k
-    sum-values-requires
+    tally-of-requires
     cast-r
-    has-kind-requires
-    has-kind-requires-2
-    has-kind-requires-3
-    has-kind-requires-4
     state-rule-requires
     returns)
