@@ -104,10 +104,6 @@ module _ (h : Head) (s : Slots) where
 
 -- a pass at slot i
 module _ (h : Head) (s : Slots) (p : Fills) (i : ℕ) (e : p ≡ fillsAt h s i) where
-  pub fills-place : p .at ≡ i
-  unfolding fillsAt
-  fills-place = ap (λ (q : Fills). q .at) e
-
   pub fills-outage : (n : ℕ) → n ≡ slotCount h → p .outage ≡ zeroBefore (s .versions) (s .statuses) n i
   unfolding fillsAt
   fills-outage n l = rw l (ap (λ (q : Fills). q .outage) e)

@@ -40,11 +40,6 @@ module _ (h : Head) (bounds : Bounded h) (b : Cells) where
   positive : 0 < slotsPerDay h
   positive = omega (arith, bounds .day-low)
 
-  -- the slots of a span are among the book's
-  pub last-slot : (s : Span) → Neighbours h b s → start h b (s .first) (s .last) + slotsIn h b (s .first) (s .last) ≤ slotCount h
-  unfolding start slotsIn
-  last-slot s n = slots-within h (s .first) (s .last) (omega (arith, n .ordered)) (n .within)
-
   -- a slot of a span has the outcome that the span gives it
   pub in-span : (s : Span) → Neighbours h b s → (i : ℕ) → s .first * slotsPerDay h ≤ i → i < s .last * slotsPerDay h
       → outcomeAt h b i ≡ inSpan h b (s .first) (s .last) i
