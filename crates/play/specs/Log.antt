@@ -14,9 +14,6 @@ use Rattle.play.specs.Playing.{played, playedCells}
 unfoldable pub linesFrom : List ℕ → List ℕ → List Line
 linesFrom begun bytes = map lineOf (split 10 begun bytes)
 
-abbrev pub linesOf : List ℕ → List Line
-linesOf log = linesFrom [] log
-
 -- the run and the lists at the end, and the answers in order
 pub record Outcome : Type 0 where
   pub run : Run
