@@ -1,7 +1,6 @@
 // Small books: opened, filled by rows, published.
 use book::Opened;
-use file::publish;
-use file::publish::Published;
+use publishing::Published;
 use rules::Head;
 ghost use Prim.Native.Nat.{_≤_};
 
@@ -137,7 +136,7 @@ fn fill_and_publish(
         reads,
         rows,
     );
-    publish::publish(
+    publishing::publish(
         head,
         values,
         versions,

@@ -2,7 +2,7 @@
 use crate::books;
 use crate::say;
 use file::Verdict;
-use file::publish::Published;
+use publishing::Published;
 use rules::Head;
 
 // Every slot but 10 delivered as 100.

@@ -4,9 +4,6 @@ pub mod Lists
 pub mod Numbers
 pub mod Rows
 pub mod Written
-pub mod Totals
-pub mod Buffers
-pub mod Publishing
 pub mod Records
 pub mod Head
 pub mod Inside
@@ -16,8 +13,6 @@ pub mod Content
 pub mod Agree
 pub mod Fitting
 pub mod Accepted
-pub mod Booked
-pub mod Published
 pub mod Answers
 pub mod Canonical
 pub mod Whole

@@ -1,4 +1,3 @@
 -- What the contracts of inner functions say. No definition of 01's rules stands here.
 pub mod Reading
 pub mod Writing
-pub mod Publishing

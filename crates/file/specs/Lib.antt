@@ -2,5 +2,4 @@ pub mod Lists
 pub mod Layout
 pub mod Reader
 pub mod Contents
-pub mod Publishing
 pub mod Inner

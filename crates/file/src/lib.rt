@@ -1,10 +1,9 @@
-// The published file: its reader, and the parts of its writer (01, The published file).
+// The format of the published file: its reader, and the writing of its records (01, The published file).
 mod fields;
-pub mod publish;
 mod slots;
 mod spans;
 mod trailer;
-mod writer;
+pub mod writer;
 
 ghost use mathlib.Core.Path.{_≡_};
 ghost use Rattle.file.specs.Reader.{tablesOk, figuresOk, readFile, tablesPart};

@@ -8,8 +8,8 @@ use Rattle.rules.specs.declared.Head.{Head}
 use Rattle.file.specs.declared.Figures.{Figures}
 use Rattle.file.specs.declared.Verdict.{Verdict}
 use Rattle.file.specs.declared.Verdict.the-variants as verdict
-use Rattle.file.specs.declared.publish.Published.{Published}
-use Rattle.file.specs.declared.publish.Published.the-variants as published
+use Rattle.publishing.specs.declared.Published.{Published}
+use Rattle.publishing.specs.declared.Published.the-variants as published
 use Rattle.file.specs.Reader.{readFile}
 
 -- a head given as its seven numbers

@@ -2,8 +2,7 @@
 use book::Filed;
 use book::Opened;
 use file::Verdict;
-use file::publish;
-use file::publish::Published;
+use publishing::Published;
 use rules::Head;
 ghost use mathlib.Core.Path.{_≡_};
 ghost use lib.ListN.{length};
@@ -12,7 +11,7 @@ ghost use Rattle.book.specs.Answers.{openedMeant, filedMeant};
 ghost use Rattle.book.specs.Opening.{openAnswer, openAfter};
 ghost use Rattle.book.specs.Filling.{deliverAnswer, deliverAfter, holidayAnswer, holidayAfter, registerAnswer, registerAfter};
 ghost use Rattle.book.specs.Inner.Lent.{lentReads, HoldSlots, HoldCells};
-ghost use Rattle.file.specs.Publishing.{publishAnswer, publishAfter};
+ghost use Rattle.publishing.specs.Publishing.{publishAnswer, publishAfter};
 ghost use Rattle.file.specs.Reader.{tablesPart};
 ghost use Rattle.host.specs.Codes.{headOf, publishCode, readAnswer, figuresAfter};
 ghost use Rattle.book.specs.Answers.{answerCode};
@@ -209,7 +208,7 @@ pub extern "C" fn sawmauve_publish(
         ⌝ }
 {
     let head = head_of(year, month, day, days, interval, kind, tolerance);
-    published_code(publish::publish(
+    published_code(publishing::publish(
         head,
         values,
         versions,

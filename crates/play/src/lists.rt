@@ -1,8 +1,7 @@
 // Calls on the part of longer lists that a head asks for.
 use book::Filed;
 use book::Opened;
-use file::publish;
-use file::publish::Published;
+use publishing::Published;
 use log::line::Call;
 use rules::Head;
 use rules::opening;
@@ -13,7 +12,7 @@ ghost use Rattle.book.specs.Answers.{openedMeant, filedMeant};
 ghost use Rattle.book.specs.Filling.{deliverAnswer, deliverAfter, holidayAnswer, holidayAfter, registerAnswer, registerAfter, answer, after};
 ghost use Rattle.book.specs.Inner.Lent.{lentReads};
 ghost use Rattle.book.specs.Opening.{openAnswer, openAfter};
-ghost use Rattle.file.specs.Publishing.{publishAnswer, publishAfter};
+ghost use Rattle.publishing.specs.Publishing.{publishAnswer, publishAfter};
 ghost use Rattle.play.specs.Lists.{callMeant, slotsOf, slotsPart, daysPart, readsPart, partOf, withSlots, withDays, withReads, withPart};
 
 fn least(a: usize, b: usize) -> usize
@@ -207,7 +206,7 @@ pub fn publish(
     let d = least(days, holidays.len());
     let e = least(days + 1, readings.len());
     let f = least(days + 1, reads.len());
-    publish::publish(
+    publishing::publish(
         head,
         &values[..a],
         &versions[..b],

@@ -1,5 +1,5 @@
 // Plays the text log on standard input and writes the book's file to standard output.
-use file::publish::Published;
+use publishing::Published;
 use libc::STDERR_FILENO;
 use libc::STDOUT_FILENO;
 use play::console;

@@ -8,9 +8,9 @@ use lib.ListN.{length, drop}
 use Rattle.rules.specs.declared.Head.{Head}
 use Rattle.rules.specs.Opening.{Cells, headOk}
 use Rattle.book.specs.Cells.{cellsFit, cellsOk}
-use Rattle.file.specs.declared.publish.Published.the-variants as published
+use Rattle.publishing.specs.declared.Published.the-variants as published
 use Rattle.file.specs.Layout.{Content, fileOf}
-use Rattle.file.specs.Publishing.{published as publishedOf, fileLength, bytesAfter, publishAnswer, publishAfter}
+use Rattle.publishing.specs.Publishing.{published as publishedOf, fileLength, bytesAfter, publishAnswer, publishAfter}
 use Rattle.replay.specs.declared.Replayed.the-variants.{Refused, Length}
 use Rattle.replay.specs.Inner.Playing.{publishedMeant}
 

@@ -20,13 +20,13 @@ use Rattle.book.specs.Arguments.{Call}
 use Rattle.book.proofs.Agreement.{answers-agree, cells-agree}
 use Rattle.book.proofs.Order.{order-does-not-matter}
 use Rattle.book.proofs.Soundness.{cells-sound}
-use Rattle.file.specs.declared.publish.Published.the-variants.{Length, Refused}
+use Rattle.publishing.specs.declared.Published.the-variants.{Length, Refused}
 use Rattle.file.specs.Contents.{noSlot}
 use Rattle.file.specs.Layout.{Content, fileOf}
-use Rattle.file.specs.Publishing.{published, fileLength, bytesAfter, publishAnswer, publishAfter}
+use Rattle.publishing.specs.Publishing.{published, fileLength, bytesAfter, publishAnswer, publishAfter}
 use Rattle.file.proofs.Content.{length-file}
 use Rattle.file.proofs.Lists.{length-upTo, getD-upTo, upTo-cong}
-use Rattle.file.proofs.Published.{files-equal}
+use Rattle.publishing.proofs.Files.{files-equal}
 use Rattle.replay.proofs.Last.{answer-last}
 use Rattle.replay.specs.Claim.{cellsOf, plainOf, plainFile, noSpan, SameOutcomes, AcceptedIn, Claim}
 

@@ -14,9 +14,9 @@ use Rattle.book.specs.Arguments.{Call}
 use Rattle.book.specs.Opening.{opened}
 use Rattle.book.specs.Filling.{answers, afterAll}
 use Rattle.book.specs.Plain.{plainAnswers, keptOf, bookOf}
-use Rattle.file.specs.declared.publish.Published.the-variants.{Length, Refused}
+use Rattle.publishing.specs.declared.Published.the-variants.{Length, Refused}
 use Rattle.file.specs.Layout.{fileOf}
-use Rattle.file.specs.Publishing.{published, publishAnswer, publishAfter}
+use Rattle.publishing.specs.Publishing.{published, publishAnswer, publishAfter}
 
 -- what the calls leave in the six lists, and the plain book of the same calls
 abbrev pub cellsOf : Head → List Call → Cells

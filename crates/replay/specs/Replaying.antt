@@ -12,7 +12,7 @@ use Rattle.book.specs.Answers.Rule.{rule}
 use Rattle.book.specs.Cells.{cellsFit}
 use Rattle.book.specs.Plain.{plainAnswers, keptOf, bookOf}
 use Rattle.file.specs.Layout.{fileOf}
-use Rattle.file.specs.Publishing.{published, fileLength}
+use Rattle.publishing.specs.Publishing.{published, fileLength}
 use Rattle.replay.specs.declared.Replayed.{Replayed}
 use Rattle.replay.specs.declared.Replayed.the-variants.{Malformed, Refused, Length}
 use Rattle.replay.specs.Packing.{packedOk, unpack}

@@ -3,8 +3,7 @@ mod packing;
 mod playing;
 
 use book::Opened;
-use file::publish;
-use file::publish::Published;
+use publishing::Published;
 use rules::Head;
 ghost use mathlib.Core.Bool.{true};
 ghost use mathlib.Core.List.{map};
@@ -14,7 +13,7 @@ ghost use lib.ListN.{length};
 ghost use Rattle.rules.specs.Inner.Lent.{lentCells};
 ghost use Rattle.book.specs.Filling.{answers as answersOf, afterAll};
 ghost use Rattle.book.specs.Inner.Lent.{HoldCells};
-ghost use Rattle.file.specs.Publishing.{publishAnswer, publishAfter};
+ghost use Rattle.publishing.specs.Publishing.{publishAnswer, publishAfter};
 ghost use Rattle.replay.specs.Packing.{packedOk, unpack};
 ghost use Rattle.replay.specs.Replaying.{replayAnswer, answersAfter, cellsAfter, outAfter};
 ghost use Rattle.book.specs.Answers.{answerCode};
@@ -70,7 +69,7 @@ fn play_and_publish(
         readings,
         reads,
     );
-    told(publish::publish(
+    told(publishing::publish(
         head,
         values,
         versions,

@@ -1,7 +1,7 @@
 -- `play_and_publish`: publishing is given the cells that the calls left.
 use mathlib.Core.Path.{ap, _∙_}
 use Rattle.rules.specs.Opening.{Cells}
-use Rattle.file.specs.Publishing.{publishAnswer, publishAfter}
+use Rattle.publishing.specs.Publishing.{publishAnswer, publishAfter}
 use Rattle.replay.specs.Inner.Playing.{publishedMeant}
 use borrow.Author.Needs.{needs}
 use Rattle.replay.proofs.play_and_publish.Statement.{statement}

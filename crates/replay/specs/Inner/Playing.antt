@@ -1,6 +1,6 @@
 -- What a list of calls leaves from any cells, as the loop over it says.
-use Rattle.file.specs.declared.publish.Published.{Published}
-use Rattle.file.specs.declared.publish.Published.the-variants as published
+use Rattle.publishing.specs.declared.Published.{Published}
+use Rattle.publishing.specs.declared.Published.the-variants as published
 use Rattle.replay.specs.declared.Replayed.{Replayed}
 use Rattle.replay.specs.declared.Replayed.the-variants.{Refused, Length}
 

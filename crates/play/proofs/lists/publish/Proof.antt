@@ -1,7 +1,7 @@
 -- `play::lists::publish` meets its contract.
 use mathlib.Core.Path.{refl, ap, _∙_}
 use Rattle.rules.specs.Inner.Lent.{slots, cells}
-use Rattle.file.specs.Publishing.{publishAnswer, publishAfter}
+use Rattle.publishing.specs.Publishing.{publishAnswer, publishAfter}
 use Rattle.play.proofs.Parts.{cut, cells-lent}
 use borrow.Author.Needs.{needs}
 use Rattle.play.proofs.lists.publish.Statement.{statement}

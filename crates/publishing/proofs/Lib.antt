@@ -1,0 +1,5 @@
+pub mod Totals
+pub mod Buffers
+pub mod Publishing
+pub mod Booked
+pub mod Files

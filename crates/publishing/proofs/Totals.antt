@@ -1,0 +1,136 @@
+-- The trailer's counts and sum, slot by slot.
+use mathlib.Core.Bool.{Bool, true, false, cond}
+use mathlib.Core.List.{List, [], _∷_, _++_}
+use mathlib.Core.Path.{_≡_, refl, sym, ap, _∙_}
+use Prim.Native.Nat.{ℕ, zero, suc, _+_, _*_, _≤_}
+use native.Mathlib.Nat.{add-zero, zero-add}
+use native.Mathlib.Numerals.{add-one}
+use native.Mathlib.Omega.{arith}
+use Rattle.rules.specs.declared.Head.{Head}
+use Rattle.rules.specs.declared.Outcome.{Outcome}
+use Rattle.rules.specs.declared.Quality.{Quality}
+use Rattle.rules.specs.declared.Quality.the-variants.{A, S, N}
+use lib.ListN.{length, length-append}
+use Rattle.rules.specs.declared.pass.Pass.{Pass}
+use Rattle.rules.specs.declared.stretch.Begins.{Begins}
+use Rattle.rules.specs.Lists.{sum}
+use Rattle.rules.specs.Opening.{Cells, firstDay, slotCount}
+use Rattle.rules.specs.Spans.{isA, isS, isN, outcomeAt, upTo, outcomes, spans}
+use Rattle.rules.specs.Inner.Fills.{fillsAt}
+use Rattle.rules.specs.Inner.Stretches.{beginsAt}
+use Rattle.rules.specs.Inner.Passes.{passAt, listOf, begunBefore}
+use Rattle.rules.proofs.Bounds.{Bounded}
+use Rattle.rules.proofs.Outcomes.{outcome-fits}
+use Rattle.rules.proofs.Summaries.{sum-small}
+use Rattle.publishing.specs.declared.tables.Totals.{Totals}
+use Rattle.file.specs.Layout.{one, total, row, table, slotRow, spanRow, figuresOf}
+use Rattle.publishing.specs.Publishing.{published}
+use Rattle.publishing.specs.declared.tables.Progress.{Progress}
+use Rattle.file.specs.Inner.Writing.{written}
+use Rattle.publishing.specs.Inner.Publishing.{totalsOf, addedTo, firstSlots, progressAt, nextBytes}
+use Rattle.file.proofs.Lists.{total-sum}
+
+-- one element more
+pub upTo-snoc : {X : Type 0} (f : ℕ → X) (a k : ℕ) → upTo f a (suc k) ≡ upTo f a k ++ (f (a + k) ∷ [])
+unfolding upTo
+upTo-snoc {X} f a zero = ap (λ (x : X). x ∷ []) (ap f (sym (add-zero a)))
+upTo-snoc {X} f a (suc k) =
+    let e : suc a + k ≡ a + suc k = omega arith in
+    ap (λ (l : List X). f a ∷ l) (upTo-snoc f (suc a) k ∙ ap (λ (m : ℕ). upTo f (suc a) k ++ (f m ∷ [])) e)
+
+total-snoc : (g : Outcome → ℕ) (os : List Outcome) (o : Outcome) → total g (os ++ (o ∷ [])) ≡ total g os + g o
+unfolding total
+total-snoc g [] o = omega arith
+total-snoc g (x ∷ os) o = omega (arith, total-snoc g os o)
+
+module _ (h : Head) (b : Cells) (i : ℕ) where
+  pub slots-next : firstSlots h b (i + 1) ≡ firstSlots h b i ++ (outcomeAt h b i ∷ [])
+  slots-next = rw (add-one i) (rw zero-add at (upTo-snoc (outcomeAt h b) 0 i))
+
+  pub totals-next : totalsOf (firstSlots h b (i + 1)) ≡ addedTo (totalsOf (firstSlots h b i)) (outcomeAt h b i)
+  unfolding totalsOf addedTo
+  totals-next = rw slots-next (λ t. record {
+    actual = total-snoc (one isA) (firstSlots h b i) (outcomeAt h b i) t;
+    substituted = total-snoc (one isS) (firstSlots h b i) (outcomeAt h b i) t;
+    none = total-snoc (one isN) (firstSlots h b i) (outcomeAt h b i) t;
+    sum = total-snoc (λ o. o .value) (firstSlots h b i) (outcomeAt h b i) t;
+  })
+
+  one-low : (q : Quality → Bool) (o : Outcome) → one q o ≤ 1
+  one-low q o = go (q (o .quality))
+    where
+      go : (t : Bool) → cond t 1 0 ≤ 1
+      go true = omega arith
+      go false = omega arith
+
+  pub count-low : (q : Quality → Bool) → total (one q) (firstSlots h b i) ≤ i * 1
+  count-low q = rw (total-sum (one q) (outcomeAt h b) 0 i) (sum-small (λ j. one q (outcomeAt h b j)) 1 (λ j. one-low q (outcomeAt h b j)) 0 i)
+
+  pub sum-low : Bounded h → total (λ o. o .value) (firstSlots h b i) ≤ i * 100000000
+  sum-low w =
+      rw (total-sum (λ o. o .value) (outcomeAt h b) 0 i)
+      (sum-small (λ j. outcomeAt h b j .value) 100000000 (λ j. omega (arith, outcome-fits h w b j)) 0 i)
+
+-- `publish::add` goes by the slot's quality
+module _ (t : Totals) (o : Outcome) where
+  with : Quality → Outcome
+  with q = record { value = o .value; quality = q; method = o .method }
+
+  added : (q : Quality) → o .quality ≡ q → addedTo t (with q) ≡ addedTo t o
+  unfolding with
+  added q e = ap (λ (x : Quality). addedTo t (with x)) (sym e)
+
+  pub added-actual : o .quality ≡ A → record { actual = t .actual + 1; substituted = t .substituted; none = t .none; sum = t .sum + o .value } ≡ addedTo t o
+  unfolding addedTo with
+  added-actual e = simp add-zero refl ∙ added A e
+
+  pub added-substituted : o .quality ≡ S → record { actual = t .actual; substituted = t .substituted + 1; none = t .none; sum = t .sum + o .value } ≡ addedTo t o
+  unfolding addedTo with
+  added-substituted e = simp add-zero refl ∙ added S e
+
+  pub added-none : o .quality ≡ N → record { actual = t .actual; substituted = t .substituted; none = t .none + 1; sum = t .sum + o .value } ≡ addedTo t o
+  unfolding addedTo with
+  added-none e = simp add-zero refl ∙ added N e
+
+-- one slot on
+module _ (h : Head) (b : Cells) (i : ℕ) where
+  pub begun-next : begunBefore h b (i + 1) ≡ begunBefore h b i ++ listOf (beginsAt h b i)
+  unfolding begunBefore
+  begun-next = rw (add-one i)
+
+  spans-next : length (begunBefore h b (i + 1)) ≡ length (begunBefore h b i) + length (listOf (beginsAt h b i))
+  spans-next = ap length begun-next ∙ length-append (begunBefore h b i) (listOf (beginsAt h b i))
+
+  pub progress-next : (p : Progress) (pass : Pass) (spans : ℕ) (totals : Totals) (o : Outcome) (g : Begins) → p ≡ progressAt h b i → o ≡ outcomeAt h b i → g ≡ beginsAt h b i
+      → pass ≡ passAt h b (i + 1) → spans ≡ p .spans + length (listOf g) → totals ≡ addedTo (p .totals) o
+      → record { pass = pass; spans = spans; totals = totals } ≡ progressAt h b (i + 1)
+  unfolding progressAt
+  progress-next p pass spans totals o g e x y u v w =
+      let m : spans ≡ length (begunBefore h b (i + 1)) = v ∙ (rw (e, y) (sym spans-next)) in
+      let n : totals ≡ totalsOf (firstSlots h b (i + 1)) = w ∙ (rw (e, x) (sym (totals-next h b i))) in
+      λ t. record { pass = u t; spans = m t; totals = n t }
+
+  pub bytes-next : (d d₁ d₂ : List ℕ) (p : Progress) (place : ℕ) (o : Outcome) (g : Begins) → p ≡ progressAt h b i → o ≡ outcomeAt h b i → g ≡ beginsAt h b i → place ≡ 6 * slotCount h
+      → d₁ ≡ written d (6 * i) (row (slotRow o)) → d₂ ≡ written d₁ (place + 10 * p .spans) (table spanRow (listOf g)) → d₂ ≡ nextBytes h b d i
+  unfolding progressAt nextBytes
+  bytes-next d d₁ d₂ p place o g e x y z u v = v ∙ (rw (u, e, x, y, z))
+
+  -- where a progress stands
+  module _ (p : Progress) (e : p ≡ progressAt h b i) where
+    pub progress-place : p .pass .fills .at ≡ i
+    unfolding progressAt passAt fillsAt
+    progress-place = ap (λ (q : Progress). q .pass .fills .at) e
+
+    pub progress-here : p ≡ progressAt h b (p .pass .fills .at)
+    progress-here = e ∙ ap (progressAt h b) (sym progress-place)
+
+-- before slot 0
+pub progress-first : (h : Head) (b : Cells) (p : Pass) → p ≡ passAt h b 0 → record { pass = p; spans = 0; totals = record { actual = 0; substituted = 0; none = 0; sum = 0 } } ≡ progressAt h b 0
+unfolding progressAt begunBefore totalsOf total upTo
+progress-first h b p e = rw e
+
+-- the trailer's figures of what a book publishes
+pub figures-found : (h : Head) (b : Cells) (first spans₀ : ℕ) (t : Totals) → first ≡ firstDay h → spans₀ ≡ length (spans h b) → t ≡ totalsOf (outcomes h b)
+    → record { first = first; days = h .days; interval = h .interval; spans = spans₀; actual = t .actual; substituted = t .substituted; none = t .none; sum = t .sum } ≡ figuresOf (published h b)
+unfolding figuresOf published totalsOf
+figures-found h b first spans₀ t x y z = rw (x, y, z)

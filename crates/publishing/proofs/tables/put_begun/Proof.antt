@@ -1,0 +1,57 @@
+-- `tables::put_begun` writes a table of one span or of none.
+use mathlib.Core.Path.{sym, ap, _∙_}
+use Prim.Native.Nat.{_+_, _*_}
+use native.Mathlib.Omega.{arith}
+use lib.ListN.{length}
+use Rattle.rules.specs.declared.stretch.Begins.{Begins}
+use Rattle.rules.specs.Inner.Passes.{listOf}
+use Rattle.file.specs.Layout.{table, spanRow}
+use Rattle.file.specs.Inner.Writing.{written}
+use Rattle.publishing.proofs.Buffers.{table-one, written-none}
+use borrow.Author.Needs.{needs}
+use Rattle.publishing.proofs.tables.put_begun.Statement.{statement}
+use Rattle.publishing.proofs.tables.put_begun.Tie as tie
+
+enum-known-begins : tie.Need-enum-known-begins
+enum-known-begins c = search needs
+
+mul-put-span : tie.Need-mul-put-span
+mul-put-span c = search needs
+
+add-put-span : tie.Need-add-put-span
+add-put-span c = search needs
+
+put-span-requires : tie.Need-put-span-requires
+put-span-requires c κs = omega (arith, c .before .before .before .before .before .pre, ap (λ (x : Begins). length (listOf x)) (c .before .before .begins .given .1))
+
+add-result : tie.Need-add-result
+add-result c = search needs
+
+enum-told : tie.Need-enum-told
+enum-told c = search needs
+
+same-length : tie.Need-same-length
+same-length c = search needs
+
+returns : tie.Need-returns
+returns c = let e = c .before .before .before .before .before .begins .given .1 in
+    (omega (arith, ap (λ (x : Begins). length (listOf x)) e), c .before .before .put-span .ensures ∙ ap (written (c .before .before .before .before .before .before .before .before .args .out .now) (c .before .before .before .before .before .before .before .before .args .at + 10 * c .before .before .before .before .before .before .before .before .args .count)) (sym (table-one spanRow (c .before .before .before .before .before .begins .given .0 .0)) ∙ ap (λ (x : Begins). table spanRow (listOf x)) (sym e)))
+
+returns-2 : tie.Need-returns-2
+unfolding table
+returns-2 c = let e = c .enum-told .given .1 in
+    (omega (arith, ap (λ (x : Begins). length (listOf x)) e), sym (ap (λ (x : Begins). written (c .before .before .before .args .out .now) (c .before .before .before .args .at + 10 * c .before .before .before .args .count) (table spanRow (listOf x))) e ∙ written-none (c .before .before .before .args .out .now) (c .before .before .before .args .at + 10 * c .before .before .before .args .count)))
+
+pub put-begun-spec : {M : Type 1} → statement M
+put-begun-spec =
+    tie.close
+    (tie.spec
+    enum-known-begins
+    mul-put-span
+    add-put-span
+    put-span-requires
+    add-result
+    enum-told
+    same-length
+    returns
+    returns-2)

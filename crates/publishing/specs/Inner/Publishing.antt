@@ -1,0 +1,84 @@
+-- What the functions that publish know between two slots.
+use mathlib.Core.Bool.{true}
+use mathlib.Core.Path.{_≡_}
+use mathlib.Core.List.{List}
+use Prim.Native.Nat.{ℕ, _+_, _*_, _≤_, _<_}
+use lib.ListN.{length}
+use Rattle.rules.specs.declared.Head.{Head}
+use Rattle.rules.specs.declared.Outcome.{Outcome}
+use Rattle.rules.specs.Opening.{Cells, headOk, slotCount}
+use Rattle.rules.specs.Spans.{isA, isS, isN, outcomeAt, upTo, spans}
+use Rattle.rules.specs.Inner.Lent.{Whole}
+use Rattle.rules.specs.Inner.Stretches.{beginsAt}
+use Rattle.rules.specs.Inner.Passes.{passAt, listOf, begunBefore}
+use Rattle.book.specs.Cells.{cellsFit, cellsOk}
+use Rattle.publishing.specs.declared.Published.{Published}
+use Rattle.publishing.specs.declared.tables.Totals.{Totals}
+use Rattle.publishing.specs.declared.tables.Progress.{Progress}
+use Rattle.file.specs.Layout.{one, total, row, table, slotRow, spanRow}
+use Rattle.publishing.specs.Publishing.{publishAnswer, publishAfter}
+use Rattle.file.specs.Inner.Writing.{written}
+
+-- the trailer's counts and sum of a list of outcomes
+unfoldable pub totalsOf : List Outcome → Totals
+totalsOf os = record {
+  actual = total (one isA) os;
+  substituted = total (one isS) os;
+  none = total (one isN) os;
+  sum = total (λ o. o .value) os;
+}
+
+-- one outcome more
+unfoldable pub addedTo : Totals → Outcome → Totals
+addedTo t o = record {
+  actual = t .actual + one isA o;
+  substituted = t .substituted + one isS o;
+  none = t .none + one isN o;
+  sum = t .sum + o .value;
+}
+
+-- the outcomes of the first i slots
+abbrev pub firstSlots : Head → Cells → ℕ → List Outcome
+firstSlots h b i = upTo (outcomeAt h b) 0 i
+
+unfoldable pub progressAt : Head → Cells → ℕ → Progress
+progressAt h b i =
+    record { pass = passAt h b i; spans = length (begunBefore h b i); totals = totalsOf (firstSlots h b i) }
+
+-- a buffer d with the records of the first i slots, and of the spans that begin at them
+unfoldable pub bufferAt : Head → Cells → List ℕ → ℕ → List ℕ
+bufferAt h b d i =
+    written (written d 0 (table slotRow (firstSlots h b i))) (6 * slotCount h) (table spanRow (begunBefore h b i))
+
+-- d with the records of slot i and of the span that begins at it
+unfoldable pub nextBytes : Head → Cells → List ℕ → ℕ → List ℕ
+nextBytes h b d i =
+    written (written d (6 * i) (row (slotRow (outcomeAt h b i)))) (6 * slotCount h + 10 * length (begunBefore h b i))
+    (table spanRow (listOf (beginsAt h b i)))
+
+-- cells that publishing does not refuse
+pub record Sound (h : Head) (b : Cells) : Type 0 where
+  pub head : headOk h ≡ true
+  pub fit : cellsFit h b ≡ true
+  pub cells : cellsOk h b ≡ true
+
+-- what publishing answers, and leaves of a buffer d
+abbrev pub Left : Head → Cells → List ℕ → Published → List ℕ → Type 0
+Left h b d p e = (p ≡ publishAnswer h b d) × (e ≡ publishAfter h b d)
+
+-- such cells, and room for the file
+pub record Roomy (h : Head) (b : Cells) (d : List ℕ) : Type 0 where
+  pub whole : Whole h b
+  pub room : 6 * slotCount h + 10 * length (spans h b) + 32 ≤ length d
+
+-- before slot `pass .fills .at`, with the span table from byte `table` on
+pub record Next (h : Head) (b : Cells) (d : List ℕ) (table : ℕ) (here : Progress) : Type 0 where
+  pub roomy : Roomy h b d
+  pub place : table ≡ 6 * slotCount h
+  pub inside : here .pass .fills .at < slotCount h
+  pub known : here ≡ progressAt h b (here .pass .fills .at)
+
+-- one slot on: its record and that of the span that begins at it are written
+pub record PutNext (h : Head) (b : Cells) (d e : List ℕ) (here next : Progress) : Type 0 where
+  pub bytes : e ≡ nextBytes h b d (here .pass .fills .at)
+  pub known : next ≡ progressAt h b (here .pass .fills .at + 1)

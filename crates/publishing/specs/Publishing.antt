@@ -1,0 +1,50 @@
+-- What publishing answers, and what it leaves in the buffer (01, The published file; Numbers of a refusal).
+use mathlib.Core.Bool.{cond, not}
+use mathlib.Core.List.{List, [], _∷_, _++_}
+use Prim.Native.Nat.{ℕ, _+_, _*_}
+use lib.Dec.{ltb}
+use lib.ListN.{length, drop}
+use Rattle.rules.specs.declared.Head.{Head}
+use Rattle.rules.specs.Opening.{Cells, headOk, firstDay}
+use Rattle.rules.specs.Spans.{outcomes, spans}
+use Rattle.book.specs.Answers.{Rule}
+use Rattle.book.specs.Answers.Rule.{rule}
+use Rattle.book.specs.Cells.{cellsFit, cellsOk}
+use Rattle.publishing.specs.declared.Published.{Published}
+use Rattle.publishing.specs.declared.Published.the-variants.{Length, Refused}
+use Rattle.file.specs.Layout.{Content, fileOf}
+
+-- what a book publishes: its slots' outcomes and its spans'
+unfoldable pub published : Head → Cells → Content
+published h b = record {
+  first = firstDay h;
+  days = h .days;
+  interval = h .interval;
+  slots = outcomes h b;
+  spans = spans h b;
+}
+
+-- 6N + 10M + 32
+unfoldable pub fileLength : Head → Cells → ℕ
+fileLength h b = 6 * length (outcomes h b) + 10 * length (spans h b) + 32
+
+-- the first broken rule's number, or the length
+abbrev pub lengthUnless : List Rule → ℕ → Published
+lengthUnless [] n = Length n
+lengthUnless (rule k broken ∷ rules) n = cond broken (Refused k) (lengthUnless rules n)
+
+-- 11, of all cells, goes before 7
+unfoldable pub publishAnswer : Head → Cells → List ℕ → Published
+publishAnswer h b out =
+    lengthUnless
+    (rule 1 (not (headOk h)) ∷ rule 2 (not (cellsFit h b)) ∷ rule 11 (not (cellsOk h b))
+    ∷ rule 7 (ltb (length out) (fileLength h b)) ∷ [])
+    (fileLength h b)
+
+-- the file stands in the first bytes; bytes after it, and all on a refusal, stay
+abbrev pub bytesAfter : Published → Content → List ℕ → List ℕ
+bytesAfter (Length n) f out = fileOf f ++ drop n out
+bytesAfter (Refused k) f out = out
+
+unfoldable pub publishAfter : Head → Cells → List ℕ → List ℕ
+publishAfter h b out = bytesAfter (publishAnswer h b out) (published h b) out

@@ -1,0 +1,172 @@
+// Publishing: a book's outcomes written as a file (01, The published file).
+mod tables;
+
+use book::lengths;
+use book::sound;
+use file::Figures;
+use file::writer;
+use rules::Head;
+use rules::opening;
+use rules::readings;
+ghost use mathlib.Core.Bool.{true};
+ghost use mathlib.Core.List.{_++_};
+ghost use mathlib.Core.Path.{_≡_};
+ghost use Prim.Native.Nat.{_+_, _*_, _≤_};
+ghost use lib.ListN.{length, drop};
+ghost use Rattle.rules.specs.Opening.{headOk, slotCount};
+ghost use Rattle.rules.specs.Spans.{spans as spansOf};
+ghost use Rattle.rules.specs.Inner.Lent.{lentCells};
+ghost use Rattle.book.specs.Cells.{cellsFit};
+ghost use Rattle.file.specs.Layout.{fileOf};
+ghost use Rattle.publishing.specs.Publishing.{published, fileLength, publishAnswer, publishAfter};
+ghost use Rattle.publishing.specs.Inner.Publishing.{Sound, Roomy, Left};
+
+// The length of the file, or the refusal's number.
+pub enum Published {
+    Length(usize),
+    Refused(u8),
+}
+
+// The whole file into the first bytes of `out`.
+fn put_file(
+    head: Head,
+    values: &[u32],
+    versions: &[u32],
+    statuses: &[u8],
+    holidays: &[u8],
+    readings: &[u32],
+    reads: &[u32],
+    out: &mut [u8],
+    spans: usize,
+)
+    requires { ⌜ Roomy head (lentCells values versions statuses holidays readings reads) (now out) × (spans ≡ length (spansOf head (lentCells values versions statuses holidays readings reads))) ⌝ }
+    ensures { λ _. ⌜ now (out .exit) ≡ fileOf (published head (lentCells (values .entry) (versions .entry) (statuses .entry) (holidays .entry) (readings .entry) (reads .entry))) ++ drop (fileLength head (lentCells (values .entry) (versions .entry) (statuses .entry) (holidays .entry) (readings .entry) (reads .entry))) (now (out .entry)) ⌝ }
+{
+    let table = 6 * opening::slot_count(head);
+    let found = tables::put_tables(
+        head,
+        values,
+        versions,
+        statuses,
+        holidays,
+        readings,
+        reads,
+        out,
+        table,
+    );
+    let g = Figures {
+        first: opening::first_day(head),
+        days: head.days,
+        interval: head.interval,
+        spans: spans as u32,
+        actual: found.actual,
+        substituted: found.substituted,
+        none: found.none,
+        sum: found.sum,
+    };
+    writer::put_trailer(out, table + 10 * spans, g);
+}
+
+// The length of a file with so many spans.
+fn length_of(head: Head, spans: usize) -> usize
+    requires { ⌜ (headOk head ≡ true) × (spans ≤ 400) ⌝ }
+    ensures { λ r. ⌜ r ≡ 6 * slotCount head + 10 * spans + 32 ⌝ }
+{
+    6 * opening::slot_count(head) + 10 * spans + 32
+}
+
+// Writes the file of a book that is refused for a short buffer only.
+fn put_sound(
+    head: Head,
+    values: &[u32],
+    versions: &[u32],
+    statuses: &[u8],
+    holidays: &[u8],
+    readings: &[u32],
+    reads: &[u32],
+    out: &mut [u8],
+) -> Published
+    requires { ⌜ Sound head (lentCells values versions statuses holidays readings reads) ⌝ }
+    ensures { λ r. ⌜ Left head (lentCells (values .entry) (versions .entry) (statuses .entry) (holidays .entry) (readings .entry) (reads .entry)) (now (out .entry)) r (now (out .exit)) ⌝ }
+{
+    let spans = readings::span_count(reads);
+    let length = length_of(head, spans);
+    if out.len() < length {
+        return Published::Refused(7);
+    }
+    put_file(
+        head,
+        values,
+        versions,
+        statuses,
+        holidays,
+        readings,
+        reads,
+        out,
+        spans,
+    );
+    Published::Length(length)
+}
+
+// The six lists have the lengths that the head asks.
+fn lists_fit(
+    head: Head,
+    values: &[u32],
+    versions: &[u32],
+    statuses: &[u8],
+    holidays: &[u8],
+    readings: &[u32],
+    reads: &[u32],
+) -> bool
+    requires { ⌜ headOk head ≡ true ⌝ }
+    ensures { λ r. ⌜ r ≡ cellsFit head (lentCells (values .entry) (versions .entry) (statuses .entry) (holidays .entry) (readings .entry) (reads .entry)) ⌝ }
+{
+    lengths::cells_fit(
+        head,
+        values.len(),
+        versions.len(),
+        statuses.len(),
+        holidays.len(),
+        readings.len(),
+        reads.len(),
+    )
+}
+
+// Writes the file of a book into the first bytes of `out`.
+pub fn publish(
+    head: Head,
+    values: &[u32],
+    versions: &[u32],
+    statuses: &[u8],
+    holidays: &[u8],
+    readings: &[u32],
+    reads: &[u32],
+    out: &mut [u8],
+) -> Published
+    ensures { λ r. ⌜
+        (let cells =
+        lentCells (values .entry) (versions .entry) (statuses .entry) (holidays .entry) (readings .entry) (reads .entry) in
+        (r ≡ publishAnswer head cells (now (out .entry)))
+        × (now (out .exit) ≡ publishAfter head cells (now (out .entry))))
+        ⌝ }
+{
+    if !opening::head_ok(head) {
+        return Published::Refused(1);
+    }
+    if !lists_fit(head, values, versions, statuses, holidays, readings, reads) {
+        return Published::Refused(2);
+    }
+    if !sound::cells_ok(head, values, versions, statuses, holidays, readings, reads) {
+        return Published::Refused(11);
+    }
+    put_sound(
+        head,
+        values,
+        versions,
+        statuses,
+        holidays,
+        readings,
+        reads,
+        out,
+    )
+}
