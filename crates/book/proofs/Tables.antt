@@ -1,30 +1,21 @@
 -- Tables f 0, f 1, ..: their length and places, and what one stored call changes in them.
-use mathlib.Core.Path.{_≡_, refl, sym, ap, _∙_, fun-ext}
+use mathlib.Core.Path.{_≡_, refl, ap, _∙_, fun-ext}
 use mathlib.Core.Bool.{Bool, true, false, cond}
 use mathlib.Core.List.{List, _∷_}
 use Prim.Native.Nat.{ℕ, zero, suc, _+_, _<_, _≤_}
-use native.Mathlib.Nat.{add-zero, zero-add, not-suc-le-zero, le-of-suc-le-suc}
+use native.Mathlib.Nat.{add-zero, zero-add}
 use native.Mathlib.Omega.{arith}
 use lib.Dec.{eqb}
-use lib.ListN.{length, getD, set, replicate}
+use lib.ListN.{getD, set, replicate}
 use borrow.Author.Tests.{eqb-true, eqb-false}
 use Rattle.rules.specs.Spans.{upTo}
+use Rattle.rules.proofs.Lists as lists
+pub use Rattle.rules.proofs.Lists.{length-upTo}
 use Rattle.book.specs.Answers.{Answer, isStored}
 use Rattle.book.specs.Filling.{storedIn}
 
-pub length-upTo : {X : Type 0} (f : ℕ → X) (a n : ℕ) → length (upTo f a n) ≡ n
-unfolding upTo
-length-upTo f a zero = refl
-length-upTo f a (suc n) = ap suc (length-upTo f (suc a) n)
-
-pub getD-from : {X : Type 0} (f : ℕ → X) (d : X) (a n i : ℕ) → i < n → getD (upTo f a n) i d ≡ f (a + i)
-unfolding upTo
-getD-from f d a zero i lt = absurd (not-suc-le-zero lt)
-getD-from f d a (suc n) zero lt = ap f (sym (add-zero a))
-getD-from f d a (suc n) (suc i) lt = getD-from f d (suc a) n i (le-of-suc-le-suc lt) ∙ ap f (omega arith)
-
 pub getD-upTo : (f : ℕ → ℕ) (n i : ℕ) → i < n → getD (upTo f 0 n) i 0 ≡ f i
-getD-upTo f n i lt = getD-from f 0 0 n i lt ∙ ap f (zero-add i)
+getD-upTo f n i lt = lists.getD-upTo f 0 0 n i lt ∙ ap f (zero-add i)
 
 pub upTo-zero : (a n : ℕ) → replicate {A = ℕ} n 0 ≡ upTo (λ i. 0) a n
 unfolding upTo

@@ -21,7 +21,7 @@ use Rattle.publishing.specs.Inner.Publishing.{firstSlots, bufferAt, next
 use Rattle.file.specs.Inner.Writing.{written}
 use Rattle.file.proofs.Written.{length-written, written-more}
 use Rattle.file.proofs.Rows.{length-row, length-table}
-use Rattle.file.proofs.Lists.{length-upTo}
+use Rattle.rules.proofs.Lists.{length-upTo}
 use Rattle.publishing.proofs.Totals.{slots-next, begun-next}
 
 -- the bytes of d from place a up to place m

@@ -18,7 +18,7 @@ use Rattle.file.specs.Layout.{figuresOf, tablesOf, fileOf}
 use Rattle.file.specs.Reader.{headTests as trailerHead, readFile, tablesPart}
 use Rattle.file.specs.Contents.{Fitting, WellFormed, noSlot, slot, slotRecord, recordsOf}
 use Rattle.publishing.specs.Publishing.{published}
-use Rattle.file.proofs.Lists.{length-upTo, getD-upTo}
+use Rattle.rules.proofs.Lists.{length-upTo, getD-upTo}
 use Rattle.file.proofs.Content.{injective}
 use Rattle.file.proofs.Agree.{Agree, tables-agree}
 use Rattle.file.proofs.Fitting.{fitting}

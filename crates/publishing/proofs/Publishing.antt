@@ -26,7 +26,7 @@ use Rattle.publishing.specs.Publishing.{published, fileLength, publishAn
 use Rattle.publishing.specs.declared.Published.the-variants.{Length, Refused}
 use Rattle.file.specs.Layout.{fileOf}
 use Rattle.publishing.specs.Inner.Publishing.{Sound, Left}
-use Rattle.file.proofs.Lists.{length-upTo}
+use Rattle.rules.proofs.Lists.{length-upTo}
 
 module _ (h : Head) (b : Cells) (s : Sound h b) where
   -- a reading that is no fault is one of an eight-digit dial

@@ -21,22 +21,22 @@ pub record Bounded (h : Head) : Type 0 where
   pub day-low : 48 ≤ slotsPerDay h
   pub day-high : slotsPerDay h ≤ 288
 
-module _ (h : Head) where
-  -- the interval is 5, 15 or 30
-  lengths : intervalOk (h .interval) ≡ true → (5 ≤ h .interval) × (h .interval ≤ 30) × (48 ≤ slotsPerDay h) × (slotsPerDay h ≤ 288)
-  unfolding intervalOk slotsPerDay
-  lengths e =
-      ⊎-elim (λ x. of 5 x (lit≤ tt) (lit≤ tt) (lit≤ tt) (lit≤ tt))
-      (λ d. ⊎-elim (λ x. of 15 x (lit≤ tt) (lit≤ tt) (lit≤ tt) (lit≤ tt)) (λ x. of 30 x (lit≤ tt) (lit≤ tt) (lit≤ tt) (lit≤ tt)) (or-parts _ _ d))
-      (or-parts _ _ e)
-    where
-      of : (l : ℕ) → eqb (h .interval) l ≡ true → 5 ≤ l → l ≤ 30 → 48 ≤ 1440 / l → 1440 / l ≤ 288 → (5 ≤ h .interval) × (h .interval ≤ 30) × (48 ≤ 1440 / h .interval) × (1440 / h .interval ≤ 288)
-      of l x p q r s = rw (eqb-true (h .interval) l x) (p, q, r, s)
+-- an interval is 5, 15 or 30
+pub interval-bounds : (interval : ℕ) → intervalOk interval ≡ true → (5 ≤ interval) × (interval ≤ 30) × (48 ≤ 1440 / interval) × (1440 / interval ≤ 288)
+unfolding intervalOk
+interval-bounds interval e =
+    ⊎-elim (λ x. of 5 x (lit≤ tt) (lit≤ tt) (lit≤ tt) (lit≤ tt))
+    (λ d. ⊎-elim (λ x. of 15 x (lit≤ tt) (lit≤ tt) (lit≤ tt) (lit≤ tt)) (λ x. of 30 x (lit≤ tt) (lit≤ tt) (lit≤ tt) (lit≤ tt)) (or-parts _ _ d))
+    (or-parts _ _ e)
+  where
+    of : (l : ℕ) → eqb interval l ≡ true → 5 ≤ l → l ≤ 30 → 48 ≤ 1440 / l → 1440 / l ≤ 288 → (5 ≤ interval) × (interval ≤ 30) × (48 ≤ 1440 / interval) × (1440 / interval ≤ 288)
+    of l x p q r s = rw (eqb-true interval l x) (p, q, r, s)
 
+module _ (h : Head) where
   pub bounded : headOk h ≡ true → Bounded h
-  unfolding headOk
+  unfolding headOk slotsPerDay
   bounded e =
-      let l = lengths (passed (headTests h) e 0) in
+      let l = interval-bounds (h .interval) (passed (headTests h) e 0) in
       let d = passed (headTests h) e 1 in
       record {
         interval-low = l .0;

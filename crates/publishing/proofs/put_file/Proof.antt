@@ -10,7 +10,7 @@ use Rattle.rules.specs.Inner.Lent.{slots, cells}
 use Rattle.rules.proofs.Bounds.{bounded, count-high}
 use Rattle.rules.proofs.Neighbours.{spans-few}
 use Rattle.publishing.specs.Publishing.{fileLength}
-use Rattle.file.proofs.Lists.{length-upTo}
+use Rattle.rules.proofs.Lists.{length-upTo}
 use Rattle.publishing.proofs.Totals.{figures-found}
 use borrow.Author.Needs.{needs}
 use Rattle.publishing.proofs.put_file.Statement.{statement}
