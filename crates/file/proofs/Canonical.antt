@@ -11,14 +11,14 @@ use lib.Seq.{take-add, take-all}
 use Rattle.rules.specs.declared.Quality.{Quality}
 use Rattle.rules.specs.declared.Quality.the-variants.{A, S, N}
 use Rattle.rules.specs.Lists.{sum}
-use Rattle.rules.specs.Spans.{isA, isS, isN, upTo}
+use Rattle.rules.specs.Spans.{isA, isS, isN, noSpan, upTo}
 use Rattle.rules.proofs.Logic.{passed}
 use Rattle.file.specs.declared.Figures.{Figures}
 use Rattle.file.specs.declared.Verdict.{Verdict}
 use Rattle.file.specs.declared.Verdict.the-variants.{Accepted}
 use Rattle.file.specs.Layout.{Content, letter, total, one, row, table, slotRow, spanRow, trailerRow, figuresOf, tablesOf, fileOf}
 use Rattle.file.specs.Reader.{num, byte, slotAt, spanAt, trailerAt, figures, slotCount, tablesAt, countOf, trailerTests, tableTests, figureTests, spanTests, spanOk, trailerOk, tablesOk, figuresOk, readFile, partOf, tablesPart}
-use Rattle.file.specs.Contents.{Bytes, WellFormed, slot, span, noSlot, noSpan, slotRecord, spanRecord, recordsOf, qualityOf, outcomeOf, spanOf, contentOf}
+use Rattle.file.specs.Contents.{Bytes, WellFormed, slot, span, noSlot, slotRecord, spanRecord, recordsOf, qualityOf, outcomeOf, spanOf, contentOf}
 use Rattle.file.proofs.Numbers.{num-one, num-lt, num-take, byte-take}
 use Rattle.file.proofs.Rows.{reads, row-reads, table-reads}
 use Rattle.file.proofs.Lists.{length-upTo, getD-upTo, upTo-cong}

@@ -8,10 +8,10 @@ use lib.Dec.{lit<}
 use lib.ListN.{length, length-append}
 use Rattle.rules.specs.declared.Quality.{Quality}
 use Rattle.rules.specs.declared.Quality.the-variants.{A, S, N}
-use Rattle.rules.specs.Spans.{upTo}
+use Rattle.rules.specs.Spans.{noSpan, upTo}
 use Rattle.file.specs.Layout.{Content, row, table, letter, slotRow, spanRow, trailerRow, figuresOf, tablesOf, fileOf}
 use Rattle.file.specs.Reader.{num, byte, slotAt, spanAt, trailerAt, figures, layout, distance, slotCount}
-use Rattle.file.specs.Contents.{Fitting, slot, span, noSlot, noSpan, slotRecord, spanRecord, qualityOf, outcomeOf, spanOf, contentOf}
+use Rattle.file.specs.Contents.{Fitting, slot, span, noSlot, slotRecord, spanRecord, qualityOf, outcomeOf, spanOf, contentOf}
 use Rattle.file.proofs.Numbers.{num-skip, num-one}
 use Rattle.file.proofs.Rows.{before, field, field-at, length-row, length-table, table-field}
 use Rattle.file.proofs.Lists.{upTo-list}

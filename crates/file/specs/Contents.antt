@@ -10,7 +10,7 @@ use Rattle.rules.specs.declared.Quality.{Quality}
 use Rattle.rules.specs.declared.Quality.the-variants.{A, S, N}
 use Rattle.rules.specs.declared.Span.{Span}
 use Rattle.rules.specs.Lists.{every}
-use Rattle.rules.specs.Spans.{upTo}
+use Rattle.rules.specs.Spans.{noSpan, upTo}
 use Rattle.file.specs.declared.Figures.{Figures}
 use Rattle.file.specs.declared.slots.SlotRecord.{SlotRecord}
 use Rattle.file.specs.declared.spans.SpanRecord.{SpanRecord}
@@ -24,9 +24,6 @@ Bytes bs = (i : ℕ) → getD bs i 0 < 256
 -- slot i and span j of a content
 abbrev pub noSlot : Outcome
 noSlot = record { value = 0; quality = N; method = 0 }
-
-abbrev pub noSpan : Span
-noSpan = record { first = 0; last = 0; advance = 0; state = 0 }
 
 abbrev pub slot : Content → ℕ → Outcome
 slot f i = getD (f .slots) i noSlot

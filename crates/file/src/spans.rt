@@ -6,8 +6,9 @@ use crate::slots::Kind;
 use crate::trailer;
 ghost use mathlib.Core.Path.{_≡_};
 ghost use mathlib.Core.Bool.{true};
+ghost use mathlib.Core.List.{[], _∷_};
 ghost use Prim.Native.Nat.{_-_, _*_, _<_};
-ghost use lib.Dec.{eqb, ltb};
+ghost use lib.Dec.{eqb, leb, ltb};
 ghost use Rattle.rules.specs.Lists.{every};
 ghost use Rattle.file.specs.Lists.{all, implies};
 ghost use Rattle.file.specs.Reader.{spanAt, slotCount, tablesAt, stateRule, spanOk, stateOk, outsideOk};
@@ -48,6 +49,19 @@ fn follows(file: &[u8], g: Figures, j: usize, first: u32) -> bool
     first == s.last
 }
 
+// R ≤ 99,999,999, state 0 to 3, last byte zero.
+fn fields_ok(s: SpanRecord) -> bool
+    ensures { λ r. ⌜ r ≡ every (leb (s .advance) 99999999 ∷ leb (s .state) 3 ∷ eqb (s .blank) 0 ∷ []) ⌝ }
+{
+    if 99_999_999 < s.advance {
+        return false;
+    }
+    if 3 < s.state {
+        return false;
+    }
+    s.blank == 0
+}
+
 fn span_ok(file: &[u8], g: Figures, j: usize) -> bool
     requires { ⌜ Ready (now file) g × (j < g .spans) ⌝ }
     ensures { λ r. ⌜ r ≡ spanOk (tablesAt (now (file .entry)) g) j ⌝ }
@@ -62,13 +76,7 @@ fn span_ok(file: &[u8], g: Figures, j: usize) -> bool
     if !follows(file, g, j, s.first) {
         return false;
     }
-    if 99_999_999 < s.advance {
-        return false;
-    }
-    if 3 < s.state {
-        return false;
-    }
-    s.blank == 0
+    fields_ok(s)
 }
 
 pub fn spans_ok(file: &[u8], g: Figures) -> bool

@@ -13,7 +13,7 @@ use Rattle.rules.specs.declared.Quality.the-variants.{S, N}
 use Rattle.rules.specs.declared.Span.{Span}
 use Rattle.rules.specs.Lists.{sum, any, every}
 use Rattle.rules.specs.Opening.{Cells, slotsPerDay}
-use Rattle.rules.specs.Spans.{isS, isN, isScaled, start, slotsIn, spanOf, outcomeAt, spans}
+use Rattle.rules.specs.Spans.{isS, isN, isScaled, start, slotsIn, spanOf, noSpan, outcomeAt, spans}
 use Rattle.rules.proofs.Bounds.{Bounded}
 use Rattle.rules.proofs.Forms.{Form}
 use Rattle.rules.proofs.Forms.Filled.{delivered, outage, linear, sameDay, nothing}
@@ -24,7 +24,7 @@ use Rattle.rules.proofs.States.{state-low, open-exactly, scaled-exactly, scaled
 use Rattle.rules.proofs.Sums.{any-cong}
 use Rattle.file.specs.Lists.{all, same, implies}
 use Rattle.file.specs.Reader.{Tables, ofQuality, scaled, unscaled as isUnscaled, startOf, slotsOf, has, recordOk, stateRule, spanOk, stateOk, outsideOk, tableTests}
-use Rattle.file.specs.Contents.{noSpan, slotRecord, spanRecord}
+use Rattle.file.specs.Contents.{slotRecord, spanRecord}
 use Rattle.file.proofs.Accepted.{Tests, testsS, testsN}
 use Rattle.file.proofs.Outside.{covers}
 use Rattle.file.proofs.Stretches.{at-all}

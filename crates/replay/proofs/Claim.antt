@@ -18,14 +18,13 @@ use Rattle.book.specs.Filling.{answers as answersOf, afterAll}
 use Rattle.book.proofs.Agreement.{answers-agree, cells-agree}
 use Rattle.book.proofs.Soundness.{cells-sound}
 use Rattle.publishing.specs.declared.Published.the-variants as published
-use Rattle.publishing.specs.Publishing.{fileLength, publishAnswer, publishAfter}
+use Rattle.publishing.specs.Publishing.{fileLength, lengthUnless, publishAnswer, publishAfter}
 use Rattle.replay.specs.declared.Replayed.{Replayed}
 use Rattle.replay.specs.declared.Replayed.the-variants.{Malformed, Refused}
 use Rattle.replay.specs.Packing.{unpack}
-use Rattle.replay.specs.Replaying.{packingOk, plainBook, isPlayed, lengthUnless, replayAnswer, answersAfter, cellsAfter, outAfter}
+use Rattle.replay.specs.Replaying.{packingOk, plainBook, isPlayed, publishedMeant, replayAnswer, answersAfter, cellsAfter, outAfter}
 use Rattle.book.specs.Answers.{answerCode}
-use Rattle.replay.specs.Inner.Playing.{publishedMeant}
-use Rattle.replay.proofs.Last.{told-last, bytes-last}
+use Rattle.replay.proofs.Last.{answer-last, bytes-last}
 
 -- opening is done exactly where neither rule is broken
 done-tests : (x y : Bool) → unless (rule 1 (not x) ∷ rule 2 (not y) ∷ []) done ≡ done → (x ≡ true) × (y ≡ true)
@@ -34,7 +33,7 @@ done-tests true false e = let z : _≡_ {A = ℕ} 0 1 = cc in absurd (omega arit
 done-tests false y e = let z : _≡_ {A = ℕ} 0 1 = cc in absurd (omega arith)
 
 refused-tests : (x y : Bool) (n : ℕ) (rules : List Rule) (m : ℕ) → unless (rule 1 (not x) ∷ rule 2 (not y) ∷ []) done ≡ refused n
-    → (Refused n ≡ lengthUnless (rule 1 (not x) ∷ rule 2 (not y) ∷ rules) m) × (every (x ∷ y ∷ []) ≡ false)
+    → (Refused n ≡ publishedMeant (lengthUnless (rule 1 (not x) ∷ rule 2 (not y) ∷ rules) m)) × (every (x ∷ y ∷ []) ≡ false)
 refused-tests true true n rules m e = let z : _≡_ {A = ℕ} 0 1 = cc in absurd (omega arith)
 refused-tests true false n rules m e = ((cc), refl)
 refused-tests false y n rules m e = ((cc), refl)
@@ -111,7 +110,7 @@ module _ {h : Head} {calls answers : List ℕ} {b : Cells} {out : List ℕ} wher
         let same = cells-agree h (unpack calls) in
         let sound = rw same at (cells-sound h (unpack calls)) in
         record {
-          answer = rw (good, t .0, t .1) (made .0 ∙ rw (new, same) (told-last h (plainBook h calls) out (t .0) (sound .0) (sound .1)));
+          answer = rw (good, t .0, t .1) (made .0 ∙ rw (new, same) (ap publishedMeant (answer-last h (plainBook h calls) out (t .0) (sound .0) (sound .1))));
           told = rw (good, t .0, t .1) (made .1 ∙ rw (new, answers-agree h (unpack calls)));
           cells = rw (good, t .0, t .1) (made .2 ∙ rw (new, same));
           bytes = rw (good, t .0, t .1) (made .3 ∙ rw (new, same) (bytes-last h (plainBook h calls) out (t .0) (sound .0) (sound .1)));

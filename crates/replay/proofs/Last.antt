@@ -11,20 +11,11 @@ use Rattle.book.specs.Cells.{cellsFit, cellsOk}
 use Rattle.publishing.specs.declared.Published.the-variants as published
 use Rattle.file.specs.Layout.{Content, fileOf}
 use Rattle.publishing.specs.Publishing.{published as publishedOf, fileLength, bytesAfter, publishAnswer, publishAfter}
-use Rattle.replay.specs.declared.Replayed.the-variants.{Refused, Length}
-use Rattle.replay.specs.Inner.Playing.{publishedMeant}
 
 module _ (h : Head) (b : Cells) (out : List ℕ) (good : headOk h ≡ true) (fit : cellsFit h b ≡ true) (ok : cellsOk h b ≡ true) where
   pub answer-last : publishAnswer h b out ≡ cond (ltb (length out) (fileLength h b)) (published.Refused 7) (published.Length (fileLength h b))
   unfolding publishAnswer
   answer-last = rw (good, fit, ok)
-
-  pub told-last : publishedMeant (publishAnswer h b out) ≡ cond (ltb (length out) (fileLength h b)) (Refused 7) (Length (fileLength h b))
-  told-last = rw answer-last (go (ltb (length out) (fileLength h b)) (fileLength h b))
-    where
-      go : (short : Bool) (n : ℕ) → publishedMeant (cond short (published.Refused 7) (published.Length n)) ≡ cond short (Refused 7) (Length n)
-      go true n = refl
-      go false n = refl
 
   pub bytes-last : publishAfter h b out
       ≡ cond (not (ltb (length out) (fileLength h b))) (fileOf (publishedOf h b) ++ drop (fileLength h b) out) out

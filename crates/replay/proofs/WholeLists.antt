@@ -14,7 +14,7 @@ use Rattle.rules.specs.declared.Head.{Head}
 use Rattle.rules.specs.declared.Outcome.{Outcome}
 use Rattle.rules.specs.declared.Span.{Span}
 use Rattle.rules.specs.Opening.{Cells, dayTests, headTests, headOk, firstDay, slotsPerDay, slotCount}
-use Rattle.rules.specs.Spans.{outcomeAt, upTo, outcomes, spans}
+use Rattle.rules.specs.Spans.{outcomeAt, noSpan, upTo, outcomes, spans}
 use Rattle.rules.proofs.Logic.{passed, either}
 use Rattle.book.specs.Arguments.{Call}
 use Rattle.book.proofs.Agreement.{answers-agree, cells-agree}
@@ -25,10 +25,10 @@ use Rattle.file.specs.Contents.{noSlot}
 use Rattle.file.specs.Layout.{Content, fileOf}
 use Rattle.publishing.specs.Publishing.{published, fileLength, bytesAfter, publishAnswer, publishAfter}
 use Rattle.file.proofs.Content.{length-file}
-use Rattle.file.proofs.Lists.{length-upTo, getD-upTo, upTo-cong}
+use Rattle.rules.proofs.Lists.{length-upTo, getD-upTo, upTo-cong}
 use Rattle.publishing.proofs.Files.{files-equal}
 use Rattle.replay.proofs.Last.{answer-last}
-use Rattle.replay.specs.Claim.{cellsOf, plainOf, plainFile, noSpan, SameOutcomes, AcceptedIn, Claim}
+use Rattle.replay.specs.Claim.{cellsOf, plainOf, plainFile, SameOutcomes, AcceptedIn, Claim}
 
 -- the file's length as publishing computes it
 long : (h : Head) (b : Cells) → fileLength h b ≡ length (fileOf (published h b))

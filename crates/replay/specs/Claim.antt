@@ -7,9 +7,8 @@ use Prim.Native.Nat.{ℕ, _<_}
 use lib.Dec.{ltb}
 use lib.ListN.{length, getD, drop}
 use Rattle.rules.specs.declared.Head.{Head}
-use Rattle.rules.specs.declared.Span.{Span}
 use Rattle.rules.specs.Opening.{Cells, slotCount}
-use Rattle.rules.specs.Spans.{outcomeAt, spans}
+use Rattle.rules.specs.Spans.{outcomeAt, noSpan, spans}
 use Rattle.book.specs.Arguments.{Call}
 use Rattle.book.specs.Opening.{opened}
 use Rattle.book.specs.Filling.{answers, afterAll}
@@ -28,10 +27,6 @@ plainOf h cs = bookOf h (keptOf h [] cs)
 -- 01's file of the plain book's outcomes
 abbrev pub plainFile : Head → List Call → List ℕ
 plainFile h cs = fileOf (published h (plainOf h cs))
-
--- past the last span
-abbrev pub noSpan : Span
-noSpan = record { first = 0; last = 0; advance = 0; state = 0 }
 
 -- first day, days and interval are equal, and the outcomes of two books slot by slot and span by span, with as many spans
 pub record SameOutcomes (h g : Head) (b c : Cells) : Type 0 where

@@ -1,4 +1,3 @@
 pub mod Claim
 pub mod Packing
 pub mod Replaying
-pub mod Inner

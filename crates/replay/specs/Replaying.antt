@@ -7,12 +7,14 @@ use lib.ListN.{length, drop}
 use Rattle.rules.specs.declared.Head.{Head}
 use Rattle.rules.specs.Lists.{every}
 use Rattle.rules.specs.Opening.{Cells, headOk}
-use Rattle.book.specs.Answers.{Rule, answerCode}
+use Rattle.book.specs.Answers.{answerCode}
 use Rattle.book.specs.Answers.Rule.{rule}
 use Rattle.book.specs.Cells.{cellsFit}
 use Rattle.book.specs.Plain.{plainAnswers, keptOf, bookOf}
 use Rattle.file.specs.Layout.{fileOf}
-use Rattle.publishing.specs.Publishing.{published, fileLength}
+use Rattle.publishing.specs.declared.Published.{Published}
+use Rattle.publishing.specs.declared.Published.the-variants as published
+use Rattle.publishing.specs.Publishing.{published as publishedOf, fileLength, lengthUnless}
 use Rattle.replay.specs.declared.Replayed.{Replayed}
 use Rattle.replay.specs.declared.Replayed.the-variants.{Malformed, Refused, Length}
 use Rattle.replay.specs.Packing.{packedOk, unpack}
@@ -29,19 +31,20 @@ plainBook h calls = bookOf h (keptOf h [] (unpack calls))
 unfoldable pub isPlayed : Head → List ℕ → List ℕ → Cells → Bool
 isPlayed h calls answers b = every (packingOk calls answers ∷ headOk h ∷ cellsFit h b ∷ [])
 
--- the first broken rule's number, or the length
-abbrev pub lengthUnless : List Rule → ℕ → Replayed
-lengthUnless [] n = Length n
-lengthUnless (rule k broken ∷ rules) n = cond broken (Refused k) (lengthUnless rules n)
+-- what publishing answers, as replaying does
+abbrev pub publishedMeant : Published → Replayed
+publishedMeant (published.Length n) = Length n
+publishedMeant (published.Refused k) = Refused k
 
 -- opening refuses with 1 and 2; publishing, which comes last, for a short buffer only
 unfoldable pub replayAnswer : Head → List ℕ → List ℕ → Cells → List ℕ → Replayed
 replayAnswer h calls answers b out =
     cond (packingOk calls answers)
+    (publishedMeant
     (lengthUnless
     (rule 1 (not (headOk h)) ∷ rule 2 (not (cellsFit h b))
     ∷ rule 7 (ltb (length out) (fileLength h (plainBook h calls))) ∷ [])
-    (fileLength h (plainBook h calls)))
+    (fileLength h (plainBook h calls))))
     Malformed
 
 -- the lent lists afterwards: where no call is made they stay
@@ -56,5 +59,5 @@ cellsAfter h calls answers b = cond (isPlayed h calls answers b) (plainBook h ca
 unfoldable pub outAfter : Head → List ℕ → List ℕ → Cells → List ℕ → List ℕ
 outAfter h calls answers b out =
     cond (isPlayed h calls answers b && not (ltb (length out) (fileLength h (plainBook h calls))))
-    (fileOf (published h (plainBook h calls)) ++ drop (fileLength h (plainBook h calls)) out)
+    (fileOf (publishedOf h (plainBook h calls)) ++ drop (fileLength h (plainBook h calls)) out)
     out

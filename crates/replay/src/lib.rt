@@ -17,7 +17,7 @@ ghost use Rattle.publishing.specs.Publishing.{publishAnswer, publishAfter};
 ghost use Rattle.replay.specs.Packing.{packedOk, unpack};
 ghost use Rattle.replay.specs.Replaying.{replayAnswer, answersAfter, cellsAfter, outAfter};
 ghost use Rattle.book.specs.Answers.{answerCode};
-ghost use Rattle.replay.specs.Inner.Playing.{publishedMeant};
+ghost use Rattle.replay.specs.Replaying.{publishedMeant};
 
 // Malformed is a bad packing; Refused is opening's number, or 7; Length is the file's.
 pub enum Replayed {

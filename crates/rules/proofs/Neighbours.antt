@@ -13,12 +13,8 @@ use lib.Seq.{getD-append-add}
 use Rattle.rules.specs.declared.Head.{Head}
 use Rattle.rules.specs.declared.Span.{Span}
 use Rattle.rules.specs.Opening.{Cells}
-use Rattle.rules.specs.Spans.{isRead, nextRead, spanOf, spanTo, spanFrom, spansFrom, spans}
+use Rattle.rules.specs.Spans.{isRead, nextRead, spanOf, noSpan, spanTo, spanFrom, spansFrom, spans}
 use Rattle.rules.proofs.Boundaries.{Next, next-tells, next-nearer, next-none}
-
--- what `getD` gives past the last span
-abbrev pub noSpan : Span
-noSpan = record { first = 0; last = 0; advance = 0; state = 0 }
 
 pub record Neighbours (h : Head) (b : Cells) (s : Span) : Type 0 where
   pub first-read : isRead (b .readVersions) (s .first) ≡ true

@@ -7,14 +7,14 @@ use lib.ListN.{length, getD}
 use Rattle.rules.specs.declared.Head.{Head}
 use Rattle.rules.specs.declared.Outcome.{Outcome}
 use Rattle.rules.specs.Opening.{Cells, slotsPerDay}
-use Rattle.rules.specs.Spans.{isScaled, advance, start, slotsIn, R, inSpan, spanOf, outcomeAt, spans}
+use Rattle.rules.specs.Spans.{isScaled, advance, start, slotsIn, R, inSpan, spanOf, noSpan, outcomeAt, spans}
 use Rattle.rules.proofs.Bounds.{Bounded}
 use Rattle.rules.proofs.Small.{filled-small}
 use Rattle.rules.proofs.Fillings.{spanned-by}
 use Rattle.rules.proofs.Forms.{Filled, Form, filled-form, scaled-form}
 use Rattle.rules.proofs.Forms.Filled.{delivered, outage, linear, sameDay, nothing}
 use Rattle.rules.proofs.Forms.Form.{unscaled}
-use Rattle.rules.proofs.Neighbours.{noSpan, span-found}
+use Rattle.rules.proofs.Neighbours.{span-found}
 use Rattle.rules.proofs.Scaling.{new-high}
 use Rattle.rules.proofs.Places.{Place, place, span-end}
 use Rattle.rules.proofs.Places.Place.{outside, inside}

@@ -129,6 +129,10 @@ module _ (h : Head) (b : Cells) (first last : ℕ) where
   unfoldable pub spanOf : Span
   spanOf = record { first = first; last = last; advance = R; state = stateOf }
 
+-- past the last span of a list
+abbrev pub noSpan : Span
+noSpan = record { first = 0; last = 0; advance = 0; state = 0 }
+
 -- a slot before the first or after the last boundary with a reading lies in no span
 unfoldable pub between : Head → Cells → Option ℕ → Option ℕ → ℕ → Outcome
 between h b (some first) (some last) i = inSpan h b first last i

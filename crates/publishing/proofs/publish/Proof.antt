@@ -3,44 +3,89 @@ use borrow.Author.Needs.{needs}
 use mathlib.Core.Bool.{true}
 use mathlib.Core.Path.{_≡_, sym, _∙_}
 use borrow.Author.Tests.{not-true, not-false}
-use Rattle.rules.specs.Opening.{headOk}
-use Rattle.rules.specs.Inner.Lent.{slots, cells}
+use Rattle.rules.specs.Opening.{Cells, headOk}
+use Rattle.rules.specs.Inner.Lent.{lentCells}
+use Rattle.rules.proofs.opening.head_ok.Reads as head-ok-reads
 use Rattle.book.specs.Cells.{cellsFit}
 use Rattle.publishing.proofs.Publishing.{refused-1, refused-2, refused-11}
+use Rattle.book.proofs.sound.cells_ok.Reads as cells-ok-reads
+use Rattle.publishing.proofs.lists_fit.Reads as lists-fit-reads
+use Rattle.publishing.proofs.put_sound.Reads as put-sound-reads
+use Rattle.publishing.proofs.publish.Reads as reads
+use Rattle.publishing.proofs.publish.Lts as lts
 use Rattle.publishing.proofs.publish.Statement.{statement}
 use Rattle.publishing.proofs.publish.Tie as tie
+
+abbrev claims : lts.Claims
+claims = (
+  head-ok-reads.Asked,
+  head-ok-reads.Learnt,
+  lists-fit-reads.Asked,
+  lists-fit-reads.Learnt,
+  cells-ok-reads.Asked,
+  cells-ok-reads.Learnt,
+  put-sound-reads.Asked,
+  put-sound-reads.Learnt,
+)
+
+abbrev Start : Type 0
+Start = lts.Start claims reads.Pre reads.Post
+
+abbrev lent : Start → Cells
+lent c = lentCells (c .args .values) (c .args .versions) (c .args .statuses) (c .args .holidays) (c .args .readings) (c .args .reads)
+
+-- ---- The tests that were passed
+
+abbrev Past1 : Type 0
+Past1 = lts.Else1 claims reads.Pre reads.Post
+
+abbrev Past2 : Type 0
+Past2 = lts.Else2 claims reads.Pre reads.Post
+
+abbrev from1 : Past1 → Start
+from1 c = c .before .before .before .before .before .before .before .before .before
+
+abbrev from2 : Past2 → Start
+from2 c = from1 (c .before .before)
+
+head-passed : (c : Past1) → headOk (from1 c .args .head) ≡ true
+head-passed c = sym (c .before .head-ok .ensures) ∙ not-false _ (c .if1 .left)
+
+lists-passed : (c : Past2) → cellsFit (from2 c .args .head) (lent (from2 c)) ≡ true
+lists-passed c = sym (c .before .lists-fit .ensures) ∙ not-false _ (c .if2 .left)
+
+-- ---- The needs
 
 head-ok-requires : tie.Need-head-ok-requires
 head-ok-requires c κs = search needs
 
 returns : tie.Need-returns
-returns c = let a = c .before .before .before .before .before .before .before .before .before .args in
-    let b = cells (slots (a .values .now) (a .versions .now) (a .statuses .now)) (a .holidays .now) (a .readings .now) (a .reads .now) in
-    refused-1 (a .head) b (a .out .now) (sym (c .before .head-ok .ensures) ∙ not-true _ (c .if1 .taken))
+returns c =
+    let start = c .before .before .before .before .before .before .before .before .before in
+    refused-1 (start .args .head) (lent start) (start .args .out .now) (sym (c .before .head-ok .ensures) ∙ not-true _ (c .if1 .taken))
 
 lists-fit-requires : tie.Need-lists-fit-requires
-lists-fit-requires c κs = sym (c .before .head-ok .ensures) ∙ not-false _ (c .if1 .left)
+lists-fit-requires c κs = head-passed c
 
 returns-2 : tie.Need-returns-2
-returns-2 c = let a = c .before .before .before .before .before .before .before .before .before .before .before .args in
-    let b = cells (slots (a .values .now) (a .versions .now) (a .statuses .now)) (a .holidays .now) (a .readings .now) (a .reads .now) in
-    let good : headOk (a .head) ≡ true = sym (c .before .before .before .head-ok .ensures) ∙ not-false _ (c .before .before .if1 .left) in
-    refused-2 (a .head) b (a .out .now) good (sym (c .before .lists-fit .ensures) ∙ not-true _ (c .if2 .taken))
+returns-2 c =
+    let start = from1 (c .before .before) in
+    refused-2 (start .args .head) (lent start) (start .args .out .now) (head-passed (c .before .before))
+    (sym (c .before .lists-fit .ensures) ∙ not-true _ (c .if2 .taken))
 
 cells-ok-requires : tie.Need-cells-ok-requires
-cells-ok-requires c κs = sym (c .before .lists-fit .ensures) ∙ not-false _ (c .if2 .left)
+cells-ok-requires c κs = lists-passed c
 
 returns-3 : tie.Need-returns-3
-returns-3 c = let a = c .before .before .before .before .before .before .before .before .before .before .before .before .before .args in
-    let b = cells (slots (a .values .now) (a .versions .now) (a .statuses .now)) (a .holidays .now) (a .readings .now) (a .reads .now) in
-    let good : headOk (a .head) ≡ true = sym (c .before .before .before .before .before .head-ok .ensures) ∙ not-false _ (c .before .before .before .before .if1 .left) in
-    let fit : cellsFit (a .head) b ≡ true = sym (c .before .before .before .lists-fit .ensures) ∙ not-false _ (c .before .before .if2 .left) in
-    refused-11 (a .head) b (a .out .now) good fit (sym (c .before .cells-ok .ensures) ∙ not-true _ (c .if3 .taken))
+returns-3 c =
+    let start = from2 (c .before .before) in
+    refused-11 (start .args .head) (lent start) (start .args .out .now) (head-passed (c .before .before .before .before))
+    (lists-passed (c .before .before)) (sym (c .before .cells-ok .ensures) ∙ not-true _ (c .if3 .taken))
 
 put-sound-requires : tie.Need-put-sound-requires
 put-sound-requires c κs = record {
-  head = sym (c .before .before .before .before .before .before .head-ok .ensures) ∙ not-false _ (c .before .before .before .before .before .if1 .left);
-  fit = sym (c .before .before .before .before .lists-fit .ensures) ∙ not-false _ (c .before .before .before .if2 .left);
+  head = head-passed (c .before .before .before .before .before);
+  fit = lists-passed (c .before .before .before);
   cells = sym (c .before .before .cells-ok .ensures) ∙ not-false _ (c .before .if3 .left);
 }
 

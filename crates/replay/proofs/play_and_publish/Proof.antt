@@ -2,7 +2,7 @@
 use mathlib.Core.Path.{ap, _∙_}
 use Rattle.rules.specs.Opening.{Cells}
 use Rattle.publishing.specs.Publishing.{publishAnswer, publishAfter}
-use Rattle.replay.specs.Inner.Playing.{publishedMeant}
+use Rattle.replay.specs.Replaying.{publishedMeant}
 use borrow.Author.Needs.{needs}
 use Rattle.replay.proofs.play_and_publish.Statement.{statement}
 use Rattle.replay.proofs.play_and_publish.Tie as tie

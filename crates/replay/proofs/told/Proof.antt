@@ -1,6 +1,6 @@
 -- `told`: the case of one enum for that of the other.
 use mathlib.Core.Path.{sym, ap}
-use Rattle.replay.specs.Inner.Playing.{publishedMeant}
+use Rattle.replay.specs.Replaying.{publishedMeant}
 use borrow.Author.Needs.{needs}
 use Rattle.replay.proofs.told.Statement.{statement}
 use Rattle.replay.proofs.told.Tie as tie

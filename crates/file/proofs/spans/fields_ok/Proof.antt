@@ -1,0 +1,18 @@
+-- `spans::fields_ok`: the tests in their order.
+use borrow.Author.Needs.{needs}
+use borrow.Author.Tests.{le-leb, lt-leb}
+use Rattle.file.proofs.Logic.{and-true}
+use Rattle.file.proofs.spans.fields_ok.Statement.{statement}
+use Rattle.file.proofs.spans.fields_ok.Tie as tie
+
+returns : tie.Need-returns
+returns c = simp (lt-leb _ _ (c .if1 .taken))
+
+returns-2 : tie.Need-returns-2
+returns-2 c = simp (le-leb _ _ (c .before .before .if1 .left), lt-leb _ _ (c .if2 .taken))
+
+returns-3 : tie.Need-returns-3
+returns-3 c = rw (le-leb _ _ (c .before .before .before .if1 .left), le-leb _ _ (c .before .if2 .left), and-true)
+
+pub fields-ok-spec : {M : Type 1} → statement M
+fields-ok-spec = tie.close (tie.spec returns returns-2 returns-3)
