@@ -114,5 +114,7 @@ if [ "$(wc -l < "$work/out")" -eq "$(grep -c '^[a-z]' "$work/large")" ]; then ok
 for program in publish answers; do
     "target/bin/$program" < / > "$work/out" 2> "$work/err"
     if [ ! -s "$work/out" ] && grep -q '^standard input: ' "$work/err"; then ok "a read that fails, $program"; else differs "a read that fails, $program"; fi
+    "target/bin/$program" <&- > "$work/out" 2> "$work/err"
+    if [ ! -s "$work/out" ] && grep -q '^standard input: ' "$work/err"; then ok "standard input closed, $program"; else differs "standard input closed, $program"; fi
 done
 exit $bad

@@ -1,7 +1,9 @@
 // Plays the text log on standard input and writes one answer a line to standard output.
 use libc::STDOUT_FILENO;
-use play::console;
 use play::program;
+use play::program::Lead;
+ghost use lib.ListN.{length};
+ghost use Rattle.play.specs.Inner.Feeding.{Held};
 
 // A file without a name, for a log has any length and nothing is written before its end is known to be good.
 fn temporary() -> i32 {
@@ -65,30 +67,37 @@ fn copy_all(fd: i32) {
     }
 }
 
-fn main() {
-    let mut values = [0u32; 115200];
-    let mut versions = [0u32; 115200];
-    let mut statuses = [0u8; 115200];
-    let mut holidays = [0u8; 400];
-    let mut readings = [0u32; 401];
-    let mut reads = [0u32; 401];
+// Plays a log on a book's lists, and writes its answers when its end is known to be good.
+fn answer_log(
+    lead: Lead,
+    block: &mut [u8],
+    part: &mut [u8],
+    values: &mut [u32],
+    versions: &mut [u32],
+    statuses: &mut [u8],
+    holidays: &mut [u8],
+    readings: &mut [u32],
+    reads: &mut [u32],
+)
+    requires { ⌜ Held (lead .first .source) (length (now block)) (length (now part)) ⌝ }
+{
     let fd = temporary();
     if fd < 0 {
         return;
     }
-    let end = program::play_input(
+    let end = program::play_log(
+        lead,
+        block,
+        part,
         fd,
-        &mut values,
-        &mut versions,
-        &mut statuses,
-        &mut holidays,
-        &mut readings,
-        &mut reads,
+        values,
+        versions,
+        statuses,
+        holidays,
+        readings,
+        reads,
     );
-    if !end.good {
-        return;
-    }
-    if !console::is_log(end.run) {
+    if !program::is_done(end) {
         return;
     }
     if libc::lseek(fd, 0, libc::SEEK_SET) < 0 {
@@ -96,4 +105,37 @@ fn main() {
         return;
     }
     copy_all(fd);
+}
+
+fn main() {
+    let mut values = [0u32; 115200];
+    let mut versions = [0u32; 115200];
+    let mut statuses = [0u8; 115200];
+    let mut holidays = [0u8; 400];
+    let mut readings = [0u32; 401];
+    let mut reads = [0u32; 401];
+    let mut block = io::large_buffer();
+    let mut part = [0u8; 257];
+    // Standard input is read before the temporary file is made, which would take its place where it is closed.
+    let lead = program::read_lead(&mut block, &mut part);
+    let first = lead.first;
+    if !first.good {
+        return;
+    }
+    let line = first.line;
+    let sizes = program::sizes_of(line);
+    let slots = sizes.slots;
+    let days = sizes.days;
+    let boundaries = sizes.boundaries;
+    answer_log(
+        lead,
+        &mut block,
+        &mut part,
+        &mut values[..slots],
+        &mut versions[..slots],
+        &mut statuses[..slots],
+        &mut holidays[..days],
+        &mut readings[..boundaries],
+        &mut reads[..boundaries],
+    );
 }

@@ -10,3 +10,4 @@ pub mod Soundness
 pub mod Cleared
 pub mod Fits
 pub mod Looked
+pub mod EachCall

@@ -4,6 +4,8 @@ use Prim.Native.Nat.{ℕ}
 use lib.Dec.{leb, ltb, eqb}
 use Rattle.rules.specs.declared.Head.{Head}
 use Rattle.rules.specs.Opening.{slotCount}
+use Rattle.book.specs.declared.calls.Call as coded
+use Rattle.book.specs.declared.calls.Call.the-variants as call
 use Rattle.book.specs.Answers.{Rule}
 use Rattle.book.specs.Answers.Rule.{rule}
 
@@ -14,6 +16,12 @@ pub data Call : Type 0 where
   holiday : ℕ → Call
   -- boundary, version, reading
   register : ℕ → ℕ → ℕ → Call
+
+-- 01's call for each case of the enum
+abbrev pub callMeant : coded.Call → Call
+callMeant (call.Delivery slot version value status) = delivery slot version value status
+callMeant (call.Holiday day) = holiday day
+callMeant (call.Register boundary version reading) = register boundary version reading
 
 -- 3 slot ≥ N, day ≥ D or boundary > D; 4 version 0; 5 status over 7; 6 reading over 99,999,999
 unfoldable pub argumentRules : Head → Call → List Rule

@@ -1,4 +1,5 @@
 // The calls that open and fill a book (01, Opening; The three calls that fill it).
+pub mod calls;
 pub mod cells;
 mod filing;
 pub mod lengths;

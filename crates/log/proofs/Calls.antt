@@ -9,7 +9,7 @@ use lib.ListN.{length, getD, take, drop, List·getD-map}
 use lib.Seq.{getD-take, length-take-le, take-length}
 use Rattle.log.specs.declared.number.Date.the-variants as date
 use Rattle.log.specs.declared.line.Line.the-variants.{Passed, Open, Fill, NoCall}
-use Rattle.log.specs.declared.line.Call.the-variants.{Delivery, Holiday, Register}
+use Rattle.book.specs.declared.calls.Call.the-variants.{Delivery, Holiday, Register}
 use Rattle.log.specs.Numbers.{valueAfter, valueOf, isDate, dateOf, yearPart, monthPart, dayPart}
 use Rattle.log.specs.Words.{words, same, areNumbers}
 use Rattle.log.specs.Line.{openWord, deliveryWord, holidayWord, registerWord, openOf, deliveryOf, holidayOf, registerOf, callOf, withoutCr, isPassed, lineOf}

@@ -7,7 +7,7 @@ use lib.ListN.{length, getD, take}
 use Rattle.rules.specs.declared.Head.{Head}
 use Rattle.log.specs.declared.line.Line.{Line}
 use Rattle.log.specs.declared.line.Line.the-variants.{Passed, Open, Fill, NoCall}
-use Rattle.log.specs.declared.line.Call.the-variants.{Delivery, Holiday, Register}
+use Rattle.book.specs.declared.calls.Call.the-variants.{Delivery, Holiday, Register}
 use Rattle.log.specs.Numbers.{valueOf, isDate, yearPart, monthPart, dayPart}
 use Rattle.log.specs.Words.{words, same, areNumbers}
 

@@ -3,6 +3,7 @@ use crate::number;
 use crate::number::Date;
 use crate::pieces;
 use crate::words;
+use book::calls::Call;
 use rules::Head;
 ghost use mathlib.Core.Path.{_≡_};
 ghost use Prim.Native.Nat.{_≤_, min};
@@ -10,22 +11,6 @@ ghost use lib.ListN.{length};
 ghost use Rattle.log.specs.Words.{words as wordsOf};
 ghost use Rattle.log.specs.Line.{openOf, deliveryOf, holidayOf, registerOf, callOf, lineOf};
 ghost use Rattle.log.specs.Inner.Parsing.{piecesAfter, cutAt};
-
-// A call that fills a book.
-pub enum Call {
-    Delivery {
-        slot: u32,
-        version: u32,
-        value: u32,
-        status: u8,
-    },
-    Holiday(u32),
-    Register {
-        boundary: u32,
-        version: u32,
-        reading: u32,
-    },
-}
 
 // What a line is.
 pub enum Line {

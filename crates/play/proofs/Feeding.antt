@@ -6,16 +6,17 @@ use native.Mathlib.Numerals.{add-one}
 use native.Mathlib.Omega.{arith}
 use borrow.Author.Tests.{lt-ltb, le-ltb}
 use lib.ListN.{length, getD, take, drop, set, take-append-drop}
-use lib.Seq.{take-suc, take-suc-set, take-at, take-all, length-take-le, drop-length, take-length}
-use Rattle.rules.specs.Opening.{Cells}
+use lib.Seq.{take-suc, take-suc-set, take-at, take-all, length-take-le, take-length}
 use Rattle.log.specs.declared.line.Line.{Line}
-use Rattle.play.specs.declared.play.Run.{Run}
-use Rattle.play.specs.declared.play.Played.{Played}
-use Rattle.play.specs.declared.play.Said.the-variants.{Nothing}
 use Rattle.log.specs.Words.{split}
 use Rattle.log.specs.Line.{lineOf}
+use Rattle.rules.specs.Opening.{Cells}
+use Rattle.play.specs.declared.feed.Taken.the-variants.{Ended}
+use Rattle.play.specs.declared.play.Run.{Run}
 use Rattle.play.specs.Playing.{played, playedCells}
 use Rattle.play.specs.Log.{linesFrom, withAnswer, outcome}
+use Rattle.play.specs.declared.source.Source.{Source}
+use Rattle.play.specs.Inner.Feeding.{Stepped, Held}
 use Rattle.log.specs.Inner.Parsing.{piecesFrom}
 use Rattle.play.proofs.Alike.{alike, now-alike, lines-alike}
 
@@ -45,28 +46,28 @@ module _ (block : List ℕ) (at end cap : ℕ) (hand hand′ : List ℕ) (room :
   abbrev grown : List ℕ
   grown = hand ++ take (end - at) (drop at block)
 
-  line-goes-on : end ≡ length block → (more : List ℕ) → linesFrom hand (drop at block ++ more) ≡ linesFrom hand′ (drop end block ++ more)
+  pub line-goes-on : end ≡ length block → (more : List ℕ) → linesFrom hand (drop at block ++ more) ≡ linesFrom hand′ more
   unfolding linesFrom piecesFrom
   line-goes-on e more =
-      let none : drop end block ≡ [] = rw e (drop-length block) in
       let no : length block ≤ end = omega arith in
       let grows : split 10 hand (drop at block ++ more) ≡ split 10 grown more = rw (le-ltb _ _ no) at (pieces hand more) in
-      ap (map lineOf) grows ∙ rw (none, kept) (sym (lines-alike (take cap grown) grown more (alike cap grown room)))
+      ap (map lineOf) grows ∙ rw kept (sym (lines-alike (take cap grown) grown more (alike cap grown room)))
 
-  line-ends : end < length block → (more : List ℕ)
+  pub line-ends : end < length block → (more : List ℕ)
       → linesFrom hand (drop at block ++ more) ≡ lineOf hand′ ∷ linesFrom [] (drop (end + 1) block ++ more)
   unfolding linesFrom piecesFrom
   line-ends l more =
       let ends : split 10 hand (drop at block ++ more) ≡ grown ∷ split 10 [] (drop (end + 1) block ++ more) = rw (lt-ltb _ _ l) at (pieces hand more) in
       ap (map lineOf) ends ∙ rw kept (ap (λ (x : Line). x ∷ map lineOf (split 10 [] (drop (end + 1) block ++ more))) (sym (now-alike (take cap grown) grown (alike cap grown room))))
 
-  module _ (run : Run) (b : Cells) where
-    pub block-ends : end ≡ length block → (more : List ℕ)
-        → outcome run b (linesFrom hand (drop at block ++ more)) ≡ withAnswer Nothing (outcome run b (linesFrom hand′ (drop end block ++ more)))
-    unfolding withAnswer
-    block-ends e more = ap (outcome run b) (line-goes-on e more)
+-- a source in a block and a part that are as long
+pub held-as : {s : Source} {m n : ℕ} (m′ n′ : ℕ) → Held s m n → m ≡ m′ → n ≡ n′ → Held s m′ n′
+held-as m′ n′ h e f = record { order = h .order; inside = omega (arith, h .inside); room = omega (arith, h .room); held = omega (arith, h .held) }
 
-    pub line-played : (p : Played) (c : Cells) → end < length block → p ≡ played run b (lineOf hand′) → c ≡ playedCells run b (lineOf hand′) → (more : List ℕ)
-        → outcome run b (linesFrom hand (drop at block ++ more)) ≡ withAnswer (p .said) (outcome (p .run) c (linesFrom [] (drop (end + 1) block ++ more)))
-    unfolding outcome
-    line-played p c l f g more = rw (f, g) (ap (outcome run b) (line-ends l more))
+-- what a log comes to is what its line in hand does, and then what the bytes after it come to, wherever a block ends
+pub blocks-make-no-difference : (run : Run) (b : Cells) (block part part′ : List ℕ) (at count : ℕ) (line : Line) (next : ℕ)
+    → Stepped block at part part′ count (Ended line next) → (more : List ℕ)
+    → outcome run b (linesFrom (take count part) (drop at block ++ more))
+    ≡ withAnswer (played run b line .said) (outcome (played run b line .run) (playedCells run b line) (linesFrom [] (drop next block ++ more)))
+unfolding outcome
+blocks-make-no-difference run b block part part′ at count line next s more = ap (outcome run b) (s .same more)

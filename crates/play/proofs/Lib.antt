@@ -1,4 +1,3 @@
-pub mod Parts
 pub mod Played
 pub mod Alike
 pub mod Feeding

@@ -14,7 +14,6 @@ use Rattle.play.specs.declared.play.Stage.the-variants as stage
 use Rattle.play.specs.declared.play.Said.the-variants as said
 use Rattle.play.specs.declared.play.Run.{Run}
 use Rattle.play.specs.declared.play.Played.{Played}
-use Rattle.play.specs.Lists.{partOf, withPart}
 use Rattle.play.specs.Playing.{saidOf, counted, moved, stageOf, afterOpening, refusedAfter, afterFilling, playedClosed, closedCells, playedOpen, openCells, playedAt, played, cellsAt, playedCells}
 
 pub count-more : (n : ℕ) → n < 18446744073709551615 → n + 1 ≡ counted n
@@ -51,8 +50,8 @@ module _ (run : Run) (b : Cells) (l : Line) (p : Played) (c : Cells) where
     pub open-as : p ≡ playedOpen run b x → c ≡ openCells run b x → (p ≡ playedOpen run b l) × (c ≡ openCells run b l)
     open-as f g = rw e (f, g)
 
-  pub opening-as : (h : Head) (a : Answer) → l ≡ line.Open h → p ≡ afterOpening run h a → a ≡ openAnswer h (partOf h b)
-      → c ≡ withPart h (openAfter h (partOf h b)) b → (p ≡ playedClosed run b l) × (c ≡ closedCells b l)
+  pub opening-as : (h : Head) (a : Answer) → l ≡ line.Open h → p ≡ afterOpening run h a → a ≡ openAnswer h b
+      → c ≡ openAfter h b → (p ≡ playedClosed run b l) × (c ≡ closedCells b l)
   unfolding playedClosed closedCells
   opening-as h a e f g k = closed-as (line.Open h) e (f ∙ ap (afterOpening run h) g) k
 

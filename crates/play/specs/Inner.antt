@@ -1,3 +1,4 @@
 -- What the contracts of inner functions say.
 pub mod Feeding
 pub mod Console
+pub mod Sizes

@@ -1,4 +1,3 @@
-pub mod Lists
 pub mod Playing
 pub mod Log
 pub mod Texts

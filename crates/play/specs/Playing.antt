@@ -6,6 +6,7 @@ use Rattle.rules.specs.declared.Head.{Head}
 use Rattle.rules.specs.Opening.{Cells}
 use Rattle.book.specs.Answers.{Answer}
 use Rattle.book.specs.Answers.Answer.{done, stored, late, repeat, refused}
+use Rattle.book.specs.Arguments.{callMeant}
 use Rattle.book.specs.Filling.{answer, after}
 use Rattle.book.specs.Opening.{openAnswer, openAfter}
 use Rattle.log.specs.declared.line.Line.{Line}
@@ -16,7 +17,6 @@ use Rattle.play.specs.declared.play.Said.{Said}
 use Rattle.play.specs.declared.play.Said.the-variants as said
 use Rattle.play.specs.declared.play.Run.{Run}
 use Rattle.play.specs.declared.play.Played.{Played}
-use Rattle.play.specs.Lists.{callMeant, partOf, withPart}
 
 -- before the first line, where no head is known
 abbrev pub started : Run
@@ -83,13 +83,13 @@ afterFilling run a = record {
 -- before the opening: the first call line is an opening
 unfoldable pub playedClosed : Run → Cells → Line → Played
 playedClosed run b line.Passed = quiet run stage.Closed
-playedClosed run b (line.Open h) = afterOpening run h (openAnswer h (partOf h b))
+playedClosed run b (line.Open h) = afterOpening run h (openAnswer h b)
 playedClosed run b (line.Fill call) = quiet run stage.Unfit
 playedClosed run b line.NoCall = quiet run stage.Unfit
 
 unfoldable pub closedCells : Cells → Line → Cells
 closedCells b line.Passed = b
-closedCells b (line.Open h) = withPart h (openAfter h (partOf h b)) b
+closedCells b (line.Open h) = openAfter h b
 closedCells b (line.Fill call) = b
 closedCells b line.NoCall = b
 
@@ -97,13 +97,13 @@ closedCells b line.NoCall = b
 unfoldable pub playedOpen : Run → Cells → Line → Played
 playedOpen run b line.Passed = quiet run stage.Open
 playedOpen run b (line.Open h) = quiet run stage.Unfit
-playedOpen run b (line.Fill call) = afterFilling run (answer (run .head) (partOf (run .head) b) (callMeant call))
+playedOpen run b (line.Fill call) = afterFilling run (answer (run .head) b (callMeant call))
 playedOpen run b line.NoCall = quiet run stage.Unfit
 
 unfoldable pub openCells : Run → Cells → Line → Cells
 openCells run b line.Passed = b
 openCells run b (line.Open h) = b
-openCells run b (line.Fill call) = withPart (run .head) (after (run .head) (partOf (run .head) b) (callMeant call)) b
+openCells run b (line.Fill call) = after (run .head) b (callMeant call)
 openCells run b line.NoCall = b
 
 -- where the log is over, nothing more is done

@@ -1,7 +1,7 @@
-// Text logs played on a book, block by block and line by line.
+// Text logs played on a book, line by line.
 pub mod console;
 pub mod feed;
-pub mod lists;
 pub mod play;
 pub mod program;
+pub mod source;
 pub mod text;

@@ -1,12 +1,13 @@
 // A log played line by line: the run so far, and what a line answers.
-use crate::lists;
 use book::Filed;
 use book::Opened;
+use book::calls;
 use log::line::Line;
 use rules::Head;
 ghost use mathlib.Core.Path.{_≡_};
 ghost use Rattle.rules.specs.Inner.Lent.{lentCells};
 ghost use Rattle.book.specs.Answers.{openedMeant, filedMeant};
+ghost use Rattle.play.specs.declared.play.Stage.the-variants.{Closed};
 ghost use Rattle.play.specs.Playing.{started, isOver, counted as Playing·counted, moved as Playing·moved, quiet as Playing·quiet, afterOpening, afterFilling, playedClosed, closedCells, playedOpen, openCells, played, playedCells};
 
 // No call has come; the book is open; a line was no call; the opening was refused.
@@ -170,6 +171,13 @@ fn after_filling(run: Run, filed: Filed) -> Played
     }
 }
 
+// A line that is passed over before the opening.
+pub fn passed(run: Run) -> Run
+    ensures { λ r. ⌜ r ≡ Playing·moved run Closed ⌝ }
+{
+    moved(run, Stage::Closed)
+}
+
 // A line before the opening.
 fn play_closed(
     run: Run,
@@ -192,7 +200,7 @@ fn play_closed(
     match line {
         Line::Passed => quiet(run, Stage::Closed),
         Line::Open(head) => {
-            let opened = lists::open(head, values, versions, statuses, holidays, readings, reads);
+            let opened = book::open(head, values, versions, statuses, holidays, readings, reads);
             after_opening(run, head, opened)
         }
         Line::Fill(_) => quiet(run, Stage::Unfit),
@@ -224,7 +232,7 @@ fn play_open(
         Line::Open(_) => quiet(run, Stage::Unfit),
         Line::Fill(call) => {
             let head = run.head;
-            let filed = lists::fill(
+            let filed = calls::fill(
                 head,
                 values,
                 versions,

@@ -1,12 +1,32 @@
 // A program that plays the log on standard input: its answers go to a descriptor, or nowhere.
 use crate::console;
-use crate::console::Input;
-use crate::feed;
 use crate::play;
 use crate::play::Run;
+use crate::source;
+use crate::source::Got;
+use crate::source::Source;
 use crate::text;
+use log::line::Line;
+use rules::Head;
+use rules::opening;
+ghost use mathlib.Core.Path.{_≡_};
 ghost use Prim.Native.Nat.{_≤_};
 ghost use lib.ListN.{length};
+ghost use Rattle.play.specs.Inner.Feeding.{Held};
+ghost use Rattle.play.specs.Inner.Sizes.{noSizes, headSizes, lineSizes};
+
+// The run before a log's first line that is not passed over, and that line: the opening, if there is one.
+pub struct Lead {
+    pub run: Run,
+    pub first: Got,
+}
+
+// The lengths of a book's lists of slots, days and boundaries.
+pub struct Sizes {
+    pub slots: usize,
+    pub days: usize,
+    pub boundaries: usize,
+}
 
 // The run at the end of a log, and whether every read and write was done.
 pub struct Ended {
@@ -14,125 +34,94 @@ pub struct Ended {
     pub good: bool,
 }
 
-// The run, how many bytes of a line are in hand, whether there is more to read, and whether every read and write was done.
-struct Progress {
-    run: Run,
-    count: usize,
-    more: bool,
-    good: bool,
+fn is_passed(line: Line) -> bool {
+    match line {
+        Line::Passed => true,
+        Line::Open(_) => false,
+        Line::Fill(_) => false,
+        Line::NoCall => false,
+    }
 }
 
-fn goes_on(run: Run, good: bool) -> bool {
+// Reads up to the first line that is not passed over. Its turns are counted as those of `next` are.
+pub fn read_lead(block: &mut [u8], part: &mut [u8]) -> Lead
+    requires { ⌜ 257 ≤ length (now part) ⌝ }
+    ensures { λ r. ⌜ Held (r .first .source) (length (now (block .entry))) (length (now (part .entry))) ⌝ }
+{
+    let mut run = play::start();
+    let none = Source {
+        at: 0,
+        end: 0,
+        count: 0,
+    };
+    let mut first = source::next(block, part, none);
+    let mut turns = u64::MAX;
+    while 0 < turns {
+        let line = first.line;
+        if !first.more {
+            return Lead { run, first };
+        }
+        if !is_passed(line) {
+            return Lead { run, first };
+        }
+        run = play::passed(run);
+        let here = first.source;
+        first = source::next(block, part, here);
+        turns -= 1;
+    }
+    Lead { run, first }
+}
+
+fn no_sizes() -> Sizes
+    ensures { λ r. ⌜ r ≡ noSizes ⌝ }
+{
+    Sizes {
+        slots: 0,
+        days: 0,
+        boundaries: 0,
+    }
+}
+
+fn head_sizes(head: Head) -> Sizes
+    ensures { λ r. ⌜ (r ≡ headSizes head) × (r .slots ≤ 115200) × (r .days ≤ 400) × (r .boundaries ≤ 401) ⌝ }
+{
+    if !opening::head_ok(head) {
+        return no_sizes();
+    }
+    let days = head.days as usize;
+    Sizes {
+        slots: opening::slot_count(head),
+        days,
+        boundaries: days + 1,
+    }
+}
+
+// The lengths that an opening asks for; of a bad head, which opening refuses, and of any other line, zeros.
+pub fn sizes_of(line: Line) -> Sizes
+    ensures { λ r. ⌜ (r ≡ lineSizes line) × (r .slots ≤ 115200) × (r .days ≤ 400) × (r .boundaries ≤ 401) ⌝ }
+{
+    match line {
+        Line::Open(head) => head_sizes(head),
+        Line::Passed => no_sizes(),
+        Line::Fill(_) => no_sizes(),
+        Line::NoCall => no_sizes(),
+    }
+}
+
+fn goes_on(run: Run, more: bool, good: bool) -> bool {
+    if !more {
+        return false;
+    }
     if !good {
         return false;
     }
     !play::is_over(run)
 }
 
-fn play_block(
-    block: &[u8],
-    part: &mut [u8],
-    count: usize,
-    run: Run,
-    fd: i32,
-    values: &mut [u32],
-    versions: &mut [u32],
-    statuses: &mut [u8],
-    holidays: &mut [u8],
-    readings: &mut [u32],
-    reads: &mut [u32],
-) -> Progress
-    requires { ⌜ (257 ≤ length (now part)) × (count ≤ length (now part)) ⌝ }
-    ensures { λ r. ⌜ r .count ≤ length (now (part .entry)) ⌝ }
-{
-    let mut now = run;
-    let mut held = count;
-    let mut at = 0;
-    let mut good = true;
-    while at < block.len() {
-        let step = feed::take_line(
-            block,
-            at,
-            part,
-            held,
-            now,
-            values,
-            versions,
-            statuses,
-            holidays,
-            readings,
-            reads,
-        );
-        let said = step.said;
-        good = text::tell(fd, good, said);
-        now = step.run;
-        held = step.count;
-        at = step.at;
-    }
-    let more = goes_on(now, good);
-    Progress {
-        run: now,
-        count: held,
-        more,
-        good,
-    }
-}
-
-// Reads once and plays what came.
-fn read_and_play(
-    part: &mut [u8],
-    count: usize,
-    run: Run,
-    fd: i32,
-    values: &mut [u32],
-    versions: &mut [u32],
-    statuses: &mut [u8],
-    holidays: &mut [u8],
-    readings: &mut [u32],
-    reads: &mut [u32],
-) -> Progress
-    requires { ⌜ (257 ≤ length (now part)) × (count ≤ length (now part)) ⌝ }
-    ensures { λ r. ⌜ r .count ≤ length (now (part .entry)) ⌝ }
-{
-    let mut block = io::large_buffer();
-    match console::read_block(&mut block) {
-        Input::Bytes(n) => {
-            if n == 0 {
-                return Progress {
-                    run,
-                    count,
-                    more: false,
-                    good: true,
-                };
-            }
-            play_block(
-                &block[..n],
-                part,
-                count,
-                run,
-                fd,
-                values,
-                versions,
-                statuses,
-                holidays,
-                readings,
-                reads,
-            )
-        }
-        Input::Failed => {
-            os::fail(b"standard input");
-            Progress {
-                run,
-                count,
-                more: false,
-                good: false,
-            }
-        }
-    }
-}
-
-// A proved loop has to end, and nothing says that an input does: it counts its turns down, from a number that no log uses up.
-fn play_log(
+// Plays a log from its first line on, and tells each answer where `fd` is not negative. Its turns are counted as those of `next` are.
+pub fn play_log(
+    lead: Lead,
+    block: &mut [u8],
     part: &mut [u8],
     fd: i32,
     values: &mut [u32],
@@ -141,76 +130,44 @@ fn play_log(
     holidays: &mut [u8],
     readings: &mut [u32],
     reads: &mut [u32],
-) -> Progress
-    requires { ⌜ 257 ≤ length (now part) ⌝ }
-    ensures { λ r. ⌜ r .count ≤ length (now (part .exit)) ⌝ }
+) -> Ended
+    requires { ⌜ Held (lead .first .source) (length (now block)) (length (now part)) ⌝ }
 {
-    let mut progress = Progress {
-        run: play::start(),
-        count: 0,
-        more: true,
-        good: true,
-    };
+    let mut got = lead.first;
+    let mut run = lead.run;
+    let mut good = got.good;
     let mut turns = u64::MAX;
     while 0 < turns {
-        if !progress.more {
-            return progress;
-        }
-        let count = progress.count;
-        let run = progress.run;
-        progress = read_and_play(
-            part,
-            count,
+        let line = got.line;
+        let played = play::play(
             run,
-            fd,
             values,
             versions,
             statuses,
             holidays,
             readings,
             reads,
+            line,
         );
+        run = played.run;
+        let said = played.said;
+        good = text::tell(fd, good, said);
+        if !goes_on(run, got.more, good) {
+            return Ended { run, good };
+        }
+        let here = got.source;
+        got = source::next(block, part, here);
+        good = got.good;
         turns -= 1;
     }
-    progress
+    Ended { run, good }
 }
 
-// Plays the whole log, and tells each answer where `fd` is not negative.
-pub fn play_input(
-    fd: i32,
-    values: &mut [u32],
-    versions: &mut [u32],
-    statuses: &mut [u8],
-    holidays: &mut [u8],
-    readings: &mut [u32],
-    reads: &mut [u32],
-) -> Ended {
-    let mut part = [0u8; 257];
-    let progress = play_log(
-        &mut part,
-        fd,
-        values,
-        versions,
-        statuses,
-        holidays,
-        readings,
-        reads,
-    );
-    let count = progress.count;
-    let run = progress.run;
-    let last = feed::finish(
-        &part,
-        count,
-        run,
-        values,
-        versions,
-        statuses,
-        holidays,
-        readings,
-        reads,
-    );
-    let end = last.run;
-    let said = last.said;
-    let good = text::tell(fd, progress.good, said);
-    Ended { run: end, good }
+// Whether every read and write was done, and the log is one. What is wrong was said, or is said here.
+pub fn is_done(end: Ended) -> bool {
+    if !end.good {
+        return false;
+    }
+    let run = end.run;
+    console::is_log(run)
 }

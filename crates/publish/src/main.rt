@@ -1,13 +1,13 @@
 // Plays the text log on standard input and writes the book's file to standard output.
-use publishing::Published;
 use libc::STDERR_FILENO;
 use libc::STDOUT_FILENO;
-use play::console;
-use play::lists;
 use play::program;
+use play::program::Lead;
+use publishing::Published;
 use rules::Head;
 ghost use mathlib.Core.Path.{_≡_};
 ghost use lib.ListN.{length};
+ghost use Rattle.play.specs.Inner.Feeding.{Held};
 
 // Room for the largest file: 115,200 slots, 400 spans and the trailer.
 fn file_buffer() -> [u8; 695232]
@@ -24,9 +24,9 @@ fn write_file(
     holidays: &[u8],
     readings: &[u32],
     reads: &[u32],
-    out: &mut [u8],
 ) {
-    match lists::publish(
+    let mut out = file_buffer();
+    match publishing::publish(
         head,
         values,
         versions,
@@ -34,7 +34,7 @@ fn write_file(
         holidays,
         readings,
         reads,
-        out,
+        &mut out,
     ) {
         Published::Length(n) => {
             if n <= out.len() {
@@ -49,6 +49,56 @@ fn write_file(
     }
 }
 
+// Says how many calls were refused, where any was.
+fn tell_refused(refused: u64) {
+    if 0 < refused {
+        io::print_decimal(STDERR_FILENO, refused);
+        io::write_all(STDERR_FILENO, b" refused\n");
+    }
+}
+
+// Plays a log on a book's lists, and writes the file when its end is known to be good.
+fn publish_log(
+    lead: Lead,
+    block: &mut [u8],
+    part: &mut [u8],
+    values: &mut [u32],
+    versions: &mut [u32],
+    statuses: &mut [u8],
+    holidays: &mut [u8],
+    readings: &mut [u32],
+    reads: &mut [u32],
+)
+    requires { ⌜ Held (lead .first .source) (length (now block)) (length (now part)) ⌝ }
+{
+    let end = program::play_log(
+        lead,
+        block,
+        part,
+        -1,
+        values,
+        versions,
+        statuses,
+        holidays,
+        readings,
+        reads,
+    );
+    if !program::is_done(end) {
+        return;
+    }
+    let run = end.run;
+    write_file(
+        run.head,
+        values,
+        versions,
+        statuses,
+        holidays,
+        readings,
+        reads,
+    );
+    tell_refused(run.refused);
+}
+
 fn main() {
     let mut values = [0u32; 115200];
     let mut versions = [0u32; 115200];
@@ -56,36 +106,24 @@ fn main() {
     let mut holidays = [0u8; 400];
     let mut readings = [0u32; 401];
     let mut reads = [0u32; 401];
-    let mut out = file_buffer();
-    let end = program::play_input(
-        -1,
-        &mut values,
-        &mut versions,
-        &mut statuses,
-        &mut holidays,
-        &mut readings,
-        &mut reads,
+    let mut block = io::large_buffer();
+    let mut part = [0u8; 257];
+    let lead = program::read_lead(&mut block, &mut part);
+    let first = lead.first;
+    let line = first.line;
+    let sizes = program::sizes_of(line);
+    let slots = sizes.slots;
+    let days = sizes.days;
+    let boundaries = sizes.boundaries;
+    publish_log(
+        lead,
+        &mut block,
+        &mut part,
+        &mut values[..slots],
+        &mut versions[..slots],
+        &mut statuses[..slots],
+        &mut holidays[..days],
+        &mut readings[..boundaries],
+        &mut reads[..boundaries],
     );
-    if !end.good {
-        return;
-    }
-    let run = end.run;
-    if !console::is_log(run) {
-        return;
-    }
-    let head = run.head;
-    write_file(
-        head,
-        &values,
-        &versions,
-        &statuses,
-        &holidays,
-        &readings,
-        &reads,
-        &mut out,
-    );
-    if 0 < run.refused {
-        io::print_decimal(STDERR_FILENO, run.refused);
-        io::write_all(STDERR_FILENO, b" refused\n");
-    }
 }

@@ -1,9 +1,12 @@
 // Calls packed into words, five a call: 1 slot version value status | 2 day 0 0 0 | 3 boundary version reading 0.
+use book::calls::Call;
+ghost use mathlib.Core.Bool.{true};
 ghost use mathlib.Core.List.{_∷_};
 ghost use mathlib.Core.Path.{_≡_};
 ghost use Prim.Native.Nat.{_+_, _≤_};
 ghost use lib.ListN.{length, drop};
-ghost use Rattle.replay.specs.Packing.{callOk, packedOk};
+ghost use Rattle.book.specs.Arguments.{callMeant};
+ghost use Rattle.replay.specs.Packing.{callOk, callOf, packedOk};
 
 // The five words of a call.
 pub struct Packed {
@@ -46,6 +49,28 @@ fn call_ok(call: Packed) -> bool
         return false;
     }
     call.status == 0
+}
+
+pub fn call_of(call: Packed) -> Call
+    requires { ⌜ callOk call ≡ true ⌝ }
+    ensures { λ r. ⌜ callMeant r ≡ callOf call ⌝ }
+{
+    if call.kind == 1 {
+        return Call::Delivery {
+            slot: call.place,
+            version: call.version,
+            value: call.content,
+            status: call.status as u8,
+        };
+    }
+    if call.kind == 2 {
+        return Call::Holiday(call.place);
+    }
+    Call::Register {
+        boundary: call.place,
+        version: call.version,
+        reading: call.content,
+    }
 }
 
 pub fn packed_ok(calls: &[u32]) -> bool

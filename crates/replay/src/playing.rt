@@ -2,6 +2,7 @@
 use crate::packing;
 use crate::packing::Packed;
 use book::Filed;
+use book::calls;
 use rules::Head;
 ghost use mathlib.Core.Bool.{true};
 ghost use mathlib.Core.List.{map};
@@ -42,24 +43,16 @@ fn play(
         × (lentCells (values .exit) (versions .exit) (statuses .exit) (holidays .exit) (readings .exit) (reads .exit) ≡ after head cells (callOf call)))
         ⌝ }
 {
-    let place = call.place;
-    if call.kind == 1 {
-        let status = call.status as u8;
-        return byte_of(book::deliver(
-            head,
-            values,
-            versions,
-            statuses,
-            place,
-            call.version,
-            call.content,
-            status,
-        ));
-    }
-    if call.kind == 2 {
-        return byte_of(book::holiday(head, holidays, place));
-    }
-    byte_of(book::register(head, readings, reads, place, call.version, call.content))
+    byte_of(calls::fill(
+        head,
+        values,
+        versions,
+        statuses,
+        holidays,
+        readings,
+        reads,
+        packing::call_of(call),
+    ))
 }
 
 // Every call in order, each answer a byte of `answers`.

@@ -1,12 +1,13 @@
 -- The part of a line in hand, and a step through a block.
-use mathlib.Core.List.{List, _++_}
+use mathlib.Core.List.{List, [], _∷_, _++_}
 use mathlib.Core.Path.{_≡_}
 use Prim.Native.Nat.{ℕ, _≤_, _<_}
 use lib.ListN.{length, take, drop}
-use Rattle.rules.specs.Opening.{Cells}
-use Rattle.play.specs.declared.feed.Step.{Step}
-use Rattle.play.specs.declared.play.Run.{Run}
-use Rattle.play.specs.Log.{linesFrom, withAnswer, outcome}
+use Rattle.log.specs.declared.line.Line.{Line}
+use Rattle.play.specs.declared.feed.Taken.{Taken}
+use Rattle.play.specs.declared.feed.Taken.the-variants as taken
+use Rattle.play.specs.declared.source.Source.{Source}
+use Rattle.play.specs.Log.{linesFrom}
 
 -- bytes of a block are left, and the part has room for 257 bytes, of which `count` are in hand
 pub record Ready (block : List ℕ) (at : ℕ) (part : List ℕ) (count : ℕ) : Type 0 where
@@ -14,11 +15,24 @@ pub record Ready (block : List ℕ) (at : ℕ) (part : List ℕ) (count : ℕ) :
   pub room : 257 ≤ length part
   pub held : count ≤ length part
 
--- a step goes on in the block, and whatever bytes are still to come, it does not change what the log comes to
-pub record Stepped (block : List ℕ) (at : ℕ) (part part′ : List ℕ) (count : ℕ) (run : Run) (cells cells′ : Cells) (r : Step) : Type 0 where
-  pub further : at < r .at
-  pub inside : r .at ≤ length block
-  pub held : r .count ≤ length part
-  pub same : (more : List ℕ)
-      → outcome run cells (linesFrom (take count part) (drop at block ++ more))
-      ≡ withAnswer (r .said) (outcome (r .run) cells′ (linesFrom (take (r .count) part′) (drop (r .at) block ++ more)))
+-- the lines that are left, with bytes still to come
+abbrev pub linesAfter : Taken → List ℕ → List ℕ → List ℕ → List Line
+linesAfter (taken.Ended line next) block part more = line ∷ linesFrom [] (drop next block ++ more)
+linesAfter (taken.Held count) block part more = linesFrom (take count part) more
+
+-- a place further on in the block, or bytes that the part has room for
+abbrev pub Within : Taken → ℕ → List ℕ → List ℕ → Type 0
+Within (taken.Ended line next) at block part = (at < next) × (next ≤ length block)
+Within (taken.Held count) at block part = count ≤ length part
+
+-- a step goes on in the block and, whatever bytes are still to come, changes no line of the log
+pub record Stepped (block : List ℕ) (at : ℕ) (part part′ : List ℕ) (count : ℕ) (r : Taken) : Type 0 where
+  pub within : Within r at block part
+  pub same : (more : List ℕ) → linesFrom (take count part) (drop at block ++ more) ≡ linesAfter r block part′ more
+
+-- a source within a block and a part of these lengths
+pub record Held (s : Source) (block part : ℕ) : Type 0 where
+  pub order : s .at ≤ s .end
+  pub inside : s .end ≤ block
+  pub room : 257 ≤ part
+  pub held : s .count ≤ part

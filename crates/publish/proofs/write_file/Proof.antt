@@ -1,9 +1,15 @@
--- `publish::write_file` meets its contract.
+-- `write_file` writes as many bytes as publishing answers.
 use mathlib.Core.Path.{sym}
 use lib.Seq.{length-take-le}
 use borrow.Author.Needs.{needs}
 use Rattle.publish.proofs.write_file.Statement.{statement}
 use Rattle.publish.proofs.write_file.Tie as tie
+
+file-buffer-requires : tie.Need-file-buffer-requires
+file-buffer-requires c κs = search needs
+
+slice-aggregate-publish : tie.Need-slice-aggregate-publish
+slice-aggregate-publish c = search needs
 
 publish-requires : tie.Need-publish-requires
 publish-requires c κs = search needs
@@ -11,11 +17,11 @@ publish-requires c κs = search needs
 enum-known-n : tie.Need-enum-known-n
 enum-known-n c = search needs
 
-slice-reshare-prefix-write-all : tie.Need-slice-reshare-prefix-write-all
-slice-reshare-prefix-write-all c = search needs
+array-share-prefix-out : tie.Need-array-share-prefix-out
+array-share-prefix-out c = search needs
 
 slice-aggregate-write-all : tie.Need-slice-aggregate-write-all
-slice-aggregate-write-all c = sym (length-take-le _ _ (c .before .if1 .taken))
+slice-aggregate-write-all c = sym (length-take-le _ _ (array-share-prefix-out (c .before)))
 
 write-all-requires : tie.Need-write-all-requires
 write-all-requires c κs = search needs
@@ -35,26 +41,14 @@ slice-aggregate-write-all-2 c = search needs
 write-all-requires-2 : tie.Need-write-all-requires-2
 write-all-requires-2 c κs = search needs
 
-same-length : tie.Need-same-length
-same-length c = search needs
-
 returns : tie.Need-returns
 returns c = search needs
-
-same-length-2 : tie.Need-same-length-2
-same-length-2 c = search needs
 
 returns-2 : tie.Need-returns-2
 returns-2 c = search needs
 
-same-length-3 : tie.Need-same-length-3
-same-length-3 c = search needs
-
 returns-3 : tie.Need-returns-3
 returns-3 c = search needs
-
-same-length-4 : tie.Need-same-length-4
-same-length-4 c = search needs
 
 returns-4 : tie.Need-returns-4
 returns-4 c = search needs
@@ -63,9 +57,11 @@ pub write-file-spec : {M : Type 1} → statement M
 write-file-spec =
     tie.close
     (tie.spec
+    file-buffer-requires
+    slice-aggregate-publish
     publish-requires
     enum-known-n
-    slice-reshare-prefix-write-all
+    array-share-prefix-out
     slice-aggregate-write-all
     write-all-requires
     slice-aggregate-fail
@@ -73,11 +69,7 @@ write-file-spec =
     enum-told
     slice-aggregate-write-all-2
     write-all-requires-2
-    same-length
     returns
-    same-length-2
     returns-2
-    same-length-3
     returns-3
-    same-length-4
     returns-4)

@@ -1,12 +1,20 @@
--- `play::feed::take_line` meets its contract.
 use native.Mathlib.Omega.{arith}
-use Prim.Native.Nat.{_<_}
-use lib.ListN.{length, take}
-use Rattle.rules.specs.Inner.Lent.{slots, cells}
-use Rattle.play.proofs.Feeding.{block-ends, line-played}
+use mathlib.Core.List.{List, [], _∷_, _++_}
+use mathlib.Core.Path.{sym, ap, _∙_}
+use Prim.Native.Nat.{_<_, _+_}
+use lib.ListN.{length, take, drop}
+use lib.Seq.{length-take-le}
+use Rattle.log.specs.declared.line.Line.{Line}
+use Rattle.play.specs.Log.{linesFrom}
+use Rattle.play.proofs.Feeding.{line-goes-on, line-ends}
 use borrow.Author.Needs.{needs}
 use Rattle.play.proofs.feed.take_line.Statement.{statement}
 use Rattle.play.proofs.feed.take_line.Tie as tie
+use Rattle.play.proofs.feed.take_line.Reads as reads
+use Rattle.play.proofs.feed.take_line.Lts as lts
+use Rattle.log.proofs.line.line_of.Reads as line-of-reads
+use Rattle.log.proofs.pieces.end_of.Reads as end-of-reads
+use Rattle.play.proofs.feed.keep.Reads as keep-reads
 
 end-of-requires : tie.Need-end-of-requires
 end-of-requires c κs = search needs
@@ -27,55 +35,38 @@ same-length : tie.Need-same-length
 same-length c = search needs
 
 returns : tie.Need-returns
-returns c = let a = c .before .before .before .before .before .before .before .before .before .before .before .before .before .before .before .args in
+returns c = let a = c .before .before .before .before .before .before .before .before .before .args in
     let e = c .before .before .before .before .before .before .end-of .ensures in
-    let k = c .before .before .before .keep .ensures in
-    let ready = c .before .before .before .before .before .before .before .before .before .before .before .before .before .before .before .pre in record {
-      further = omega (arith, ready .left, c .if1 .taken);
-      inside = omega (arith, e .1);
-      held = k .0;
-      same = block-ends (a .block .now) (a .at) _ (length (a .part .now)) (take (a .count) (a .part .now)) _ (ready .room) (e .2) (k .1) (a .run) (cells (slots (a .values .now) (a .versions .now) (a .statuses .now)) (a .holidays .now) (a .readings .now) (a .reads .now)) (c .if1 .taken);
+    let k = c .before .before .before .keep .ensures in record {
+      within = k .0;
+      same = line-goes-on (a .block .now) (a .at) _ (length (a .part .now)) (take (a .count) (a .part .now)) _ (c .before .before .before .before .before .before .before .before .before .pre .room) (e .2) (k .1) (c .if1 .taken);
     }
 
-add-after : tie.Need-add-after
-add-after c = search needs
+slice-reshare-prefix-line-of : tie.Need-slice-reshare-prefix-line-of
+slice-reshare-prefix-line-of c = search needs
 
-finish-requires : tie.Need-finish-requires
-finish-requires c κs = search needs
+slice-aggregate-line-of : tie.Need-slice-aggregate-line-of
+slice-aggregate-line-of c = sym (length-take-le _ _ (slice-reshare-prefix-line-of (c .before)))
+
+line-of-requires : tie.Need-line-of-requires
+line-of-requires c κs = search needs
+
+add-t10 : tie.Need-add-t10
+add-t10 c = search needs
 
 same-length-2 : tie.Need-same-length-2
 same-length-2 c = search needs
 
-same-length-3 : tie.Need-same-length-3
-same-length-3 c = search needs
-
-same-length-4 : tie.Need-same-length-4
-same-length-4 c = search needs
-
-same-length-5 : tie.Need-same-length-5
-same-length-5 c = search needs
-
-same-length-6 : tie.Need-same-length-6
-same-length-6 c = search needs
-
-same-length-7 : tie.Need-same-length-7
-same-length-7 c = search needs
-
-same-length-8 : tie.Need-same-length-8
-same-length-8 c = search needs
-
 returns-2 : tie.Need-returns-2
-returns-2 c = let a = c .before .before .before .before .before .before .before .before .before .before .before .before .before .before .before .before .before .before .before .before .before .before .before .before .before .before .before .before .before .before .before .before .before .before .before .before .args in
-    let e = c .before .before .before .before .before .before .before .before .before .before .before .before .before .before .before .before .before .before .before .before .before .before .before .before .before .before .before .end-of .ensures in
-    let k = c .before .before .before .before .before .before .before .before .before .before .before .before .before .before .before .before .before .before .before .before .before .before .before .before .keep .ensures in
-    let f = c .before .before .before .before .before .before .before .before .before .before .before .before .before .finish .ensures in
-    let ready = c .before .before .before .before .before .before .before .before .before .before .before .before .before .before .before .before .before .before .before .before .before .before .before .before .before .before .before .before .before .before .before .before .before .before .before .before .pre in
-    let l = c .before .before .before .before .before .before .before .before .before .before .before .before .before .before .before .before .before .before .before .before .before .if1 .left in
-    let less : c .before .before .before .before .before .before .before .before .before .before .before .before .before .before .before .before .before .before .before .before .before .before .before .before .before .before .before .end-of .result < length (a .block .now) = omega (arith, e .1, l) in record {
-      further = omega (arith, e .0);
-      inside = omega arith;
-      held = search needs;
-      same = line-played (a .block .now) (a .at) _ (length (a .part .now)) (take (a .count) (a .part .now)) _ (ready .room) (e .2) (k .1) (a .run) (cells (slots (a .values .now) (a .versions .now) (a .statuses .now)) (a .holidays .now) (a .readings .now) (a .reads .now)) _ _ less (f .0) (f .1);
+returns-2 c = let a = c .before .before .before .before .before .before .before .before .before .before .before .args in
+    let e = c .before .before .before .before .before .before .before .before .end-of .ensures in
+    let k = c .before .before .before .before .before .keep .ensures in
+    let l = c .before .before .if1 .left in
+    let end = c .before .before .before .before .before .before .before .before .end-of .result in
+    let less : end < length (a .block .now) = omega (arith, e .1, l) in record {
+      within = (omega (arith, e .0), omega arith);
+      same = λ more. line-ends (a .block .now) (a .at) end (length (a .part .now)) (take (a .count) (a .part .now)) _ (c .before .before .before .before .before .before .before .before .before .before .before .pre .room) (e .2) (k .1) less more
+          ∙ ap (λ (x : Line). x ∷ linesFrom [] (drop (end + 1) (a .block .now) ++ more)) (sym (c .line-of .ensures));
     }
 
 pub take-line-spec : {M : Type 1} → statement M
@@ -89,13 +80,9 @@ take-line-spec =
     keep-requires
     same-length
     returns
-    add-after
-    finish-requires
+    slice-reshare-prefix-line-of
+    slice-aggregate-line-of
+    line-of-requires
+    add-t10
     same-length-2
-    same-length-3
-    same-length-4
-    same-length-5
-    same-length-6
-    same-length-7
-    same-length-8
     returns-2)

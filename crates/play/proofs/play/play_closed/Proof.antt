@@ -1,3 +1,4 @@
+use Rattle.rules.specs.Inner.Lent.{slots, cells}
 -- `play::play::play_closed` meets its contract.
 use mathlib.Core.Path.{refl}
 use Rattle.play.specs.Playing.{playedClosed, closedCells}
@@ -58,7 +59,8 @@ same-length-6 c = search needs
 returns-2 : tie.Need-returns-2
 unfolding playedClosed closedCells
 returns-2 c = let e = c .before .before .before .before .before .before .before .before .before .before .before .before .before .«open» .ensures in
-    opening-as _ _ _ _ _ _ _ (c .before .before .before .before .before .before .before .before .before .before .before .before .before .before .before .before .before .before .before .before .before .line .given .1) (c .after-opening .ensures) (e .0) (e .1)
+    opening-as _ _ _ _ _ _ _ (c .before .before .before .before .before .before .before .before .before .before .before .before .before .before .before .before .before .before .before .before .before .line .given .1) (c .after-opening .ensures) (e .0)
+    (λ t. record { slots = record { values = e .1 .0 t; versions = e .1 .1 t; statuses = e .1 .2 t }; holidays = e .1 .3 t; readings = e .1 .4 t; readVersions = e .1 .5 t })
 
 returns-3 : tie.Need-returns-3
 unfolding playedClosed closedCells

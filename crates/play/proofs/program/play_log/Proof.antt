@@ -1,83 +1,95 @@
--- `play::program::play_log` meets its contract.
 use borrow.Author.Needs.{needs}
-use mathlib.Core.Path.{_≡_, refl}
-use Prim.Native.Nat.{_≤_}
-use native.Mathlib.Omega.{arith}
+use mathlib.Core.Path.{_≡_, refl, sym, ap, _∙_}
 use lib.ListN.{length}
+use native.Mathlib.Omega.{arith}
+use Rattle.play.specs.Inner.Feeding.{Held}
+use Rattle.play.proofs.Feeding.{held-as}
 use Rattle.play.proofs.program.play_log.Statement.{statement}
 use Rattle.play.proofs.program.play_log.Tie as tie
 
 abbrev Inv-loop : tie.InvT-loop
-Inv-loop part₀ fd values₀ versions₀ statuses₀ holidays₀ readings₀ reads₀ progress₀ turns₀ part values versions statuses holidays readings reads progress turns = (progress .count ≤ length part₀) × (length part ≡ length part₀) × (length values ≡ length values₀) × (length versions ≡ length versions₀) × (length statuses ≡ length statuses₀) × (length holidays ≡ length holidays₀) × (length readings ≡ length readings₀) × (length reads ≡ length reads₀)
+Inv-loop block₀ part₀ fd values₀ versions₀ statuses₀ holidays₀ readings₀ reads₀ got₀ run₀ good₀ turns₀ block part values versions statuses holidays readings reads got run good turns = Held (got .source) (length block) (length part) × (length block ≡ length block₀) × (length part ≡ length part₀) × (length values ≡ length values₀) × (length versions ≡ length versions₀) × (length statuses ≡ length statuses₀) × (length holidays ≡ length holidays₀) × (length readings ≡ length readings₀) × (length reads ≡ length reads₀)
 
 abbrev μ-loop : tie.MeasureT-loop
-μ-loop part₀ fd values₀ versions₀ statuses₀ holidays₀ readings₀ reads₀ progress₀ turns₀ part values versions statuses holidays readings reads progress turns = turns
-
-start-requires : tie.Need-start-requires Inv-loop μ-loop
-start-requires c κs = tt
+μ-loop block₀ part₀ fd values₀ versions₀ statuses₀ holidays₀ readings₀ reads₀ got₀ run₀ good₀ turns₀ block part values versions statuses holidays readings reads got run good turns = turns
 
 loop-holds : tie.Need-loop-holds Inv-loop μ-loop
-loop-holds c = (omega arith, refl, refl, refl, refl, refl, refl, refl)
+loop-holds c = (c .before .before .before .before .before .before .before .before .before .before .pre, refl, refl, refl, refl, refl, refl, refl, refl)
+
+play-requires : tie.Need-play-requires Inv-loop μ-loop
+play-requires c κs = search needs
+
+tell-requires : tie.Need-tell-requires Inv-loop μ-loop
+tell-requires c κs = search needs
+
+goes-on-requires : tie.Need-goes-on-requires Inv-loop μ-loop
+goes-on-requires c κs = search needs
 
 same-length : tie.Need-same-length Inv-loop μ-loop
-same-length c = c .before .before .before .loop .inv .1
+same-length c = search needs
 
 same-length-2 : tie.Need-same-length-2 Inv-loop μ-loop
-same-length-2 c = c .before .before .before .loop .inv .2
+same-length-2 c = search needs
 
 same-length-3 : tie.Need-same-length-3 Inv-loop μ-loop
-same-length-3 c = c .before .before .before .loop .inv .3
+same-length-3 c = search needs
 
 same-length-4 : tie.Need-same-length-4 Inv-loop μ-loop
-same-length-4 c = c .before .before .before .loop .inv .4
+same-length-4 c = search needs
 
 same-length-5 : tie.Need-same-length-5 Inv-loop μ-loop
-same-length-5 c = c .before .before .before .loop .inv .5
+same-length-5 c = search needs
 
 same-length-6 : tie.Need-same-length-6 Inv-loop μ-loop
-same-length-6 c = c .before .before .before .loop .inv .6
+same-length-6 c = search needs
 
 same-length-7 : tie.Need-same-length-7 Inv-loop μ-loop
-same-length-7 c = c .before .before .before .loop .inv .7
-
-returns : tie.Need-returns Inv-loop μ-loop
-returns c = omega (arith, c .before .before .before .loop .inv .0, c .before .before .before .loop .inv .1)
-
-read-and-play-requires : tie.Need-read-and-play-requires Inv-loop μ-loop
-read-and-play-requires c κs = let l = c .before .before .before .before .before .before .before .before .before .before .before .loop .inv in (omega (arith, c .before .before .before .before .before .before .before .before .before .before .before .before .before .before .before .before .before .before .before .before .pre, l .1), omega (arith, l .0, l .1))
-
-sub-turns : tie.Need-sub-turns Inv-loop μ-loop
-sub-turns c = omega (arith, c .before .before .before .before .before .before .before .before .before .before .before .before .before .before .before .before .before .before .before .before .before .before .before .before .before .loop-test .taken)
-
-loop-less : tie.Need-loop-less Inv-loop μ-loop
-loop-less c = omega (arith, c .before .before .before .before .before .before .before .before .before .before .before .before .before .before .before .before .before .before .before .before .before .before .before .before .before .loop-test .taken)
-
-loop-again : tie.Need-loop-again Inv-loop μ-loop
-loop-again c = let l = c .before .before .before .before .before .before .before .before .before .before .before .before .before .before .before .before .before .before .before .before .before .before .before .before .before .before .loop .inv in (omega (arith, c .before .before .before .before .before .before .before .before .before .before .before .before .before .before .read-and-play .ensures, l .1), search needs, search needs, search needs, search needs, search needs, search needs, search needs)
+same-length-7 c = search needs
 
 same-length-8 : tie.Need-same-length-8 Inv-loop μ-loop
-same-length-8 c = c .before .loop .inv .1
+same-length-8 c = search needs
+
+returns : tie.Need-returns Inv-loop μ-loop
+returns c = search needs
+
+next-requires : tie.Need-next-requires Inv-loop μ-loop
+next-requires c κs = c .before .before .before .before .before .before .before .before .before .before .before .before .before .before .before .before .before .before .before .before .before .before .before .before .before .before .before .loop .inv .0
+
+sub-turns : tie.Need-sub-turns Inv-loop μ-loop
+sub-turns c = omega (arith, c .before .before .before .before .before .before .before .before .before .before .before .before .before .before .before .before .before .before .before .before .before .before .before .before .before .before .before .before .before .before .before .loop-test .taken)
+
+loop-less : tie.Need-loop-less Inv-loop μ-loop
+loop-less c = omega (arith, c .before .before .before .before .before .before .before .before .before .before .before .before .before .before .before .before .before .before .before .before .before .before .before .before .before .before .before .before .before .before .before .loop-test .taken)
+
+loop-again : tie.Need-loop-again Inv-loop μ-loop
+loop-again c = (held-as _ _ (c .before .before .before .before .next .ensures) (search needs) (search needs), omega (arith, c .before .before .before .block .given, c .before .before .before .before .before .before .before .before .before .before .before .before .before .before .before .before .before .before .before .before .before .before .before .before .before .before .before .before .before .before .before .before .loop .inv .1), omega (arith, c .before .part .given, c .before .before .before .before .before .before .before .before .before .before .before .before .before .before .before .before .before .before .before .before .before .before .before .before .before .before .before .before .before .before .before .before .loop .inv .2), omega (arith, c .before .before .before .before .before .before .before .before .before .before .before .before .before .before .before .before .before .before .before .before .before .before .before .values .given, c .before .before .before .before .before .before .before .before .before .before .before .before .before .before .before .before .before .before .before .before .before .before .before .before .before .before .before .before .before .before .before .before .loop .inv .3), omega (arith, c .before .before .before .before .before .before .before .before .before .before .before .before .before .before .before .before .before .before .before .before .before .versions .given, c .before .before .before .before .before .before .before .before .before .before .before .before .before .before .before .before .before .before .before .before .before .before .before .before .before .before .before .before .before .before .before .before .loop .inv .4), omega (arith, c .before .before .before .before .before .before .before .before .before .before .before .before .before .before .before .before .before .before .before .statuses .given, c .before .before .before .before .before .before .before .before .before .before .before .before .before .before .before .before .before .before .before .before .before .before .before .before .before .before .before .before .before .before .before .before .loop .inv .5), omega (arith, c .before .before .before .before .before .before .before .before .before .before .before .before .before .before .before .before .before .holidays .given, c .before .before .before .before .before .before .before .before .before .before .before .before .before .before .before .before .before .before .before .before .before .before .before .before .before .before .before .before .before .before .before .before .loop .inv .6), omega (arith, c .before .before .before .before .before .before .before .before .before .before .before .before .before .before .before .readings .given, c .before .before .before .before .before .before .before .before .before .before .before .before .before .before .before .before .before .before .before .before .before .before .before .before .before .before .before .before .before .before .before .before .loop .inv .7), omega (arith, c .before .before .before .before .before .before .before .before .before .before .before .before .before .reads .given, c .before .before .before .before .before .before .before .before .before .before .before .before .before .before .before .before .before .before .before .before .before .before .before .before .before .before .before .before .before .before .before .before .loop .inv .8))
 
 same-length-9 : tie.Need-same-length-9 Inv-loop μ-loop
-same-length-9 c = c .before .loop .inv .2
+same-length-9 c = c .before .loop .inv .1
 
 same-length-10 : tie.Need-same-length-10 Inv-loop μ-loop
-same-length-10 c = c .before .loop .inv .3
+same-length-10 c = c .before .loop .inv .2
 
 same-length-11 : tie.Need-same-length-11 Inv-loop μ-loop
-same-length-11 c = c .before .loop .inv .4
+same-length-11 c = c .before .loop .inv .3
 
 same-length-12 : tie.Need-same-length-12 Inv-loop μ-loop
-same-length-12 c = c .before .loop .inv .5
+same-length-12 c = c .before .loop .inv .4
 
 same-length-13 : tie.Need-same-length-13 Inv-loop μ-loop
-same-length-13 c = c .before .loop .inv .6
+same-length-13 c = c .before .loop .inv .5
 
 same-length-14 : tie.Need-same-length-14 Inv-loop μ-loop
-same-length-14 c = c .before .loop .inv .7
+same-length-14 c = c .before .loop .inv .6
+
+same-length-15 : tie.Need-same-length-15 Inv-loop μ-loop
+same-length-15 c = c .before .loop .inv .7
+
+same-length-16 : tie.Need-same-length-16 Inv-loop μ-loop
+same-length-16 c = c .before .loop .inv .8
 
 returns-2 : tie.Need-returns-2 Inv-loop μ-loop
-returns-2 c = omega (arith, c .before .loop .inv .0, c .before .loop .inv .1)
+returns-2 c = search needs
 
 pub play-log-spec : {M : Type 1} → statement M
 play-log-spec =
@@ -85,8 +97,10 @@ play-log-spec =
     (tie.spec
     Inv-loop
     μ-loop
-    start-requires
     loop-holds
+    play-requires
+    tell-requires
+    goes-on-requires
     same-length
     same-length-2
     same-length-3
@@ -94,16 +108,18 @@ play-log-spec =
     same-length-5
     same-length-6
     same-length-7
+    same-length-8
     returns
-    read-and-play-requires
+    next-requires
     sub-turns
     loop-less
     loop-again
-    same-length-8
     same-length-9
     same-length-10
     same-length-11
     same-length-12
     same-length-13
     same-length-14
+    same-length-15
+    same-length-16
     returns-2)

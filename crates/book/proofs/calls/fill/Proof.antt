@@ -1,8 +1,8 @@
--- `play::lists::fill` meets its contract.
-use Rattle.play.proofs.Parts.{delivered, named, registered}
+-- `calls::fill`: the call of each kind is lent its own lists, and the others stay.
+use Rattle.book.proofs.EachCall.{delivered, named, registered}
 use borrow.Author.Needs.{needs}
-use Rattle.play.proofs.lists.fill.Statement.{statement}
-use Rattle.play.proofs.lists.fill.Tie as tie
+use Rattle.book.proofs.calls.fill.Statement.{statement}
+use Rattle.book.proofs.calls.fill.Tie as tie
 
 enum-known-call : tie.Need-enum-known-call
 enum-known-call c = search needs
@@ -32,13 +32,14 @@ same-length-3 : tie.Need-same-length-3
 same-length-3 c = search needs
 
 returns : tie.Need-returns
-returns c = delivered _ _ _ _ _ _ _ _ _ (c .before .before .before .before .before .before .before .before .before .before .before .call .given .1) (c .before .before .before .before .before .before .deliver .ensures .0) (c .before .before .before .before .before .before .deliver .ensures .1)
+returns c = let e = c .before .before .before .before .before .before .deliver .ensures in
+    delivered _ _ _ _ _ _ _ _ _ _ _ (c .before .before .before .before .before .before .before .before .before .before .before .call .given .1) (e .0) (e .1 .0) (e .1 .1) (e .1 .2)
 
 same-length-4 : tie.Need-same-length-4
 same-length-4 c = search needs
 
 returns-2 : tie.Need-returns-2
-returns-2 c = named _ _ _ _ _ _ (c .before .before .before .before .before .call2 .given .1) (c .before .before .holiday .ensures .0) (c .before .before .holiday .ensures .1)
+returns-2 c = let e = c .before .before .holiday .ensures in named _ _ _ _ _ _ (c .before .before .before .before .before .call2 .given .1) (e .0) (e .1)
 
 same-length-5 : tie.Need-same-length-5
 same-length-5 c = search needs
@@ -47,7 +48,8 @@ same-length-6 : tie.Need-same-length-6
 same-length-6 c = search needs
 
 returns-3 : tie.Need-returns-3
-returns-3 c = registered _ _ _ _ _ _ _ _ (c .before .before .before .before .before .before .before .before .call3 .given .1) (c .before .before .before .before .register .ensures .0) (c .before .before .before .before .register .ensures .1)
+returns-3 c = let e = c .before .before .before .before .register .ensures in
+    registered _ _ _ _ _ _ _ _ _ (c .before .before .before .before .before .before .before .before .call3 .given .1) (e .0) (e .1) (e .2)
 
 pub fill-spec : {M : Type 1} → statement M
 fill-spec =

@@ -1,0 +1,99 @@
+-- `main`: the lists are cut to the lengths that the opening asks for.
+use mathlib.Core.Path.{sym}
+use lib.Seq.{length-take-le}
+use borrow.Author.Needs.{needs}
+use Rattle.answers.proofs.main.Statement.{statement}
+use Rattle.answers.proofs.main.Tie as tie
+
+large-buffer-requires : tie.Need-large-buffer-requires
+large-buffer-requires c κs = search needs
+
+slice-aggregate-read-lead : tie.Need-slice-aggregate-read-lead
+slice-aggregate-read-lead c = search needs
+
+slice-aggregate-read-lead-2 : tie.Need-slice-aggregate-read-lead-2
+slice-aggregate-read-lead-2 c = search needs
+
+read-lead-requires : tie.Need-read-lead-requires
+read-lead-requires c κs = search needs
+
+returns : tie.Need-returns
+returns c = search needs
+
+sizes-of-requires : tie.Need-sizes-of-requires
+sizes-of-requires c κs = search needs
+
+slice-aggregate-answer-log : tie.Need-slice-aggregate-answer-log
+slice-aggregate-answer-log c = search needs
+
+slice-aggregate-answer-log-2 : tie.Need-slice-aggregate-answer-log-2
+slice-aggregate-answer-log-2 c = search needs
+
+array-borrow-prefix-values : tie.Need-array-borrow-prefix-values
+array-borrow-prefix-values c = search needs
+
+slice-aggregate-answer-log-3 : tie.Need-slice-aggregate-answer-log-3
+slice-aggregate-answer-log-3 c = sym (length-take-le _ _ (array-borrow-prefix-values (c .before)))
+
+array-borrow-prefix-versions : tie.Need-array-borrow-prefix-versions
+array-borrow-prefix-versions c = search needs
+
+slice-aggregate-answer-log-4 : tie.Need-slice-aggregate-answer-log-4
+slice-aggregate-answer-log-4 c = sym (length-take-le _ _ (array-borrow-prefix-versions (c .before)))
+
+array-borrow-prefix-statuses : tie.Need-array-borrow-prefix-statuses
+array-borrow-prefix-statuses c = search needs
+
+slice-aggregate-answer-log-5 : tie.Need-slice-aggregate-answer-log-5
+slice-aggregate-answer-log-5 c = sym (length-take-le _ _ (array-borrow-prefix-statuses (c .before)))
+
+array-borrow-prefix-holidays : tie.Need-array-borrow-prefix-holidays
+array-borrow-prefix-holidays c = search needs
+
+slice-aggregate-answer-log-6 : tie.Need-slice-aggregate-answer-log-6
+slice-aggregate-answer-log-6 c = sym (length-take-le _ _ (array-borrow-prefix-holidays (c .before)))
+
+array-borrow-prefix-readings : tie.Need-array-borrow-prefix-readings
+array-borrow-prefix-readings c = search needs
+
+slice-aggregate-answer-log-7 : tie.Need-slice-aggregate-answer-log-7
+slice-aggregate-answer-log-7 c = sym (length-take-le _ _ (array-borrow-prefix-readings (c .before)))
+
+array-borrow-prefix-reads : tie.Need-array-borrow-prefix-reads
+array-borrow-prefix-reads c = search needs
+
+slice-aggregate-answer-log-8 : tie.Need-slice-aggregate-answer-log-8
+slice-aggregate-answer-log-8 c = sym (length-take-le _ _ (array-borrow-prefix-reads (c .before)))
+
+answer-log-requires : tie.Need-answer-log-requires
+answer-log-requires c κs = search needs
+
+returns-2 : tie.Need-returns-2
+returns-2 c = search needs
+
+pub main-spec : {M : Type 1} → statement M
+main-spec =
+    tie.close
+    (tie.spec
+    large-buffer-requires
+    slice-aggregate-read-lead
+    slice-aggregate-read-lead-2
+    read-lead-requires
+    returns
+    sizes-of-requires
+    slice-aggregate-answer-log
+    slice-aggregate-answer-log-2
+    array-borrow-prefix-values
+    slice-aggregate-answer-log-3
+    array-borrow-prefix-versions
+    slice-aggregate-answer-log-4
+    array-borrow-prefix-statuses
+    slice-aggregate-answer-log-5
+    array-borrow-prefix-holidays
+    slice-aggregate-answer-log-6
+    array-borrow-prefix-readings
+    slice-aggregate-answer-log-7
+    array-borrow-prefix-reads
+    slice-aggregate-answer-log-8
+    answer-log-requires
+    returns-2)

@@ -1,0 +1,66 @@
+// Any of the filling calls as a value, made on all the lists.
+use crate::Filed;
+use rules::Head;
+ghost use mathlib.Core.Path.{_≡_};
+ghost use Rattle.rules.specs.Inner.Lent.{lentCells};
+ghost use Rattle.book.specs.Answers.{filedMeant};
+ghost use Rattle.book.specs.Arguments.{callMeant};
+ghost use Rattle.book.specs.Filling.{answer, after};
+
+pub enum Call {
+    Delivery {
+        slot: u32,
+        version: u32,
+        value: u32,
+        status: u8,
+    },
+    Holiday(u32),
+    Register {
+        boundary: u32,
+        version: u32,
+        reading: u32,
+    },
+}
+
+pub fn fill(
+    head: Head,
+    values: &mut [u32],
+    versions: &mut [u32],
+    statuses: &mut [u8],
+    holidays: &mut [u8],
+    readings: &mut [u32],
+    reads: &mut [u32],
+    call: Call,
+) -> Filed
+    ensures { λ r. ⌜
+        (let cells =
+        lentCells (values .entry) (versions .entry) (statuses .entry) (holidays .entry) (readings .entry) (reads .entry) in
+        (filedMeant r ≡ answer head cells (callMeant call))
+        × (lentCells (values .exit) (versions .exit) (statuses .exit) (holidays .exit) (readings .exit) (reads .exit)
+        ≡ after head cells (callMeant call)))
+        ⌝ }
+{
+    match call {
+        Call::Delivery {
+            slot,
+            version,
+            value,
+            status,
+        } => crate::deliver(
+            head,
+            values,
+            versions,
+            statuses,
+            slot,
+            version,
+            value,
+            status,
+        ),
+        Call::Holiday(day) => crate::holiday(head, holidays, day),
+        Call::Register {
+            boundary,
+            version,
+            reading,
+        } => crate::register(head, readings, reads, boundary, version, reading),
+    }
+}

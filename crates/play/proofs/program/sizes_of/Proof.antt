@@ -1,0 +1,62 @@
+use native.Mathlib.Omega.{arith}
+use mathlib.Core.Path.{refl}
+use borrow.Author.Needs.{needs}
+use Rattle.play.proofs.program.sizes_of.Statement.{statement}
+use Rattle.play.proofs.program.sizes_of.Tie as tie
+use Rattle.play.proofs.program.sizes_of.Reads as reads
+use Rattle.play.proofs.program.sizes_of.Lts as lts
+use Rattle.play.proofs.program.head_sizes.Reads as head-sizes-reads
+use Rattle.play.proofs.program.no_sizes.Reads as no-sizes-reads
+
+enum-known-line : tie.Need-enum-known-line
+enum-known-line c = search needs
+
+head-sizes-requires : tie.Need-head-sizes-requires
+head-sizes-requires c κs = search needs
+
+enum-told : tie.Need-enum-told
+enum-told c = search needs
+
+no-sizes-requires : tie.Need-no-sizes-requires
+no-sizes-requires c κs = search needs
+
+enum-told-2 : tie.Need-enum-told-2
+enum-told-2 c = search needs
+
+no-sizes-requires-2 : tie.Need-no-sizes-requires-2
+no-sizes-requires-2 c κs = search needs
+
+enum-told-3 : tie.Need-enum-told-3
+enum-told-3 c = search needs
+
+no-sizes-requires-3 : tie.Need-no-sizes-requires-3
+no-sizes-requires-3 c κs = search needs
+
+returns : tie.Need-returns
+returns c = rw (c .before .before .line .given .1) (c .head-sizes .ensures)
+
+returns-2 : tie.Need-returns-2
+returns-2 c = rw (c .before .enum-told .given .1, c .no-sizes .ensures) (refl, omega arith, omega arith, omega arith)
+
+returns-3 : tie.Need-returns-3
+returns-3 c = rw (c .before .enum-told2 .given .1, c .no-sizes2 .ensures) (refl, omega arith, omega arith, omega arith)
+
+returns-4 : tie.Need-returns-4
+returns-4 c = rw (c .before .enum-told3 .given .1, c .no-sizes3 .ensures) (refl, omega arith, omega arith, omega arith)
+
+pub sizes-of-spec : {M : Type 1} → statement M
+sizes-of-spec =
+    tie.close
+    (tie.spec
+    enum-known-line
+    head-sizes-requires
+    enum-told
+    no-sizes-requires
+    enum-told-2
+    no-sizes-requires-2
+    enum-told-3
+    no-sizes-requires-3
+    returns
+    returns-2
+    returns-3
+    returns-4)

@@ -1,0 +1,95 @@
+-- `main`: the lists are cut to the lengths that the opening asks for.
+use mathlib.Core.Path.{sym}
+use lib.Seq.{length-take-le}
+use borrow.Author.Needs.{needs}
+use Rattle.publish.proofs.main.Statement.{statement}
+use Rattle.publish.proofs.main.Tie as tie
+
+large-buffer-requires : tie.Need-large-buffer-requires
+large-buffer-requires c κs = search needs
+
+slice-aggregate-read-lead : tie.Need-slice-aggregate-read-lead
+slice-aggregate-read-lead c = search needs
+
+slice-aggregate-read-lead-2 : tie.Need-slice-aggregate-read-lead-2
+slice-aggregate-read-lead-2 c = search needs
+
+read-lead-requires : tie.Need-read-lead-requires
+read-lead-requires c κs = search needs
+
+sizes-of-requires : tie.Need-sizes-of-requires
+sizes-of-requires c κs = search needs
+
+slice-aggregate-publish-log : tie.Need-slice-aggregate-publish-log
+slice-aggregate-publish-log c = search needs
+
+slice-aggregate-publish-log-2 : tie.Need-slice-aggregate-publish-log-2
+slice-aggregate-publish-log-2 c = search needs
+
+array-borrow-prefix-values : tie.Need-array-borrow-prefix-values
+array-borrow-prefix-values c = search needs
+
+slice-aggregate-publish-log-3 : tie.Need-slice-aggregate-publish-log-3
+slice-aggregate-publish-log-3 c = sym (length-take-le _ _ (array-borrow-prefix-values (c .before)))
+
+array-borrow-prefix-versions : tie.Need-array-borrow-prefix-versions
+array-borrow-prefix-versions c = search needs
+
+slice-aggregate-publish-log-4 : tie.Need-slice-aggregate-publish-log-4
+slice-aggregate-publish-log-4 c = sym (length-take-le _ _ (array-borrow-prefix-versions (c .before)))
+
+array-borrow-prefix-statuses : tie.Need-array-borrow-prefix-statuses
+array-borrow-prefix-statuses c = search needs
+
+slice-aggregate-publish-log-5 : tie.Need-slice-aggregate-publish-log-5
+slice-aggregate-publish-log-5 c = sym (length-take-le _ _ (array-borrow-prefix-statuses (c .before)))
+
+array-borrow-prefix-holidays : tie.Need-array-borrow-prefix-holidays
+array-borrow-prefix-holidays c = search needs
+
+slice-aggregate-publish-log-6 : tie.Need-slice-aggregate-publish-log-6
+slice-aggregate-publish-log-6 c = sym (length-take-le _ _ (array-borrow-prefix-holidays (c .before)))
+
+array-borrow-prefix-readings : tie.Need-array-borrow-prefix-readings
+array-borrow-prefix-readings c = search needs
+
+slice-aggregate-publish-log-7 : tie.Need-slice-aggregate-publish-log-7
+slice-aggregate-publish-log-7 c = sym (length-take-le _ _ (array-borrow-prefix-readings (c .before)))
+
+array-borrow-prefix-reads : tie.Need-array-borrow-prefix-reads
+array-borrow-prefix-reads c = search needs
+
+slice-aggregate-publish-log-8 : tie.Need-slice-aggregate-publish-log-8
+slice-aggregate-publish-log-8 c = sym (length-take-le _ _ (array-borrow-prefix-reads (c .before)))
+
+publish-log-requires : tie.Need-publish-log-requires
+publish-log-requires c κs = search needs
+
+returns : tie.Need-returns
+returns c = search needs
+
+pub main-spec : {M : Type 1} → statement M
+main-spec =
+    tie.close
+    (tie.spec
+    large-buffer-requires
+    slice-aggregate-read-lead
+    slice-aggregate-read-lead-2
+    read-lead-requires
+    sizes-of-requires
+    slice-aggregate-publish-log
+    slice-aggregate-publish-log-2
+    array-borrow-prefix-values
+    slice-aggregate-publish-log-3
+    array-borrow-prefix-versions
+    slice-aggregate-publish-log-4
+    array-borrow-prefix-statuses
+    slice-aggregate-publish-log-5
+    array-borrow-prefix-holidays
+    slice-aggregate-publish-log-6
+    array-borrow-prefix-readings
+    slice-aggregate-publish-log-7
+    array-borrow-prefix-reads
+    slice-aggregate-publish-log-8
+    publish-log-requires
+    returns)
