@@ -1,0 +1,84 @@
+-- What holds of the conversions together: every reading has one form, `unpack` accepts exactly the forms, and both ways lead back.
+use mathlib.Core.Bool.{true, false}
+use mathlib.Core.List.{List, [], _∷_}
+use mathlib.Core.Logic.{_↔_}
+use mathlib.Core.Path.{_≡_, refl, sym, ap, _∙_}
+use Prim.Native.Nat.{ℕ, _≤_, _<_, _^_}
+use native.Mathlib.Omega.{arith}
+use borrow.Author.Tests.{eqb-true, eq-eqb, ltb-false, le-ltb, not-false}
+use lib.ListN.{length}
+use Rattle.dial.specs.declared.Packed.{Packed}
+use Rattle.dial.specs.declared.Packed.the-variants as packed
+use Rattle.dial.specs.declared.Unpacked.the-variants as unpacked
+use Rattle.dial.specs.Dial.{form, aboveNine, readingOf, Rule, unless, packRules, packAnswer, bytesAfter, packAfter, unpackRules, unpackAnswer}
+use Rattle.dial.specs.Dial.Rule.{rule}
+use Rattle.dial.proofs.Forms.{form-packed, packed-digits, reading-packed, reading-low, packed-reading}
+
+-- the form of a reading is read as that reading
+form-read : (reading : ℕ) → reading ≤ 99999999 → unpackAnswer (form reading) ≡ unpacked.Reading reading
+unfolding unpackAnswer form
+form-read reading h =
+    let digits : aboveNine (form reading) ≡ false = ap aboveNine (form-packed reading) ∙ packed-digits 4 reading in
+    let back : readingOf (form reading) ≡ reading = ap readingOf (form-packed reading) ∙ reading-packed 4 reading (omega arith) in
+    rw (digits, back)
+
+-- no rule of a list is broken
+abbrev Kept : List Rule → Type 0
+Kept [] = Unit {0}
+Kept (rule n broken ∷ rules) = (broken ≡ false) × Kept rules
+
+-- an answer that is no refusal is given where no rule is broken
+kept : {Answer : Type 0} (refused : ℕ → Answer) (rules : List Rule) (a b : Answer) → ((n : ℕ) → refused n ≡ b → ⊥)
+    → unless refused rules a ≡ b → Kept rules × (a ≡ b)
+kept refused [] a b other e = (tt, e)
+kept refused (rule n true ∷ rules) a b other e = absurd (other n e)
+kept refused (rule n false ∷ rules) a b other e =
+    let (k, same) = kept refused rules a b other e in
+    ((refl, k), same)
+
+-- what is read as a reading is the form of that reading
+read-form : (bytes : List ℕ) (reading : ℕ) → unpackAnswer bytes ≡ unpacked.Reading reading → (reading ≤ 99999999) × (form reading ≡ bytes)
+unfolding unpackAnswer
+read-form bytes reading e =
+    let ((four, (digits, _)), same) = kept unpacked.Refused (unpackRules bytes) _ _ (λ n r. let z : _≡_ {A = ℕ} 0 1 = cc in omega arith) e in
+    let long : length bytes ≡ 4 = eqb-true _ _ (not-false _ four) in
+    let read : readingOf bytes ≡ reading = cc in
+    let low : reading < 100 ^ 4 = rw (read, long) at (reading-low bytes digits) in
+    let back = rw (read, long) at (packed-reading bytes digits) in
+    (omega arith, form-packed reading ∙ back)
+
+-- `unpack` accepts exactly the forms of readings, each as its reading
+pub accepts-exactly : (bytes : List ℕ) (reading : ℕ) → (unpackAnswer bytes ≡ unpacked.Reading reading) ↔ ((reading ≤ 99999999) × (form reading ≡ bytes))
+accepts-exactly bytes reading = (
+  read-form bytes reading,
+  λ f. ap unpackAnswer (sym (f .1)) ∙ form-read reading (f .0),
+)
+
+-- every reading from 0 to 99,999,999 has one form
+pub one-form : (reading : ℕ) → reading ≤ 99999999 → (bytes : List ℕ) → (unpackAnswer bytes ≡ unpacked.Reading reading) ↔ (bytes ≡ form reading)
+one-form reading h bytes = (
+  λ e. sym (read-form bytes reading e .1),
+  λ e. ap unpackAnswer e ∙ form-read reading h,
+)
+
+-- and no two readings share theirs
+pub one-reading : (m n : ℕ) → m ≤ 99999999 → n ≤ 99999999 → form m ≡ form n → m ≡ n
+one-reading m n h l e =
+    let same : unpacked.Reading m ≡ unpacked.Reading n = sym (form-read m h) ∙ ap unpackAnswer e ∙ form-read n l in
+    cc
+
+-- there and back from a reading
+pub packed-then-unpacked : (reading : ℕ) (bytes : List ℕ) → packAnswer reading bytes ≡ packed.Done
+    → unpackAnswer (packAfter reading bytes) ≡ unpacked.Reading reading
+unfolding packAnswer packAfter
+packed-then-unpacked reading bytes e =
+    let ((_, (low, _)), _) = kept packed.Refused (packRules reading bytes) _ _ (λ n r. let z : _≡_ {A = ℕ} 0 1 = cc in omega arith) e in
+    ap (λ (a : Packed). unpackAnswer (bytesAfter a reading bytes)) e ∙ form-read reading (ltb-false _ _ low)
+
+-- there and back from bytes, into any four
+pub unpacked-then-packed : (bytes : List ℕ) (reading : ℕ) → unpackAnswer bytes ≡ unpacked.Reading reading
+    → (held : List ℕ) → length held ≡ 4 → (packAnswer reading held ≡ packed.Done) × (packAfter reading held ≡ bytes)
+unfolding packAnswer packAfter
+unpacked-then-packed bytes reading e held l =
+    let (low, back) = read-form bytes reading e in
+    rw (eq-eqb _ _ l, le-ltb 99999999 reading low) (refl, back)

@@ -1,0 +1,81 @@
+-- `pack`: the first broken rule is given; else the four bytes are those of the form.
+use mathlib.Core.Path.{_≡_, refl, _∙_}
+use Prim.Native.Nat.{_≤_, _<_}
+use native.Mathlib.Omega.{arith}
+use borrow.Author.Needs.{needs}
+use borrow.Author.Tests.{eq-eqb, ne-eqb, lt-ltb, le-ltb}
+use lib.ListN.{length}
+use Rattle.dial.specs.Dial.{packAnswer, packAfter}
+use Rattle.dial.proofs.Forms.{form-bytes, filled}
+use Rattle.dial.proofs.pack.Statement.{statement}
+use Rattle.dial.proofs.pack.Tie as tie
+
+returns : tie.Need-returns
+unfolding packAnswer packAfter
+returns c =
+    let other : length (c .before .before .args .bytes .now) ≡ 4 → ⊥ = λ e. omega arith in
+    rw (ne-eqb _ _ other) (refl, refl)
+
+returns-2 : tie.Need-returns-2
+unfolding packAnswer packAfter
+returns-2 c =
+    let a = c .before .before .before .args in
+    let four : length (a .bytes .now) ≡ 4 = omega arith in
+    let over : 99999999 < a .reading = omega arith in
+    rw (eq-eqb _ _ four, lt-ltb _ _ over) (refl, refl)
+
+two-digits-requires : tie.Need-two-digits-requires
+two-digits-requires c κs = search needs
+
+slice-write-bytes : tie.Need-slice-write-bytes
+slice-write-bytes c = search needs
+
+two-digits-requires-2 : tie.Need-two-digits-requires-2
+two-digits-requires-2 c κs = search needs
+
+slice-write-bytes-2 : tie.Need-slice-write-bytes-2
+slice-write-bytes-2 c = search needs
+
+two-digits-requires-3 : tie.Need-two-digits-requires-3
+two-digits-requires-3 c κs = search needs
+
+slice-write-bytes-3 : tie.Need-slice-write-bytes-3
+slice-write-bytes-3 c = search needs
+
+two-digits-requires-4 : tie.Need-two-digits-requires-4
+two-digits-requires-4 c κs = search needs
+
+slice-write-bytes-4 : tie.Need-slice-write-bytes-4
+slice-write-bytes-4 c = search needs
+
+same-length : tie.Need-same-length
+same-length c = search needs
+
+returns-3 : tie.Need-returns-3
+unfolding packAnswer packAfter
+returns-3 c =
+    let a = c .before .before .before .before .before .before .before .args in
+    let four : length (a .bytes .now) ≡ 4 = omega arith in
+    let within : a .reading ≤ 99999999 = omega arith in
+    rw (eq-eqb _ _ four, le-ltb _ _ within) (
+      refl,
+      filled (a .bytes .now) four
+          ∙ form-bytes (a .reading) (c .before .before .before .two-digits .ensures) (c .before .before .two-digits2 .ensures) (c .before .two-digits3 .ensures) (c .two-digits4 .ensures),
+    )
+
+pub pack-spec : {M : Type 1} → statement M
+pack-spec =
+    tie.close
+    (tie.spec
+    returns
+    returns-2
+    two-digits-requires
+    slice-write-bytes
+    two-digits-requires-2
+    slice-write-bytes-2
+    two-digits-requires-3
+    slice-write-bytes-3
+    two-digits-requires-4
+    slice-write-bytes-4
+    same-length
+    returns-3)
