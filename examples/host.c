@@ -3,20 +3,13 @@
 #include <stdio.h>
 #include <string.h>
 
+#include "expect.h"
 #include "sawmauve.h"
 
 #define SLOTS 48
 #define DAYS 1
 #define HEAD 2024, 5, 1, DAYS, 30, 1, 0
 #define LENGTH (6 * SLOTS + 32)
-
-#define EXPECT(test) \
-    do { \
-        if (!(test)) { \
-            fprintf(stderr, "host.c:%d: not so: %s\n", __LINE__, #test); \
-            return 1; \
-        } \
-    } while (0)
 
 static uint32_t values[SLOTS], versions[SLOTS], readings[DAYS + 1], reads[DAYS + 1];
 static uint8_t statuses[SLOTS], holidays[DAYS], out[LENGTH + 1];

@@ -1,4 +1,4 @@
-/* The berth meter book for C: the seven exports of the crate host.
+/* The berth meter book for C: the nine exports of the crate host.
  *
  * A list is a pointer and its number of elements. The lists of one call must not overlap, and no other thread may write
  * them meanwhile: the proofs rest on it. A refused call changes no list.
@@ -15,6 +15,7 @@
  *    9  reader: anything else in the file broken
  *   10  conflict: equal version, other content
  *   11  a cell that no calls could leave
+ *   16  a half byte above 9
  */
 #ifndef SAWMAUVE_H
 #define SAWMAUVE_H
@@ -27,13 +28,17 @@ extern "C" {
 #endif
 
 /* Codes of accepted calls; any other code is a refusal's number. */
-#define SAWMAUVE_DONE 0   /* opened, or the file is accepted */
+#define SAWMAUVE_DONE 0   /* opened, the file is accepted, or the reading is packed */
 #define SAWMAUVE_STORED 0 /* the call is stored */
 #define SAWMAUVE_LATE 100 /* a lower version than the cell's: nothing changes */
 #define SAWMAUVE_REPEAT 101 /* an equal version with equal content: nothing changes */
 
 /* What is published is longer than every refusal's number. */
 #define SAWMAUVE_SHORTEST 32
+
+/* Where sawmauve_unpack gives this or more, it is this plus a refusal's number; every reading is below it. */
+#define SAWMAUVE_READINGS 100000000
+#define SAWMAUVE_PACKED 4 /* the bytes of a reading in packed decimal */
 
 /* Places of the figures that sawmauve_read gives. */
 #define SAWMAUVE_FIRST 0       /* number of the first day, 0 for 2000-01-01 */
@@ -100,6 +105,13 @@ uint32_t sawmauve_read(
 
 /* How many of the file's first bytes are its two tables; 0 for a refused file. */
 uint64_t sawmauve_tables(const uint8_t *bytes, size_t bytes_len);
+
+/* A reading in packed decimal: four bytes, two digits a byte, lowest byte first, higher digit in the upper half. 0, or 2 where
+ * bytes_len is not 4, or 6, and the bytes stay as they were. */
+uint32_t sawmauve_pack(uint32_t reading, uint8_t *bytes, size_t bytes_len);
+
+/* The reading of four such bytes; or 100,000,000 plus 2 where bytes_len is not 4, or plus 16. */
+uint32_t sawmauve_unpack(const uint8_t *bytes, size_t bytes_len);
 
 #ifdef __cplusplus
 }

@@ -1,7 +1,9 @@
 #!/bin/sh
-# Builds the static library of the crate host, links examples/host.c with it, and runs that.
+# Builds the static library of the crate host, links each C program of examples/ with it, and runs that.
 set -e
 cd "$(dirname "$0")/.."
 rt staticlib host
-gcc -Wall -Wextra -Werror -O2 -Iinclude examples/host.c target/staticlib/libhost.a -o target/host-example
-target/host-example
+for example in host charger; do
+    gcc -Wall -Wextra -Werror -O2 -Iinclude "examples/$example.c" target/staticlib/libhost.a -o "target/$example-example"
+    "target/$example-example"
+done

@@ -1,4 +1,6 @@
 // The public calls for hosts in C and Rust: numbers, word lists and byte lists, each list a pointer and a length.
+mod chargers;
+
 use book::Filed;
 use book::Opened;
 use file::Verdict;
