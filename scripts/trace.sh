@@ -28,7 +28,7 @@ coded() {
         *::*) file=$folder/$(echo "$1" | cut -d: -f3).rt ;;
         *) file=$(ls "$folder/lib.rt" "$folder/main.rt" 2> /dev/null) ;;
     esac
-    has "$file" "^(pub )?(fn|struct|enum) ${1##*::}\\b"
+    has "$file" "^(pub )?(extern \"C\" )?(fn|struct|enum) ${1##*::}\\b"
 }
 
 missing=0
@@ -38,7 +38,7 @@ while read -r name; do
         case\ *) has crates/cases/stdout "^${name#case }\\b" ;;
         *.specs.*|*.proofs.*) stated "$name" ;;
         *::*) coded "$name" ;;
-        scripts/*) [ -f "$name" ] ;;
+        scripts/*|examples/*) [ -f "$name" ] ;;
         */*) [ -f "crates/${name%/*}/must-fail/${name#*/}.edit" ] ;;
         *) true ;;
     esac || { echo "docs/TRACE.md: $name is not there"; missing=1; }
