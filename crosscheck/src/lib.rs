@@ -1,7 +1,8 @@
-//! A second build of the berth meter book, made from document 01 alone,
+//! A second build of the berth meter book, made from documents 01 and 02 alone,
 //! and what is needed to compare it with another build.
 //!
-//! The build: `head`, `book`, `rules`, `file`, `reader`, `line`.
+//! The build: `head`, `book`, `rules`, `file`, `reader`, `line`;
+//! of 02: `dial`.
 //! What it is held against: `plain`, `definition`, `acceptance`, and `host` when linked.
 //! The comparison: `calls`, `random`, `heads`, `damage`, `side`, `run`, `shrink`, `counts`, `census`.
 #![deny(unsafe_code)]
@@ -13,6 +14,7 @@ pub mod census;
 pub mod counts;
 pub mod damage;
 pub mod definition;
+pub mod dial;
 pub mod file;
 pub mod head;
 pub mod heads;

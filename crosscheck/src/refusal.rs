@@ -1,4 +1,4 @@
-//! 01, Numbers of a refusal.
+//! 01, Numbers of a refusal, and 02's.
 
 pub const HEAD: u8 = 1;
 pub const LENGTH: u8 = 2;
@@ -11,3 +11,6 @@ pub const LAYOUT: u8 = 8;
 pub const CONTENT: u8 = 9;
 pub const CONFLICT: u8 = 10;
 pub const CELL: u8 = 11;
+
+// 02.
+pub const DIGIT: u8 = 16;
