@@ -2,6 +2,7 @@
 
 use crate::book::Filed;
 use crate::calls::Lists;
+use crate::dial_tries::Dials;
 use crate::head::Head;
 use crate::reader::Figures;
 use crate::side::{Answer, Delivery, RegisterRead, Side};
@@ -106,6 +107,10 @@ unsafe extern "C" {
     fn sawmauve_read(file: *const u8, file_len: usize, figures: *mut u64, len: usize) -> u32;
 
     fn sawmauve_tables(file: *const u8, file_len: usize) -> u64;
+
+    fn sawmauve_pack(reading: u32, bytes: *mut u8, len: usize) -> u32;
+
+    fn sawmauve_unpack(bytes: *const u8, len: usize) -> u32;
 }
 
 // Every pointer below is a slice's own, with that slice's length, and is not kept
@@ -252,6 +257,17 @@ pub fn read(file: &[u8], figures: &mut [u64]) -> u32 {
 pub fn tables(file: &[u8]) -> u64 {
     unsafe { sawmauve_tables(file.as_ptr(), file.len()) }
 }
+
+pub fn pack(reading: u32, bytes: &mut [u8]) -> u32 {
+    unsafe { sawmauve_pack(reading, bytes.as_mut_ptr(), bytes.len()) }
+}
+
+pub fn unpack(bytes: &[u8]) -> u32 {
+    unsafe { sawmauve_unpack(bytes.as_ptr(), bytes.len()) }
+}
+
+/// The host's conversions of packed decimal.
+pub const DIALS: Dials = Dials { pack, unpack };
 
 /// The host as a side of the comparison.
 pub struct Host;

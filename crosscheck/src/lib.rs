@@ -4,7 +4,8 @@
 //! The build: `head`, `book`, `rules`, `file`, `reader`, `line`;
 //! of 02: `dial`.
 //! What it is held against: `plain`, `definition`, `acceptance`, and `host` when linked.
-//! The comparison: `calls`, `random`, `heads`, `damage`, `side`, `run`, `shrink`, `counts`, `census`.
+//! The comparison: `calls`, `random`, `heads`, `damage`, `side`, `run`, `shrink`, `counts`, `census`;
+//! the smaller ones of 02: `tries`, `dial_tries`.
 #![deny(unsafe_code)]
 
 pub mod acceptance;
@@ -15,6 +16,7 @@ pub mod counts;
 pub mod damage;
 pub mod definition;
 pub mod dial;
+pub mod dial_tries;
 pub mod file;
 pub mod head;
 pub mod heads;
@@ -31,3 +33,4 @@ pub mod rules;
 pub mod run;
 pub mod shrink;
 pub mod side;
+pub mod tries;
