@@ -34,7 +34,7 @@ coded() {
 missing=0
 while read -r name; do
     case $name in
-        class\ *) has crosscheck/src/counts.rs "^ *\\(?\"${name#class }\"," ;;
+        class\ *) grep -qE -- "^ *\\(?\"${name#class }\"," crosscheck/src/*.rs ;;
         case\ *) has crates/cases/stdout "^${name#case }\\b" ;;
         *.specs.*|*.proofs.*) stated "$name" ;;
         *::*) coded "$name" ;;
