@@ -1,0 +1,3 @@
+pub mod Strips
+pub mod Claim
+pub mod Inner
