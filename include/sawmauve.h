@@ -1,4 +1,4 @@
-/* The berth meter book for C: the nine exports of the crate host.
+/* The berth meter book for C: the eleven exports of the crate host.
  *
  * A list is a pointer and its number of elements. The lists of one call must not overlap, and no other thread may write
  * them meanwhile: the proofs rest on it. A refused call changes no list.
@@ -16,6 +16,7 @@
  *   10  conflict: equal version, other content
  *   11  a cell that no calls could leave
  *   16  a half byte above 9
+ *   22  a table or its strips of another length than 6 N for 1 to 400 days, or an output of another length
  */
 #ifndef SAWMAUVE_H
 #define SAWMAUVE_H
@@ -28,7 +29,7 @@ extern "C" {
 #endif
 
 /* Codes of accepted calls; any other code is a refusal's number. */
-#define SAWMAUVE_DONE 0   /* opened, the file is accepted, or the reading is packed */
+#define SAWMAUVE_DONE 0   /* opened, the file is accepted, or the output is written */
 #define SAWMAUVE_STORED 0 /* the call is stored */
 #define SAWMAUVE_LATE 100 /* a lower version than the cell's: nothing changes */
 #define SAWMAUVE_REPEAT 101 /* an equal version with equal content: nothing changes */
@@ -112,6 +113,20 @@ uint32_t sawmauve_pack(uint32_t reading, uint8_t *bytes, size_t bytes_len);
 
 /* The reading of four such bytes; or 100,000,000 plus 2 where bytes_len is not 4, or plus 16. */
 uint32_t sawmauve_unpack(const uint8_t *bytes, size_t bytes_len);
+
+/* Lays a slot table out for storage: each value becomes its difference from the same position a day earlier, then all first
+ * bytes, all second bytes and so on. table is 6 N long, with N = 1440 / interval * days; out is as long. 0, or
+ * 1 for another interval than 5, 15 or 30, or 22. */
+uint32_t sawmauve_to_strips(
+    uint32_t interval,
+    const uint8_t *table, size_t table_len,
+    uint8_t *out, size_t out_len);
+
+/* The slot table that sawmauve_to_strips was given. 0, or 1 or 22. */
+uint32_t sawmauve_from_strips(
+    uint32_t interval,
+    const uint8_t *strips, size_t strips_len,
+    uint8_t *out, size_t out_len);
 
 #ifdef __cplusplus
 }
