@@ -14,3 +14,4 @@ pub const CELL: u8 = 11;
 
 // 02.
 pub const DIGIT: u8 = 16;
+pub const STRIPS: u8 = 22;
