@@ -6,6 +6,7 @@ use crate::dial_tries::Dials;
 use crate::head::Head;
 use crate::reader::Figures;
 use crate::side::{Answer, Delivery, RegisterRead, Side};
+use crate::strips_tries::Strips;
 
 unsafe extern "C" {
     fn sawmauve_open(
@@ -111,6 +112,22 @@ unsafe extern "C" {
     fn sawmauve_pack(reading: u32, bytes: *mut u8, len: usize) -> u32;
 
     fn sawmauve_unpack(bytes: *const u8, len: usize) -> u32;
+
+    fn sawmauve_to_strips(
+        interval: u32,
+        table: *const u8,
+        table_len: usize,
+        out: *mut u8,
+        out_len: usize,
+    ) -> u32;
+
+    fn sawmauve_from_strips(
+        interval: u32,
+        strips: *const u8,
+        strips_len: usize,
+        out: *mut u8,
+        out_len: usize,
+    ) -> u32;
 }
 
 // Every pointer below is a slice's own, with that slice's length, and is not kept
@@ -268,6 +285,36 @@ pub fn unpack(bytes: &[u8]) -> u32 {
 
 /// The host's conversions of packed decimal.
 pub const DIALS: Dials = Dials { pack, unpack };
+
+pub fn to_strips(interval: u32, table: &[u8], out: &mut [u8]) -> u32 {
+    unsafe {
+        sawmauve_to_strips(
+            interval,
+            table.as_ptr(),
+            table.len(),
+            out.as_mut_ptr(),
+            out.len(),
+        )
+    }
+}
+
+pub fn from_strips(interval: u32, strips: &[u8], out: &mut [u8]) -> u32 {
+    unsafe {
+        sawmauve_from_strips(
+            interval,
+            strips.as_ptr(),
+            strips.len(),
+            out.as_mut_ptr(),
+            out.len(),
+        )
+    }
+}
+
+/// The host's strips and their inverse.
+pub const STRIPS: Strips = Strips {
+    to: to_strips,
+    from: from_strips,
+};
 
 /// The host as a side of the comparison.
 pub struct Host;

@@ -5,7 +5,7 @@
 //! of 02: `dial`, `strips`.
 //! What it is held against: `plain`, `definition`, `acceptance`, and `host` when linked.
 //! The comparison: `calls`, `random`, `heads`, `damage`, `side`, `run`, `shrink`, `counts`, `census`;
-//! the smaller ones of 02: `tries`, `dial_tries`.
+//! the smaller ones of 02: `tries`, `dial_tries`, `strips_tries`.
 #![deny(unsafe_code)]
 
 pub mod acceptance;
@@ -34,4 +34,5 @@ pub mod run;
 pub mod shrink;
 pub mod side;
 pub mod strips;
+pub mod strips_tries;
 pub mod tries;
