@@ -1,4 +1,4 @@
-//! Times publishing, reading and delivering of both builds on the same books.
+//! Times publishing, reading, delivering and strips of both builds on the same books.
 
 use std::hint::black_box;
 use std::time::{Duration, Instant};
@@ -6,6 +6,7 @@ use std::time::{Duration, Instant};
 use crosscheck::calls::Lists;
 use crosscheck::head::{DIAL, Head};
 use crosscheck::side::{Answer, Delivery, RegisterRead, Second, Side};
+use crosscheck::strips_tries::{self, Strips};
 
 /// Runs of each measurement; the median counts.
 const RUNS: usize = 9;
@@ -143,20 +144,20 @@ fn timed<T>(work: impl FnOnce() -> T) -> Duration {
     start.elapsed()
 }
 
-type Sides = Vec<(&'static str, &'static dyn Side)>;
+type Sides<S> = Vec<(&'static str, S)>;
 
 /// Median time per item in ns for each side; the sides take turns, so that a busy
 /// moment of the machine meets both.
-fn medians(
-    sides: &Sides,
+fn medians<S: Copy>(
+    sides: &Sides<S>,
     items: usize,
     repeats: usize,
-    mut measure: impl FnMut(&dyn Side) -> Duration,
+    mut measure: impl FnMut(S) -> Duration,
 ) -> Vec<Option<f64>> {
     let mut runs = vec![Vec::new(); sides.len()];
     for _ in 0..RUNS {
-        for ((_, side), runs) in sides.iter().zip(&mut runs) {
-            let run: Duration = (0..repeats).map(|_| measure(*side)).sum();
+        for (&(_, side), runs) in sides.iter().zip(&mut runs) {
+            let run: Duration = (0..repeats).map(|_| measure(side)).sum();
             runs.push(run);
         }
     }
@@ -169,18 +170,31 @@ fn medians(
 }
 
 #[cfg(feature = "host")]
-fn sides() -> Sides {
+fn sides() -> Sides<&'static dyn Side> {
     vec![("second", &Second), ("host", &crosscheck::host::Host)]
 }
 
 #[cfg(not(feature = "host"))]
-fn sides() -> Sides {
+fn sides() -> Sides<&'static dyn Side> {
     vec![("second", &Second)]
+}
+
+#[cfg(feature = "host")]
+fn strips_sides() -> Sides<Strips> {
+    vec![
+        ("second", strips_tries::SECOND),
+        ("host", crosscheck::host::STRIPS),
+    ]
+}
+
+#[cfg(not(feature = "host"))]
+fn strips_sides() -> Sides<Strips> {
+    vec![("second", strips_tries::SECOND)]
 }
 
 fn print_row(book: &str, head: &Head, call: &str, times: &[Option<f64>]) {
     print!(
-        "{book:<15} {:>4} {:>3}  {call:<8}",
+        "{book:<15} {:>4} {:>3}  {call:<11}",
         head.days, head.interval
     );
     for time in times {
@@ -198,7 +212,7 @@ fn print_row(book: &str, head: &Head, call: &str, times: &[Option<f64>]) {
 fn main() {
     let sides = sides();
     println!("median of {RUNS} runs, ns per slot (deliver: per delivery)");
-    print!("{:<15} {:>4} {:>3}  {:<8}", "book", "D", "L", "call");
+    print!("{:<15} {:>4} {:>3}  {:<11}", "book", "D", "L", "call");
     sides.iter().for_each(|(name, _)| print!(" {name:>10}"));
     println!("{}", if sides.len() > 1 { "  host/second" } else { "" });
     for (kind, name) in KINDS {
@@ -217,6 +231,26 @@ fn main() {
             print_row(name, &sample.head, "publish", &publish);
             print_row(name, &sample.head, "read", &read);
             print_row(name, &sample.head, "deliver", &deliver);
+            if kind == Kind::Ordinary {
+                strips_rows(name, &sample, repeats);
+            }
         }
     }
+}
+
+fn strips_rows(name: &str, sample: &Sample, repeats: usize) {
+    let sides = strips_sides();
+    let table = &sample.file[..6 * sample.slots];
+    let interval = sample.head.interval;
+    let mut strips = vec![0; table.len()];
+    (strips_tries::SECOND.to)(interval, table, &mut strips);
+    let mut out = vec![0; table.len()];
+    let to = medians(&sides, sample.slots, repeats, |side| {
+        timed(|| (side.to)(interval, black_box(table), &mut out))
+    });
+    let from = medians(&sides, sample.slots, repeats, |side| {
+        timed(|| (side.from)(interval, black_box(&strips), &mut out))
+    });
+    print_row(name, &sample.head, "to_strips", &to);
+    print_row(name, &sample.head, "from_strips", &from);
 }
