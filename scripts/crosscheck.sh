@@ -1,5 +1,5 @@
 #!/bin/sh
-# Compares the static library with the second build: random books call by call, damaged files, and dials.
+# Compares the static library with the second build: random books call by call, damaged files, dials and strips.
 # Arguments, each with a default: seed, number of books, number of damaged files.
 set -e
 cd "$(dirname "$0")/.."
@@ -11,3 +11,4 @@ compare() {
 }
 compare compare -- --seed "$seed" --books "${2:-2000}" --damaged "${3:-20000}"
 compare dials -- --seed "$seed"
+compare strips -- --seed "$seed"
