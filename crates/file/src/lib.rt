@@ -1,5 +1,5 @@
 // The format of the published file: its reader, and the writing of its records (01, The published file).
-mod fields;
+pub mod fields;
 mod slots;
 mod spans;
 mod trailer;

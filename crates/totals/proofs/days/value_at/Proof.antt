@@ -1,0 +1,19 @@
+-- `days::value_at` meets its contract.
+use native.Mathlib.Omega.{arith}
+use borrow.Author.Needs.{needs}
+use Rattle.file.specs.Reader.{slotAt}
+use Rattle.totals.proofs.days.value_at.Statement.{statement}
+use Rattle.totals.proofs.days.value_at.Tie as tie
+
+mul-number : tie.Need-mul-number
+mul-number c = search needs
+
+number-requires : tie.Need-number-requires
+number-requires c κs = search needs
+
+returns : tie.Need-returns
+unfolding slotAt
+returns c = (c .number .ensures .0, omega (arith, c .number .ensures .1))
+
+pub value-at-spec : {M : Type 1} → statement M
+value-at-spec = tie.close (tie.spec mul-number number-requires returns)

@@ -1,0 +1,80 @@
+-- `pairs::pairs_fit`: the test of all pairs is that of the pairs from k on.
+use mathlib.Core.Path.{_≡_, sym, _∙_}
+use Prim.Native.Nat.{_≤_, _-_}
+use native.Mathlib.Nat.{sub-zero}
+use borrow.Author.Needs.{needs}
+use borrow.Author.Tests.{not-true, not-false}
+use Rattle.file.proofs.Stretches.{all-more, all-fails, all-done}
+use Rattle.file.specs.Lists.{all}
+use Rattle.totals.specs.Stays.{pairCount, firstOf, endOf, pairOk, pairsOk}
+use Rattle.totals.proofs.pairs.pairs_fit.Statement.{statement}
+use Rattle.totals.proofs.pairs.pairs_fit.Tie as tie
+
+abbrev Inv-loop : tie.InvT-loop
+Inv-loop pairs days count k₀ k = (k ≤ pairCount pairs) × (pairsOk days pairs ≡ all (λ j. pairOk days (firstOf pairs j) (endOf pairs j)) k (pairCount pairs - k))
+
+abbrev μ-loop : tie.MeasureT-loop
+μ-loop pairs days count k₀ k = pairCount pairs - k
+
+loop-holds : tie.Need-loop-holds Inv-loop μ-loop
+loop-holds c = (search needs, rw sub-zero)
+
+mul-pair-ok : tie.Need-mul-pair-ok Inv-loop μ-loop
+mul-pair-ok c = search needs
+
+mul-pair-ok-2 : tie.Need-mul-pair-ok-2 Inv-loop μ-loop
+mul-pair-ok-2 c = search needs
+
+shared-slice-read-pair-ok : tie.Need-shared-slice-read-pair-ok Inv-loop μ-loop
+shared-slice-read-pair-ok c = search needs
+
+mul-pair-ok-3 : tie.Need-mul-pair-ok-3 Inv-loop μ-loop
+mul-pair-ok-3 c = search needs
+
+add-pair-ok : tie.Need-add-pair-ok Inv-loop μ-loop
+add-pair-ok c = search needs
+
+mul-pair-ok-4 : tie.Need-mul-pair-ok-4 Inv-loop μ-loop
+mul-pair-ok-4 c = search needs
+
+shared-slice-read-pair-ok-2 : tie.Need-shared-slice-read-pair-ok-2 Inv-loop μ-loop
+shared-slice-read-pair-ok-2 c = search needs
+
+pair-ok-requires : tie.Need-pair-ok-requires Inv-loop μ-loop
+pair-ok-requires c κs = search needs
+
+returns : tie.Need-returns Inv-loop μ-loop
+returns c = sym (c .before .before .before .before .before .loop .inv .1 ∙ all-fails _ (c .before .before .before .before .before .loop .k) _ (search needs) (sym (c .before .pair-ok .ensures) ∙ not-true _ (c .if1 .taken)))
+
+add-k : tie.Need-add-k Inv-loop μ-loop
+add-k c = search needs
+
+loop-less : tie.Need-loop-less Inv-loop μ-loop
+loop-less c = search needs
+
+loop-again : tie.Need-loop-again Inv-loop μ-loop
+loop-again c = (search needs, c .before .before .before .before .before .loop .inv .1 ∙ all-more _ (c .before .before .before .before .before .loop .k) _ (search needs) (sym (c .before .pair-ok .ensures) ∙ not-false _ (c .if1 .left)))
+
+returns-2 : tie.Need-returns-2 Inv-loop μ-loop
+returns-2 c = sym (c .before .loop .inv .1 ∙ all-done _ (c .before .loop .k) _ (search needs))
+
+pub pairs-fit-spec : {M : Type 1} → statement M
+pairs-fit-spec =
+    tie.close
+    (tie.spec
+    Inv-loop
+    μ-loop
+    loop-holds
+    mul-pair-ok
+    mul-pair-ok-2
+    shared-slice-read-pair-ok
+    mul-pair-ok-3
+    add-pair-ok
+    mul-pair-ok-4
+    shared-slice-read-pair-ok-2
+    pair-ok-requires
+    returns
+    add-k
+    loop-less
+    loop-again
+    returns-2)

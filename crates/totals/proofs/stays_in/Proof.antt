@@ -1,0 +1,67 @@
+-- `stays_in`: 18, 19, or the totals after the last day.
+use mathlib.Core.Path.{sym, ap, _∙_}
+use Prim.Native.Nat.{_/_}
+use native.Mathlib.Omega.{arith}
+use borrow.Author.Needs.{needs}
+use borrow.Author.Tests.{not-true, not-false, eqb-true}
+use lib.ListN.{length}
+use Rattle.rules.proofs.Logic.{passed}
+use Rattle.file.specs.declared.Figures.{Figures}
+use Rattle.totals.specs.Stays.{listTests}
+use Rattle.totals.proofs.Adding.{before-all}
+use Rattle.totals.proofs.Answers.{figures-are, some-interval, fitted, refused-18, refused-19, done}
+use Rattle.totals.proofs.stays_in.Statement.{statement}
+use Rattle.totals.proofs.stays_in.Tie as tie
+
+lists-fit-requires : tie.Need-lists-fit-requires
+lists-fit-requires c κs = search needs
+
+returns : tie.Need-returns
+returns c = refused-18 _ _ (c .before .before .before .before .before .pre) _ _ (sym (c .before .lists-fit .ensures) ∙ not-true _ (c .if1 .taken))
+
+pairs-fit-requires : tie.Need-pairs-fit-requires
+pairs-fit-requires c κs = search needs
+
+returns-2 : tie.Need-returns-2
+returns-2 c = refused-19 _ _ (c .before .before .before .before .before .before .before .pre) _ _ (sym (c .before .before .before .lists-fit .ensures) ∙ not-false _ (c .before .before .if1 .left)) (sym (c .before .pairs-fit .ensures) ∙ not-true _ (c .if2 .taken))
+
+cast-n : tie.Need-cast-n
+cast-n c = search needs
+
+div-n : tie.Need-div-n
+div-n c = omega (arith, some-interval _ _ (c .before .before .before .before .before .before .before .before .pre))
+
+total-days-requires : tie.Need-total-days-requires
+total-days-requires c κs =
+    let start = c .before .before .before .before .before .before .before .before .before in
+    let a = start .args in
+    let lists-ok = sym (c .before .before .before .before .before .lists-fit .ensures) ∙ not-false _ (c .before .before .before .before .if1 .left) in
+    (fitted _ _ (start .pre), eqb-true _ _ (passed (listTests (a .pairs .now) (length (a .totals .now))) lists-ok 2))
+
+same-length : tie.Need-same-length
+same-length c = search needs
+
+returns-3 : tie.Need-returns-3
+returns-3 c =
+    let tested = c .before .before .before .before .before in
+    let start = tested .before .before .before .before .before .before .before in
+    let a = start .args in
+    let pairs-ok = sym (tested .before .pairs-fit .ensures) ∙ not-false _ (tested .if2 .left) in
+    let lists-ok = sym (tested .before .before .before .lists-fit .ensures) ∙ not-false _ (tested .before .before .if1 .left) in
+    let per-day = ap (λ (f : Figures). 1440 / f .interval) (sym (figures-are (a .file .now) (a .g) (start .pre))) in
+    let d = done (a .file .now) (a .g) (start .pre) (a .pairs .now) (a .totals .now) lists-ok pairs-ok in
+    (d .0, c .before .before .total-days .ensures ∙ before-all (a .file .now) _ (a .pairs .now) (a .g .days) per-day pairs-ok ∙ d .1)
+
+pub stays-in-spec : {M : Type 1} → statement M
+stays-in-spec =
+    tie.close
+    (tie.spec
+    lists-fit-requires
+    returns
+    pairs-fit-requires
+    returns-2
+    cast-n
+    div-n
+    total-days-requires
+    same-length
+    returns-3)
