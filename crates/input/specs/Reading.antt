@@ -1,7 +1,7 @@
 -- What reading the input says of itself.
 use Prim.Native.Nat.{ℕ, _≤_}
-use Rattle.show.specs.declared.Input.{Input}
-use Rattle.show.specs.declared.Input.the-variants.{Bytes, Failed}
+use Rattle.input.specs.declared.Input.{Input}
+use Rattle.input.specs.declared.Input.the-variants.{Bytes, Failed}
 
 -- at most so many bytes were read
 abbrev pub AtMost : Input → ℕ → Type 0

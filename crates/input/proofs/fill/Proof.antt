@@ -1,10 +1,10 @@
--- `show::fill`: what was read never passes the buffer.
+-- `input::fill`: what was read never passes the buffer.
 use mathlib.Core.Path.{_≡_}
 use Prim.Native.Nat.{_≤_, _-_}
 use borrow.Author.Needs.{needs}
 use lib.ListN.{length}
-use Rattle.show.proofs.fill.Statement.{statement}
-use Rattle.show.proofs.fill.Tie as tie
+use Rattle.input.proofs.fill.Statement.{statement}
+use Rattle.input.proofs.fill.Tie as tie
 
 abbrev Inv-loop : tie.InvT-loop
 Inv-loop buf₀ n₀ buf n = (n ≤ length buf) × (length buf ≡ length buf₀)
