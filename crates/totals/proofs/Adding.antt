@@ -11,11 +11,11 @@ use lib.Dec.{leb, ltb}
 use lib.ListN.{length, getD}
 use Rattle.rules.specs.Lists.{sum}
 use Rattle.rules.specs.Spans.{upTo}
+use Rattle.rules.proofs.Lists.{length-upTo, upTo-cong, getD-upTo}
 use Rattle.rules.proofs.Logic.{either, and-parts}
 use Rattle.rules.proofs.Summaries.{sum-small}
 use Rattle.file.specs.Reader.{slotAt, figures}
 use Rattle.file.specs.Contents.{Bytes}
-use Rattle.rules.proofs.Lists.{length-upTo, upTo-cong, getD-upTo}
 use Rattle.file.proofs.Numbers.{num-lt}
 use Rattle.file.proofs.Stretches.{all-at}
 use Rattle.totals.specs.Stays.{stayTotal, pairCount, firstOf, endOf, totalsOf, pairOk, pairsOk}
