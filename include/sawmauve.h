@@ -1,4 +1,4 @@
-/* The berth meter book for C: the eleven exports of the crate host.
+/* The berth meter book for C: the twelve exports of the crate host.
  *
  * A list is a pointer and its number of elements. The lists of one call must not overlap, and no other thread may write
  * them meanwhile: the proofs rest on it. A refused call changes no list.
@@ -16,6 +16,8 @@
  *   10  conflict: equal version, other content
  *   11  a cell that no calls could leave
  *   16  a half byte above 9
+ *   18  more than 64 pairs, a pair list of odd length, or another number of totals than of pairs
+ *   19  a pair whose first day is not below its second, or whose second exceeds D
  *   22  a table or its strips of another length than 6 N for 1 to 400 days, or an output of another length
  */
 #ifndef SAWMAUVE_H
@@ -127,6 +129,13 @@ uint32_t sawmauve_from_strips(
     uint32_t interval,
     const uint8_t *strips, size_t strips_len,
     uint8_t *out, size_t out_len);
+
+/* Totals up to 64 stays in a file: a pair is a first day and the day after the last, counted from 0 in the book, and its total the
+ * sum of the slots of its days, in Wh. 0 and the totals; or 8, 9, 18 or 19, and the totals stay as they were. */
+uint32_t sawmauve_stays(
+    const uint8_t *file, size_t file_len,
+    const uint32_t *pairs, size_t pairs_len,
+    uint64_t *totals, size_t totals_len);
 
 #ifdef __cplusplus
 }

@@ -1,5 +1,6 @@
 // The public calls for hosts in C and Rust: numbers, word lists and byte lists, each list a pointer and a length.
 mod chargers;
+mod stays;
 mod storage;
 
 use book::Filed;
