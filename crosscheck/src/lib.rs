@@ -2,7 +2,7 @@
 //! and what is needed to compare it with another build.
 //!
 //! The build: `head`, `book`, `rules`, `file`, `reader`, `line`;
-//! of 02: `dial`, `strips`.
+//! of 02: `dial`, `strips`, `stays`.
 //! What it is held against: `plain`, `definition`, `acceptance`, and `host` when linked.
 //! The comparison: `calls`, `random`, `heads`, `damage`, `side`, `run`, `shrink`, `counts`, `census`;
 //! the smaller ones of 02: `tries`, `dial_tries`, `strips_tries`.
@@ -33,6 +33,7 @@ pub mod rules;
 pub mod run;
 pub mod shrink;
 pub mod side;
+pub mod stays;
 pub mod strips;
 pub mod strips_tries;
 pub mod tries;

@@ -14,4 +14,6 @@ pub const CELL: u8 = 11;
 
 // 02.
 pub const DIGIT: u8 = 16;
+pub const STAYS: u8 = 18;
+pub const STAY_DAYS: u8 = 19;
 pub const STRIPS: u8 = 22;
