@@ -252,6 +252,11 @@ impl Bases {
         Bases(bases)
     }
 
+    /// One of the files as it was published.
+    pub fn whole(&self, rng: &mut Rng) -> &[u8] {
+        &self.0[rng.below(self.0.len())]
+    }
+
     /// The `index`th damaged file of a seed.
     pub fn damaged(&self, seed: u64, index: u64) -> Damaged {
         let mut rng = Rng::new(seed ^ 0xDA3A_6ED0, index);

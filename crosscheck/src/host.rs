@@ -128,6 +128,15 @@ unsafe extern "C" {
         out: *mut u8,
         out_len: usize,
     ) -> u32;
+
+    fn sawmauve_stays(
+        file: *const u8,
+        file_len: usize,
+        pairs: *const u32,
+        pairs_len: usize,
+        totals: *mut u64,
+        totals_len: usize,
+    ) -> u32;
 }
 
 // Every pointer below is a slice's own, with that slice's length, and is not kept
@@ -315,6 +324,19 @@ pub const STRIPS: Strips = Strips {
     to: to_strips,
     from: from_strips,
 };
+
+pub fn stays(file: &[u8], pairs: &[u32], totals: &mut [u64]) -> u32 {
+    unsafe {
+        sawmauve_stays(
+            file.as_ptr(),
+            file.len(),
+            pairs.as_ptr(),
+            pairs.len(),
+            totals.as_mut_ptr(),
+            totals.len(),
+        )
+    }
+}
 
 /// The host as a side of the comparison.
 pub struct Host;

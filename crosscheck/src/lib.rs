@@ -5,7 +5,7 @@
 //! of 02: `dial`, `strips`, `stays`.
 //! What it is held against: `plain`, `definition`, `acceptance`, and `host` when linked.
 //! The comparison: `calls`, `random`, `heads`, `damage`, `side`, `run`, `shrink`, `counts`, `census`;
-//! the smaller ones of 02: `tries`, `dial_tries`, `strips_tries`.
+//! the smaller ones of 02: `tries`, `dial_tries`, `strips_tries`, `stays_tries`.
 #![deny(unsafe_code)]
 
 pub mod acceptance;
@@ -34,6 +34,7 @@ pub mod run;
 pub mod shrink;
 pub mod side;
 pub mod stays;
+pub mod stays_tries;
 pub mod strips;
 pub mod strips_tries;
 pub mod tries;

@@ -26,6 +26,11 @@ pub fn small_file(seed: u64, index: u64) -> Vec<u8> {
     } else {
         30
     };
+    file_of(rng, days, interval)
+}
+
+/// The file of a book of these days and this interval.
+pub fn file_of(mut rng: Rng, days: u32, interval: u32) -> Vec<u8> {
     let book = loop {
         let book = book_of(rng.clone(), days, interval);
         if book.head.shape().is_ok() {

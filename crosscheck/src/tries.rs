@@ -73,18 +73,28 @@ struct Options {
 impl Comparison {
     /// Makes the tries that the arguments ask for and stops at a difference.
     pub fn run(&self, one: impl Fn(&mut Rng, u64, &mut Tally) -> Result<(), String>) -> ExitCode {
+        self.run_with(|_| (), |(), rng, index, tally| one(rng, index, tally))
+    }
+
+    /// As `run`, with something made of the seed first, for all tries.
+    pub fn run_with<T>(
+        &self,
+        prepare: impl Fn(u64) -> T,
+        one: impl Fn(&T, &mut Rng, u64, &mut Tally) -> Result<(), String>,
+    ) -> ExitCode {
         let Some(options) = self.options(std::env::args().skip(1)) else {
             eprintln!("{} --seed S --tries N [--from I] [--trace]", self.name);
             return ExitCode::from(2);
         };
         let start = Instant::now();
         let mut tally = Tally::new(self.classes);
+        let prepared = prepare(options.seed);
         for index in options.from..options.from + options.tries {
             if options.trace {
                 eprintln!("try {index}");
             }
             let mut rng = Rng::new(options.seed, index);
-            if let Err(what) = one(&mut rng, index, &mut tally) {
+            if let Err(what) = one(&prepared, &mut rng, index, &mut tally) {
                 println!("difference: seed {}, try {index}", options.seed);
                 println!("  {what}");
                 return ExitCode::from(1);
