@@ -1,4 +1,5 @@
-//! Times publishing, reading, delivering and strips of both builds on the same books.
+//! Times publishing, reading, delivering, strips and stays of both builds on the same
+//! books.
 
 use std::hint::black_box;
 use std::time::{Duration, Instant};
@@ -6,6 +7,7 @@ use std::time::{Duration, Instant};
 use crosscheck::calls::Lists;
 use crosscheck::head::{DIAL, Head};
 use crosscheck::side::{Answer, Delivery, RegisterRead, Second, Side};
+use crosscheck::stays_tries::{self, Stays};
 use crosscheck::strips_tries::{self, Strips};
 
 /// Runs of each measurement; the median counts.
@@ -192,6 +194,19 @@ fn strips_sides() -> Sides<Strips> {
     vec![("second", strips_tries::SECOND)]
 }
 
+#[cfg(feature = "host")]
+fn stays_sides() -> Sides<Stays> {
+    vec![
+        ("second", stays_tries::SECOND),
+        ("host", crosscheck::host::stays),
+    ]
+}
+
+#[cfg(not(feature = "host"))]
+fn stays_sides() -> Sides<Stays> {
+    vec![("second", stays_tries::SECOND)]
+}
+
 fn print_row(book: &str, head: &Head, call: &str, times: &[Option<f64>]) {
     print!(
         "{book:<15} {:>4} {:>3}  {call:<11}",
@@ -234,6 +249,9 @@ fn main() {
             if kind == Kind::Ordinary {
                 strips_rows(name, &sample, repeats);
             }
+            if kind == Kind::Ordinary && days == 400 {
+                stays_rows(name, &sample);
+            }
         }
     }
 }
@@ -253,4 +271,17 @@ fn strips_rows(name: &str, sample: &Sample, repeats: usize) {
     });
     print_row(name, &sample.head, "to_strips", &to);
     print_row(name, &sample.head, "from_strips", &from);
+}
+
+/// One stay of 200 days, and 64 of three weeks that overlap.
+fn stays_rows(name: &str, sample: &Sample) {
+    let sides = stays_sides();
+    let many: Vec<u32> = (0..64).flat_map(|i| [5 * i, 5 * i + 21]).collect();
+    for (pairs, call) in [(&[100, 300][..], "stays of 1"), (&many, "stays of 64")] {
+        let mut totals = vec![0; pairs.len() / 2];
+        let times = medians(&sides, sample.slots, 1, |side| {
+            timed(|| side(black_box(&sample.file), black_box(pairs), &mut totals))
+        });
+        print_row(name, &sample.head, call, &times);
+    }
 }
