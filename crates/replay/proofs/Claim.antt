@@ -17,7 +17,6 @@ use Rattle.book.specs.Opening.{openAnswer, openedIn, openAfter}
 use Rattle.book.specs.Filling.{answers as answersOf, afterAll}
 use Rattle.book.proofs.Agreement.{answers-agree, cells-agree}
 use Rattle.book.proofs.Soundness.{cells-sound}
-use Rattle.publishing.specs.declared.Published.the-variants as published
 use Rattle.publishing.specs.Publishing.{fileLength, lengthUnless, publishAnswer, publishAfter}
 use Rattle.replay.specs.declared.Replayed.{Replayed}
 use Rattle.replay.specs.declared.Replayed.the-variants.{Malformed, Refused}

@@ -1,5 +1,4 @@
 -- `spans::fields_ok`: the tests in their order.
-use borrow.Author.Needs.{needs}
 use borrow.Author.Tests.{le-leb, lt-leb}
 use Rattle.file.proofs.Logic.{and-true}
 use Rattle.file.proofs.spans.fields_ok.Statement.{statement}

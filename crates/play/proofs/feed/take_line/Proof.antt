@@ -1,5 +1,5 @@
 use native.Mathlib.Omega.{arith}
-use mathlib.Core.List.{List, [], _∷_, _++_}
+use mathlib.Core.List.{[], _∷_, _++_}
 use mathlib.Core.Path.{sym, ap, _∙_}
 use Prim.Native.Nat.{_<_, _+_}
 use lib.ListN.{length, take, drop}
@@ -10,11 +10,6 @@ use Rattle.play.proofs.Feeding.{line-goes-on, line-ends}
 use borrow.Author.Needs.{needs}
 use Rattle.play.proofs.feed.take_line.Statement.{statement}
 use Rattle.play.proofs.feed.take_line.Tie as tie
-use Rattle.play.proofs.feed.take_line.Reads as reads
-use Rattle.play.proofs.feed.take_line.Lts as lts
-use Rattle.log.proofs.line.line_of.Reads as line-of-reads
-use Rattle.log.proofs.pieces.end_of.Reads as end-of-reads
-use Rattle.play.proofs.feed.keep.Reads as keep-reads
 
 end-of-requires : tie.Need-end-of-requires
 end-of-requires c κs = search needs

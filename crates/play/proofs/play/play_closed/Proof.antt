@@ -1,4 +1,4 @@
-use Rattle.rules.specs.Inner.Lent.{slots, cells}
+use Rattle.rules.specs.Inner.Lent.{slots}
 -- `play::play::play_closed` meets its contract.
 use mathlib.Core.Path.{refl}
 use Rattle.play.specs.Playing.{playedClosed, closedCells}

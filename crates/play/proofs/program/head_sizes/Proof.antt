@@ -1,18 +1,14 @@
+-- `program::head_sizes`: a good head is bounded.
 use native.Mathlib.Omega.{arith}
 use native.Mathlib.Numerals.{add-one}
 use borrow.Author.Tests.{not-true, not-false}
 use mathlib.Core.Bool.{true, false}
-use mathlib.Core.Path.{_≡_, refl, sym, ap, _∙_}
+use mathlib.Core.Path.{_≡_, refl, sym, _∙_}
 use Rattle.rules.specs.Opening.{headOk}
 use Rattle.rules.proofs.Bounds.{bounded, count-high}
 use borrow.Author.Needs.{needs}
 use Rattle.play.proofs.program.head_sizes.Statement.{statement}
 use Rattle.play.proofs.program.head_sizes.Tie as tie
-use Rattle.play.proofs.program.head_sizes.Reads as reads
-use Rattle.play.proofs.program.head_sizes.Lts as lts
-use Rattle.play.proofs.program.no_sizes.Reads as no-sizes-reads
-use Rattle.rules.proofs.opening.head_ok.Reads as head-ok-reads
-use Rattle.rules.proofs.opening.slot_count.Reads as slot-count-reads
 
 head-ok-requires : tie.Need-head-ok-requires
 head-ok-requires c κs = search needs

@@ -1,5 +1,6 @@
+-- `program::play_log`: the source stays within the block and the part, and the lists keep their lengths.
 use borrow.Author.Needs.{needs}
-use mathlib.Core.Path.{_≡_, refl, sym, ap, _∙_}
+use mathlib.Core.Path.{_≡_, refl}
 use lib.ListN.{length}
 use native.Mathlib.Omega.{arith}
 use Rattle.play.specs.Inner.Feeding.{Held}

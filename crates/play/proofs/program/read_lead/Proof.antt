@@ -1,5 +1,6 @@
+-- `program::read_lead`: the source stays within the block and the part.
 use borrow.Author.Needs.{needs}
-use mathlib.Core.Path.{_≡_, refl, sym, ap, _∙_}
+use mathlib.Core.Path.{_≡_, _∙_}
 use lib.ListN.{length}
 use native.Mathlib.Omega.{arith}
 use Rattle.play.specs.Inner.Feeding.{Held}

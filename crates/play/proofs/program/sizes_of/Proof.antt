@@ -1,12 +1,9 @@
+-- `program::sizes_of`: by the case of the line.
 use native.Mathlib.Omega.{arith}
 use mathlib.Core.Path.{refl}
 use borrow.Author.Needs.{needs}
 use Rattle.play.proofs.program.sizes_of.Statement.{statement}
 use Rattle.play.proofs.program.sizes_of.Tie as tie
-use Rattle.play.proofs.program.sizes_of.Reads as reads
-use Rattle.play.proofs.program.sizes_of.Lts as lts
-use Rattle.play.proofs.program.head_sizes.Reads as head-sizes-reads
-use Rattle.play.proofs.program.no_sizes.Reads as no-sizes-reads
 
 enum-known-line : tie.Need-enum-known-line
 enum-known-line c = search needs

@@ -1,14 +1,10 @@
+-- `source::from_block`: a line ends within the block, or the part has room for what is held.
 use native.Mathlib.Omega.{arith}
-use mathlib.Core.Path.{_≡_, sym}
-use lib.ListN.{length, take}
+use mathlib.Core.Path.{sym}
 use lib.Seq.{length-take-le}
 use borrow.Author.Needs.{needs}
 use Rattle.play.proofs.source.from_block.Statement.{statement}
 use Rattle.play.proofs.source.from_block.Tie as tie
-use Rattle.play.proofs.source.from_block.Reads as reads
-use Rattle.play.proofs.source.from_block.Lts as lts
-use Rattle.play.proofs.feed.take_line.Reads as take-line-reads
-use Rattle.play.proofs.source.held.Reads as held-reads
 
 slice-aggregate-take-line : tie.Need-slice-aggregate-take-line
 slice-aggregate-take-line c = sym (length-take-le _ _ (c .before .before .before .pre .0 .inside))

@@ -1,15 +1,10 @@
+-- `source::from_input`: as many bytes as the block has are still to be taken.
 use mathlib.Core.Path.{sym}
 use native.Mathlib.Omega.{arith}
 use lib.Seq.{length-take-le}
 use borrow.Author.Needs.{needs}
 use Rattle.play.proofs.source.from_input.Statement.{statement}
 use Rattle.play.proofs.source.from_input.Tie as tie
-use Rattle.play.proofs.source.from_input.Reads as reads
-use Rattle.play.proofs.source.from_input.Lts as lts
-use Rattle.log.proofs.line.line_of.Reads as line-of-reads
-use Rattle.os.proofs.fail.Reads as fail-reads
-use Rattle.play.proofs.console.read_block.Reads as read-block-reads
-use Rattle.play.proofs.source.held.Reads as held-reads
 
 read-block-requires : tie.Need-read-block-requires
 read-block-requires c κs = search needs

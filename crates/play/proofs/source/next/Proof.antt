@@ -1,7 +1,7 @@
+-- `source::next`: the source stays within the block and the part.
 use borrow.Author.Needs.{needs}
-use mathlib.Core.Path.{_≡_, refl, sym, ap, _∙_}
+use mathlib.Core.Path.{_≡_, refl}
 use lib.ListN.{length}
-use native.Mathlib.Omega.{arith}
 use Rattle.play.specs.Inner.Feeding.{Held}
 use Rattle.play.proofs.Feeding.{held-as}
 use Rattle.play.proofs.source.next.Statement.{statement}

@@ -1,4 +1,4 @@
-use borrow.Author.Needs.{needs}
+-- `packing::call_of`: the call of each kind.
 use native.Mathlib.Omega.{arith}
 use Rattle.replay.proofs.Calls.{status-fits, is-delivery, is-holiday, is-register}
 use Rattle.replay.proofs.packing.call_of.Statement.{statement}

@@ -1,3 +1,4 @@
+-- `playing::play`: the packed call is made as the call that it is.
 use mathlib.Core.Path.{ap, _∙_}
 use Rattle.rules.specs.Inner.Lent.{slots, cells}
 use Rattle.book.specs.Answers.{answerCode}
