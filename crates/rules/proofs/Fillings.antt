@@ -8,28 +8,31 @@ use lib.Dec.{eqb}
 use lib.ListN.{getD}
 use Rattle.rules.specs.declared.Head.{Head}
 use Rattle.rules.specs.declared.Outcome.{Outcome}
-use Rattle.rules.specs.declared.Quality.the-variants.{A, S}
-use Rattle.rules.specs.Opening.{Slots, Cells}
+use Rattle.rules.specs.declared.Quality.the-variants.{A, S, F}
+use Rattle.rules.specs.Opening.{Slots, Agreed, Cells}
 use Rattle.rules.specs.Tests.{goodAt}
-use Rattle.rules.specs.Filling.{isOutageZero, isLinear, linearValue, references, fromReferences, filledAt}
+use Rattle.rules.specs.Filling.{isAgreed, isOutageZero, isLinear, linearValue, references, fromReferences, filledAt}
 use Rattle.rules.specs.Spans.{isS, filled, stateOf, newValue, inSpan}
 use Rattle.rules.proofs.Logic.{and-parts, either}
 
 module _ (P : Outcome → Type 0) where
   -- a slot before its span is scaled
-  pub filled-by : (h : Head) (s : Slots) (holidays : List ℕ) (i : ℕ)
+  pub filled-by : (h : Head) (s : Slots) (a : Agreed) (holidays : List ℕ) (i : ℕ)
       → (goodAt h s i ≡ true → P (record { value = getD (s .values) i 0; quality = A; method = 0 }))
+      → P (record { value = getD (a .values) i 0; quality = F; method = 5 })
       → P (record { value = 0; quality = A; method = 1 })
       → (isLinear h s i ≡ true → P (record { value = linearValue s i; quality = S; method = 2 }))
       → P (fromReferences (references h s holidays i))
-      → P (filledAt h s holidays i)
+      → P (filledAt h s a holidays i)
   unfolding filledAt
-  filled-by h s holidays i good outage linear rest =
+  filled-by h s a holidays i good agreed outage linear rest =
       ⊎-elim (λ e. rw e (good e)) (λ e. rw e (
+      ⊎-elim (λ t. rw t agreed) (λ t. rw t (
       ⊎-elim (λ f. rw f outage) (λ f. rw f (
       ⊎-elim (λ g. rw g (linear g)) (λ g. rw g rest)
       (either (isLinear h s i))))
       (either (isOutageZero h s i))))
+      (either (isAgreed a i))))
       (either (goodAt h s i))
 
   -- a slot of a span

@@ -9,7 +9,7 @@ use lib.Dec.{leb}
 use Rattle.rules.specs.declared.Head.{Head}
 use Rattle.rules.specs.declared.spans.Summary.{Summary}
 use Rattle.rules.specs.Lists.{sum}
-use Rattle.rules.specs.Opening.{Slots, Cells, slotsPerDay}
+use Rattle.rules.specs.Opening.{Slots, Agreed, Cells, slotsPerDay}
 use Rattle.rules.specs.Spans.{apart, stateBy, filled, start, slotsIn, R, actual, stateOf, T, allZero, e, E, P, spanOf, isS}
 use Rattle.rules.specs.Inner.Lent.{cells}
 use Rattle.rules.specs.Inner.Summaries.{summaryOf, scalingOf}
@@ -24,7 +24,7 @@ scaled-advance hole full r v t z = leb-true v r (stated hole full (leb v r) (leb
 module _ (h : Head) (b : Cells) (first last : ℕ) where
   -- the sums of the span's slots
   abbrev whole : Summary
-  whole = summaryOf h (b .slots) (b .holidays) (start h b first last) (slotsIn h b first last)
+  whole = summaryOf h (b .slots) (b .agreed) (b .holidays) (start h b first last) (slotsIn h b first last)
 
   shape : (ones : Bool) → sum (λ i. cond (isS (filled h b first last i .quality)) (cond ones 1 (filled h b first last i .value)) 0) (start h b first last) (slotsIn h b first last) ≡ cond ones (whole .count) (whole .substituted)
   unfolding summaryOf
@@ -49,11 +49,11 @@ module _ (h : Head) (b : Cells) (first last : ℕ) where
     meet-stretch = rw (state-found, p, q, scaling-first)
 
 -- a span's figures rest on no register version
-module _ (h : Head) (s : Slots) (holidays readings v w : List ℕ) (first last : ℕ) where
-  pub span-versions : spanOf h (cells s holidays readings v) first last ≡ spanOf h (cells s holidays readings w) first last
+module _ (h : Head) (s : Slots) (holidays readings v w : List ℕ) (agreed : Agreed) (first last : ℕ) where
+  pub span-versions : spanOf h (cells s holidays readings v agreed) first last ≡ spanOf h (cells s holidays readings w agreed) first last
   unfolding spanOf R stateOf actual start slotsIn
   span-versions = refl
 
-  pub stretch-versions : (i : ℕ) → spanStretch h (cells s holidays readings v) first last i ≡ spanStretch h (cells s holidays readings w) first last i
+  pub stretch-versions : (i : ℕ) → spanStretch h (cells s holidays readings v agreed) first last i ≡ spanStretch h (cells s holidays readings w agreed) first last i
   unfolding spanStretch R stateOf actual start slotsIn T E allZero e P
   stretch-versions i = refl

@@ -13,7 +13,7 @@ use Rattle.rules.specs.declared.Head.{Head}
 use Rattle.rules.specs.declared.fills.Fills.{Fills}
 use Rattle.rules.specs.declared.tests.Cause.{Cause}
 use Rattle.rules.specs.declared.tests.Cause.the-variants.{Gap}
-use Rattle.rules.specs.Opening.{Slots, slotCount}
+use Rattle.rules.specs.Opening.{Slots, Agreed, slotCount}
 use Rattle.rules.specs.Tests.{isGap, outageBit, isGood, causeOf, causeAt, goodAt}
 use Rattle.rules.specs.Filling.{outageAt, outageBefore, outageAfter, isOutageZero, filledAt}
 use Rattle.rules.specs.Inner.Fills.{actualOf, zeroAt, zeroBefore, fillsAt}
@@ -98,9 +98,9 @@ module _ (h : Head) (s : Slots) where
       go true x e = absurd (false≢true e)
       go false x e = refl
 
-  pub filled-good : (holidays : List ℕ) (i : ℕ) → goodAt h s i ≡ true → actualOf (getD (s .values) i 0) ≡ filledAt h s holidays i
+  pub filled-good : (a : Agreed) (holidays : List ℕ) (i : ℕ) → goodAt h s i ≡ true → actualOf (getD (s .values) i 0) ≡ filledAt h s a holidays i
   unfolding filledAt
-  filled-good holidays i g = rw g
+  filled-good a holidays i g = rw g
 
 -- a pass at slot i
 module _ (h : Head) (s : Slots) (p : Fills) (i : ℕ) (e : p ≡ fillsAt h s i) where

@@ -7,12 +7,14 @@ use lib.ListN.{length, getD}
 use Rattle.rules.specs.declared.Head.{Head}
 use Rattle.rules.specs.declared.Outcome.{Outcome}
 use Rattle.rules.specs.Opening.{Cells, slotsPerDay}
+use Rattle.rules.specs.Filling.{filledAt}
 use Rattle.rules.specs.Spans.{isScaled, advance, start, slotsIn, R, inSpan, spanOf, noSpan, outcomeAt, spans}
+use Rattle.rules.specs.Inner.Lent.{AgreedLow}
 use Rattle.rules.proofs.Bounds.{Bounded}
-use Rattle.rules.proofs.Small.{filled-small}
+use Rattle.rules.proofs.Small.{filled-low}
 use Rattle.rules.proofs.Fillings.{spanned-by}
 use Rattle.rules.proofs.Forms.{Filled, Form, filled-form, scaled-form}
-use Rattle.rules.proofs.Forms.Filled.{delivered, outage, linear, sameDay, nothing}
+use Rattle.rules.proofs.Forms.Filled.{delivered, agreed, outage, linear, sameDay, nothing}
 use Rattle.rules.proofs.Forms.Form.{unscaled}
 use Rattle.rules.proofs.Neighbours.{span-found}
 use Rattle.rules.proofs.Scaling.{new-high}
@@ -24,13 +26,9 @@ module _ (h : Head) (b : Cells) (first last : ℕ) where
   unfolding R advance
   advance-low = omega arith
 
-  span-form : (i : ℕ) → Form (inSpan h b first last i)
-  span-form i =
-      let f = filled-form h (b .slots) (b .holidays) i in
-      spanned-by Form h b first last i (λ q. scaled-form f q _) (unscaled f)
-
 filled-unscaled : {o : Outcome} → Filled o → isScaled (o .method) ≡ false
 filled-unscaled (delivered v) = refl
+filled-unscaled (agreed v) = refl
 filled-unscaled outage = refl
 filled-unscaled (linear v) = refl
 filled-unscaled (sameDay v) = refl
@@ -42,34 +40,40 @@ Covered h b i =
     (j : ℕ) × (j < length (spans h b)) × (getD (spans h b) j noSpan .first * slotsPerDay h ≤ i) × (i < getD (spans h b) j noSpan .last * slotsPerDay h)
 
 module _ (h : Head) (bounds : Bounded h) (b : Cells) where
-  span-fits : (first last i : ℕ) → i < start h b first last + slotsIn h b first last → inSpan h b first last i .value < 100000000
-  span-fits first last i l =
-      spanned-by (λ o. o .value < 100000000) h b first last i
-      (λ _. omega (arith, new-high h b first last i l, advance-low h b first last))
-      (omega (arith, filled-small h bounds (b .slots) (b .holidays) i))
+  module _ (low : AgreedLow (b .agreed)) (i : ℕ) where
+    form : Form (filledAt h (b .slots) (b .agreed) (b .holidays) i)
+    form = unscaled (filled-form h (b .slots) (b .agreed) (b .holidays) i) (filled-low h bounds (b .slots) (b .agreed) (b .holidays) i low)
 
-  module _ (i : ℕ) where
+    span-form : (first last : ℕ) → Form (inSpan h b first last i)
+    span-form first last = spanned-by Form h b first last i (λ q. scaled-form (filled-form h (b .slots) (b .agreed) (b .holidays) i) q _) form
+
     pub outcome-form : Form (outcomeAt h b i)
     outcome-form = go (place h bounds b i)
       where
         go : {o : Outcome} → Place h b i o → Form o
-        go outside = unscaled (filled-form h (b .slots) (b .holidays) i)
-        go (inside s n l m) = span-form h b (s .first) (s .last) i
+        go outside = form
+        go (inside s n l m) = span-form (s .first) (s .last)
+
+    span-fits : (first last : ℕ) → i < start h b first last + slotsIn h b first last → inSpan h b first last i .value < 100000000
+    span-fits first last l =
+        spanned-by (λ o. o .value < 100000000) h b first last i
+        (λ _. omega (arith, new-high h b first last i l, advance-low h b first last))
+        (omega (arith, filled-low h bounds (b .slots) (b .agreed) (b .holidays) i low))
 
     pub outcome-fits : outcomeAt h b i .value < 100000000
     outcome-fits = go (place h bounds b i)
       where
         go : {o : Outcome} → Place h b i o → o .value < 100000000
-        go outside = omega (arith, filled-small h bounds (b .slots) (b .holidays) i)
-        go (inside s n l m) = span-fits (s .first) (s .last) i (rw (span-end h b (s .first) (s .last) (omega (arith, n .ordered))) m)
+        go outside = omega (arith, filled-low h bounds (b .slots) (b .agreed) (b .holidays) i low)
+        go (inside s n l m) = span-fits (s .first) (s .last) (rw (span-end h b (s .first) (s .last) (omega (arith, n .ordered))) m)
 
-    -- no 18 or 19 outside spans
-    pub scaled-inside : isScaled (outcomeAt h b i .method) ≡ true → Covered h b i
-    unfolding spanOf
-    scaled-inside = go (place h bounds b i)
-      where
-        go : {o : Outcome} → Place h b i o → isScaled (o .method) ≡ true → Covered h b i
-        go outside t = absurd (false≢true (sym (filled-unscaled (filled-form h (b .slots) (b .holidays) i)) ∙ t))
-        go (inside s n l m) t =
-            let (j, k, x) = span-found h b (s .first) (s .last) (omega (arith, n .ordered, n .within)) (n .first-read) (n .next) in
-            (j, k, rw x l, rw x m)
+  -- no 18 or 19 outside spans
+  pub scaled-inside : (i : ℕ) → isScaled (outcomeAt h b i .method) ≡ true → Covered h b i
+  unfolding spanOf
+  scaled-inside i = go (place h bounds b i)
+    where
+      go : {o : Outcome} → Place h b i o → isScaled (o .method) ≡ true → Covered h b i
+      go outside t = absurd (false≢true (sym (filled-unscaled (filled-form h (b .slots) (b .agreed) (b .holidays) i)) ∙ t))
+      go (inside s n l m) t =
+          let (j, k, x) = span-found h b (s .first) (s .last) (omega (arith, n .ordered, n .within)) (n .first-read) (n .next) in
+          (j, k, rw x l, rw x m)

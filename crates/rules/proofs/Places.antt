@@ -33,7 +33,7 @@ slots-within h first last l m =
 
 -- where slot i lies, by its outcome
 pub data Place (h : Head) (b : Cells) (i : ℕ) : Outcome → Type 0 where
-  outside : Place h b i (filledAt h (b .slots) (b .holidays) i)
+  outside : Place h b i (filledAt h (b .slots) (b .agreed) (b .holidays) i)
   inside : (s : Span) → Neighbours h b s → s .first * slotsPerDay h ≤ i → i < s .last * slotsPerDay h → Place h b i (inSpan h b (s .first) (s .last) i)
 
 module _ (h : Head) (bounds : Bounded h) (b : Cells) where

@@ -1,4 +1,4 @@
--- A filled value is at most 35,000 Wh.
+-- A good or S value is at most 35,000 Wh, any filled value 99,999,999.
 use mathlib.Core.Bool.{Bool, true, false, cond, false≢true}
 use mathlib.Core.List.{List, [], _∷_}
 use mathlib.Core.Logic.{⊎-elim}
@@ -11,9 +11,11 @@ use lib.Dec.{ltb, eqb}
 use lib.ListN.{length, getD, take}
 use Rattle.rules.specs.declared.Head.{Head}
 use Rattle.rules.specs.declared.tests.Cause.the-variants.{Nothing, Gap, TimeChange, Partial, Demand}
-use Rattle.rules.specs.Opening.{Slots, limitOf, slotCount}
+use Rattle.rules.specs.Opening.{Slots, Agreed, limitOf, slotCount}
 use Rattle.rules.specs.Tests.{isGood, timeChangeBit, partialBit, causeOf, causeAt, goodAt}
 use Rattle.rules.specs.Filling.{isReference, slotsPerWeek, weeksBack, references, total, meanOf, isLinear, linearValue, fromReferences, filledAt}
+use Rattle.rules.specs.Spans.{isS, substitutedIn}
+use Rattle.rules.specs.Inner.Lent.{AgreedLow}
 use Rattle.rules.proofs.Logic.{and-parts, either}
 use Rattle.rules.proofs.Bounds.{Bounded, limit-high}
 use Rattle.rules.proofs.Fillings.{filled-by}
@@ -35,6 +37,10 @@ linear-tells h s i e =
     let q = and-parts _ _ (p .0) in
     let r = and-parts _ _ (q .0) in
     (leb-true _ _ (r .0), ltb-true _ _ (r .1), q .1, p .1)
+
+pub cond-small : (t : Bool) (x m : ℕ) → x ≤ m → cond t x 0 ≤ m
+cond-small true x m p = p
+cond-small false x m p = zero-le
 
 -- every value of a list is small
 abbrev small : List ℕ → Type 0
@@ -85,8 +91,17 @@ module _ (h : Head) (b : Bounded h) (s : Slots) where
     unfolding fromReferences meanOf
     mean-small xs p = ⊎-elim (λ e. rw e zero-le) (λ e. rw e (div-le-of-le-mul (length xs) (small-total xs p))) (either (eqb (length xs) 0))
 
-    pub filled-small : (i : ℕ) → filledAt h s holidays i .value ≤ 35000
+    references-small : (i : ℕ) → fromReferences (references h s holidays i) .value ≤ 35000
     unfolding references
-    filled-small i =
-        filled-by (λ o. o .value ≤ 35000) h s holidays i (good-small i) zero-le (half-small i)
-        (mean-small (take 4 (weeksBack h s holidays i 52)) (small-take 4 (weeksBack h s holidays i 52) (weeks-small 52 i)))
+    references-small i = mean-small (take 4 (weeksBack h s holidays i 52)) (small-take 4 (weeksBack h s holidays i 52) (weeks-small 52 i))
+
+  module _ (a : Agreed) (holidays : List ℕ) (i : ℕ) where
+    pub substituted-small : substitutedIn (filledAt h s a holidays i) ≤ 35000
+    substituted-small =
+        filled-by (λ o. substitutedIn o ≤ 35000) h s a holidays i (λ _. zero-le) zero-le zero-le (half-small i)
+        (cond-small (isS (fromReferences (references h s holidays i) .quality)) _ _ (references-small holidays i))
+
+    pub filled-low : AgreedLow a → filledAt h s a holidays i .value ≤ 99999999
+    filled-low low =
+        filled-by (λ o. o .value ≤ 99999999) h s a holidays i (λ g. omega (arith, good-small i g)) (omega (arith, low i)) zero-le
+        (λ g. omega (arith, half-small i g)) (omega (arith, references-small holidays i))

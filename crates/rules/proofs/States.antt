@@ -15,7 +15,7 @@ use Rattle.rules.specs.Spans.{isS, isN, actualIn, isScaled, apart, state
 use Rattle.rules.proofs.Bounds.{Bounded}
 use Rattle.rules.proofs.Sums.{sum-cong, sum-plus, any-cong, any-none}
 use Rattle.rules.proofs.Forms.{Filled, filled-form}
-use Rattle.rules.proofs.Forms.Filled.{delivered, outage, linear, sameDay, nothing}
+use Rattle.rules.proofs.Forms.Filled.{delivered, agreed, outage, linear, sameDay, nothing}
 use Rattle.rules.proofs.Neighbours.{Neighbours}
 use Rattle.rules.proofs.Scaling.{new-zero, new-total}
 use Rattle.rules.proofs.Places.{span-end, in-span}
@@ -44,6 +44,7 @@ scaledTo o t v = cond (isS (o .quality) && t) (record { value = v; quality = S; 
 new-marks : {o : Outcome} → Filled o → (t : Bool) (v : ℕ)
     → (scaledTo o t v .quality ≡ o .quality) × (isScaled (scaledTo o t v .method) ≡ (isS (o .quality) && t))
 new-marks (delivered w) t v = (refl, refl)
+new-marks (agreed w) t v = (refl, refl)
 new-marks outage t v = (refl, refl)
 new-marks (linear w) true v = (refl, refl)
 new-marks (linear w) false v = (refl, refl)
@@ -53,6 +54,7 @@ new-marks nothing t v = (refl, refl)
 
 new-value : {o : Outcome} → Filled o → (v : ℕ) → (isS (o .quality) ≡ false → v ≡ 0) → scaledTo o true v .value ≡ actualIn o + v
 new-value (delivered w) v z = omega (arith, z refl)
+new-value (agreed w) v z = omega (arith, z refl)
 new-value outage v z = omega (arith, z refl)
 new-value (linear w) v z = omega arith
 new-value (sameDay w) v z = omega arith
@@ -92,7 +94,7 @@ module _ (h : Head) (bounds : Bounded h) (b : Cells) (s : Span) (n : Neighbours 
   here i l m = in-span h bounds b s n i l (rw (← span-end h b (s .first) (s .last) (omega (arith, n .ordered))) m)
 
   form : (i : ℕ) → Filled (before i)
-  form i = filled-form h (b .slots) (b .holidays) i
+  form i = filled-form h (b .slots) (b .agreed) (b .holidays) i
 
   quality-same : (i : ℕ) → a ≤ i → i < a + k → outcomeAt h b i .quality ≡ before i .quality
   quality-same i l m = ap (λ (o : Outcome). o .quality) (here i l m) ∙ new-marks (form i) scaled (new i) .0

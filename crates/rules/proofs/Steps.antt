@@ -27,8 +27,8 @@ use Rattle.rules.proofs.Forms.{filled-form, method-low}
 use Rattle.rules.proofs.Places.{span-end, slots-within}
 use Rattle.rules.proofs.Outcomes.{advance-low}
 use Rattle.rules.proofs.Scaling.{running, zero-each, shape-positive}
-use Rattle.rules.proofs.Small.{filled-small}
-use Rattle.rules.proofs.Summaries.{sum-small, cond-small}
+use Rattle.rules.proofs.Small.{substituted-small}
+use Rattle.rules.proofs.Summaries.{sum-small}
 use Rattle.rules.proofs.Sums.{sum-grows, any-some}
 
 -- the outcome of slot i of a scaled span
@@ -44,7 +44,7 @@ within h b first last i = record { until = last * slotsPerDay h; by = scalingAt 
 
 -- slot i in an unscaled stretch or in a scaled span: the stretch before it, its outcome, the stretch behind it
 data Slot (h : Head) (b : Cells) (i : ℕ) : Stretch → Outcome → Stretch → Type 0 where
-  unscaled : (until : ℕ) → Slot h b i (unscaledTo until) (filledAt h (b .slots) (b .holidays) i) (unscaledTo until)
+  unscaled : (until : ℕ) → Slot h b i (unscaledTo until) (filledAt h (b .slots) (b .agreed) (b .holidays) i) (unscaledTo until)
   scaled : (first last : ℕ) → start h b first last ≤ i → i < start h b first last + slotsIn h b first last → first ≤ last → last ≤ h .days
       → Slot h b i (within h b first last i)
       (newly h b first last i)
@@ -122,7 +122,7 @@ module _ (h : Head) (w : Bounded h) (b : Cells) (i : ℕ) where
         let z : e h b first last i ≡ 0 = rw q in
         rw (passed, z, add-zero)
 
-  fit-outcome : {before after : Stretch} {x : Outcome} → Slot h b i before x after → fitOutcome (filledAt h (b .slots) (b .holidays) i) before ≡ x
+  fit-outcome : {before after : Stretch} {x : Outcome} → Slot h b i before x after → fitOutcome (filledAt h (b .slots) (b .agreed) (b .holidays) i) before ≡ x
   unfolding fitOutcome
   fit-outcome (unscaled until) = rw and-false
   fit-outcome (scaled first last l m j k) = go (isS (filled h b first last i .quality)) refl
@@ -131,7 +131,7 @@ module _ (h : Head) (w : Bounded h) (b : Cells) (i : ℕ) where
       go true q = rw (q, scaling first last l m q, new-value first last l m q)
       go false q = rw q
 
-  fit-next : {before after : Stretch} {x : Outcome} → Slot h b i before x after → fitNext (filledAt h (b .slots) (b .holidays) i) before ≡ after
+  fit-next : {before after : Stretch} {x : Outcome} → Slot h b i before x after → fitNext (filledAt h (b .slots) (b .agreed) (b .holidays) i) before ≡ after
   unfolding fitNext
   fit-next (unscaled until) = rw and-false
   fit-next (scaled first last l m j k) = go (isS (filled h b first last i .quality)) refl
@@ -143,11 +143,12 @@ module _ (h : Head) (w : Bounded h) (b : Cells) (i : ℕ) where
   module _ (first last : ℕ) where
     e-small : (j : ℕ) → e h b first last j ≤ 35000
     unfolding e
-    e-small j = cond-small (isS (filled h b first last j .quality)) _ _ (go (allZero h b first last))
+    e-small j = go (isS (filled h b first last j .quality)) (allZero h b first last) _ (substituted-small h w (b .slots) (b .agreed) (b .holidays) j)
       where
-        go : (z : Bool) → cond z 1 (filled h b first last j .value) ≤ 35000
-        go true = lit≤ tt
-        go false = filled-small h w (b .slots) (b .holidays) j
+        go : (q z : Bool) (v : ℕ) → cond q v 0 ≤ 35000 → cond q (cond z 1 v) 0 ≤ 35000
+        go true true v l = lit≤ tt
+        go true false v l = l
+        go false z v l = l
 
     -- E fits, and with it the running sums
     shape-high : first ≤ last → last ≤ h .days → E h b first last ≤ 4032000000
@@ -162,8 +163,8 @@ module _ (h : Head) (w : Bounded h) (b : Cells) (i : ℕ) where
         rw (← weight first last l m q, ← running h b first last i l)
         (sum-grows (e h b first last) (start h b first last) {j = i + 1 - start h b first last} {k = slotsIn h b first last} (omega arith))
 
-  scaled-well : {before after : Stretch} {x : Outcome} → Slot h b i before x after → isS (filledAt h (b .slots) (b .holidays) i .quality) ≡ true → (before .by .whole ≡ 0 → ⊥)
-      → Scales (filledAt h (b .slots) (b .holidays) i .value) (before .by)
+  scaled-well : {before after : Stretch} {x : Outcome} → Slot h b i before x after → isS (filledAt h (b .slots) (b .agreed) (b .holidays) i .quality) ≡ true → (before .by .whole ≡ 0 → ⊥)
+      → Scales (filledAt h (b .slots) (b .agreed) (b .holidays) i .value) (before .by)
   unfolding T
   scaled-well (unscaled until) q t = absurd (t refl)
   scaled-well (scaled first last l m j k) q t =
@@ -175,10 +176,10 @@ module _ (h : Head) (w : Bounded h) (b : Cells) (i : ℕ) where
       }
 
   -- slot i itself
-  pub step-fits : Fits (filledAt h (b .slots) (b .holidays) i) (stretchAt h b i)
-  step-fits = record { method-low = method-low (filled-form h (b .slots) (b .holidays) i); scales = scaled-well slot }
+  pub step-fits : Fits (filledAt h (b .slots) (b .agreed) (b .holidays) i) (stretchAt h b i)
+  step-fits = record { method-low = method-low (filled-form h (b .slots) (b .agreed) (b .holidays) i); scales = scaled-well slot }
 
-  module _ (entered : Entered) (new : Filled) (begins : entered .begins ≡ beginsAt h b i) (here : entered .stretch ≡ stretchAt h b i) (outcome : new .outcome ≡ filledAt h (b .slots) (b .holidays) i) (next : new .next ≡ fillsAt h (b .slots) (i + 1)) where
+  module _ (entered : Entered) (new : Filled) (begins : entered .begins ≡ beginsAt h b i) (here : entered .stretch ≡ stretchAt h b i) (outcome : new .outcome ≡ filledAt h (b .slots) (b .agreed) (b .holidays) i) (next : new .next ≡ fillsAt h (b .slots) (i + 1)) where
     carried : fitNext (new .outcome) (entered .stretch) ≡ carriedAt h b (i + 1)
     carried = ap₂ fitNext outcome here ∙ fit-next slot ∙ ap (carriedAt h b) (sym (add-one i))
 

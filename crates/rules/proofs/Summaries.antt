@@ -1,5 +1,5 @@
 -- The sums of a stretch of slots, slot by slot, and that they fit.
-use mathlib.Core.Bool.{Bool, true, false, cond, or-false, or-true}
+use mathlib.Core.Bool.{Bool, true, false, cond, _||_, or-false, or-true}
 use mathlib.Core.List.{List}
 use mathlib.Core.Path.{_≡_, refl, sym, ap, _∙_}
 use Prim.Native.Nat.{ℕ, zero, suc, _+_, _*_, _≤_, zero-le}
@@ -10,15 +10,16 @@ use lib.Dec.{lit≤}
 use Rattle.rules.specs.declared.Head.{Head}
 use Rattle.rules.specs.declared.Outcome.{Outcome}
 use Rattle.rules.specs.declared.Quality.{Quality}
-use Rattle.rules.specs.declared.Quality.the-variants.{A, S, N}
+use Rattle.rules.specs.declared.Quality.the-variants.{A, S, F, N}
 use Rattle.rules.specs.declared.spans.Summary.{Summary}
 use Rattle.rules.specs.Lists.{sum, any}
-use Rattle.rules.specs.Opening.{Slots}
+use Rattle.rules.specs.Opening.{Slots, Agreed}
 use Rattle.rules.specs.Filling.{filledAt}
-use Rattle.rules.specs.Spans.{isA, isS}
-use Rattle.rules.specs.Inner.Summaries.{summaryOf, addedTo}
+use Rattle.rules.specs.Spans.{isA, isS, isF}
+use Rattle.rules.specs.Inner.Lent.{AgreedLow}
+use Rattle.rules.specs.Inner.Summaries.{summaryOf, actualAdded, addedTo}
 use Rattle.rules.proofs.Bounds.{Bounded}
-use Rattle.rules.proofs.Small.{filled-small}
+use Rattle.rules.proofs.Small.{cond-small, substituted-small, filled-low}
 
 -- a sum of small terms
 pub sum-small : (f : ℕ → ℕ) (m : ℕ) → ((i : ℕ) → f i ≤ m) → (a k : ℕ) → sum f a k ≤ k * m
@@ -26,34 +27,33 @@ unfolding sum
 sum-small f m p a zero = zero-le
 sum-small f m p a (suc k) = rw (suc-mul k m) (add-le-add (sum-small f m p a k) (p (a + k)))
 
-pub cond-small : (t : Bool) (x m : ℕ) → x ≤ m → cond t x 0 ≤ m
-cond-small true x m p = p
-cond-small false x m p = zero-le
-
-module _ (h : Head) (s : Slots) (holidays : List ℕ) (a k : ℕ) where
-  summary-next : summaryOf h s holidays a (k + 1) ≡ addedTo (summaryOf h s holidays a k) (filledAt h s holidays (a + k))
+module _ (h : Head) (s : Slots) (agreed : Agreed) (holidays : List ℕ) (a k : ℕ) where
+  summary-next : summaryOf h s agreed holidays a (k + 1) ≡ addedTo (summaryOf h s agreed holidays a k) (filledAt h s agreed holidays (a + k))
   unfolding summaryOf addedTo sum any
   summary-next = rw add-one
 
   -- one slot on, where o is that slot
-  pub summary-on : (m r : Summary) (o : Outcome) → m ≡ summaryOf h s holidays a k → r ≡ addedTo m o → o ≡ filledAt h s holidays (a + k) → r ≡ summaryOf h s holidays a (k + 1)
+  pub summary-on : (m r : Summary) (o : Outcome) → m ≡ summaryOf h s agreed holidays a k → r ≡ addedTo m o → o ≡ filledAt h s agreed holidays (a + k) → r ≡ summaryOf h s agreed holidays a (k + 1)
   summary-on m r o e f g = f ∙ (rw (e, g) (sym summary-next))
 
-  count-small : summaryOf h s holidays a k .count ≤ k * 1
+  count-small : summaryOf h s agreed holidays a k .count ≤ k * 1
   unfolding summaryOf
-  count-small = sum-small _ 1 (λ i. cond-small (isS (filledAt h s holidays i .quality)) 1 1 (lit≤ tt)) a k
+  count-small = sum-small _ 1 (λ i. cond-small (isS (filledAt h s agreed holidays i .quality)) 1 1 (lit≤ tt)) a k
 
   module _ (b : Bounded h) where
-    actual-small : summaryOf h s holidays a k .actual ≤ k * 35000
+    actual-low : AgreedLow agreed → summaryOf h s agreed holidays a k .actual ≤ k * 99999999
     unfolding summaryOf
-    actual-small = sum-small _ 35000 (λ i. cond-small (isA (filledAt h s holidays i .quality)) _ _ (filled-small h b s holidays i)) a k
+    actual-low low =
+        sum-small _ 99999999
+        (λ i. cond-small (isA (filledAt h s agreed holidays i .quality) || isF (filledAt h s agreed holidays i .quality)) _ _ (filled-low h b s agreed holidays i low)) a k
 
-    substituted-small : summaryOf h s holidays a k .substituted ≤ k * 35000
+    substituted-low : summaryOf h s agreed holidays a k .substituted ≤ k * 35000
     unfolding summaryOf
-    substituted-small = sum-small _ 35000 (λ i. cond-small (isS (filledAt h s holidays i .quality)) _ _ (filled-small h b s holidays i)) a k
+    substituted-low = sum-small _ 35000 (λ i. substituted-small h b s agreed holidays i) a k
 
-    pub summary-fits : k ≤ 115200 → (m : Summary) → m ≡ summaryOf h s holidays a k → (m .actual ≤ 4032000000) × (m .substituted ≤ 4032000000) × (m .count ≤ 115200)
-    summary-fits l m e = rw e (omega (arith, actual-small), omega (arith, substituted-small), omega (arith, count-small))
+    pub summary-fits : AgreedLow agreed → k ≤ 115200 → (m : Summary) → m ≡ summaryOf h s agreed holidays a k
+        → (m .actual ≤ 11519999884800) × (m .substituted ≤ 4032000000) × (m .count ≤ 115200)
+    summary-fits low l m e = rw e (omega (arith, actual-low low), omega (arith, substituted-low), omega (arith, count-small))
 
 -- `spans::add` goes by the slot's quality
 module _ (m : Summary) (o : Outcome) where
@@ -64,9 +64,13 @@ module _ (m : Summary) (o : Outcome) where
   unfolding with
   added q e = ap (λ (x : Quality). addedTo m (with x)) (sym e)
 
-  pub added-actual : o .quality ≡ A → record { actual = m .actual + o .value; substituted = m .substituted; count = m .count; hole = m .hole; filled = m .filled } ≡ addedTo m o
+  pub added-actual : o .quality ≡ A → actualAdded m (o .value) ≡ addedTo m o
   unfolding addedTo with
   added-actual e = simp (add-zero, or-false) refl ∙ added A e
+
+  pub added-agreed : o .quality ≡ F → actualAdded m (o .value) ≡ addedTo m o
+  unfolding addedTo with
+  added-agreed e = simp (add-zero, or-false) refl ∙ added F e
 
   pub added-substituted : o .quality ≡ S → record { actual = m .actual; substituted = m .substituted + o .value; count = m .count + 1; hole = m .hole; filled = true } ≡ addedTo m o
   unfolding addedTo with

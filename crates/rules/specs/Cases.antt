@@ -1,4 +1,4 @@
--- 01's starred cases, as one table of tests. `proofs/Cases.antt` computes that every one passes.
+-- 01's starred cases and those of 02, as one table of tests. `proofs/Cases.antt` computes that every one passes.
 use mathlib.Core.Bool.{Bool, not, _&&_}
 use mathlib.Core.List.{List, [], _∷_}
 use Prim.Native.Nat.{ℕ}
@@ -6,10 +6,12 @@ use lib.Dec.{eqb}
 use lib.ListN.{replicate}
 use Rattle.calendar.specs.Calendar.{dayNumber}
 use Rattle.rules.specs.declared.Head.{Head}
+use Rattle.rules.specs.declared.Outcome.{Outcome}
+use Rattle.rules.specs.declared.Quality.{Quality}
 use Rattle.rules.specs.Opening.{Cells, headOk}
 use Rattle.rules.specs.Tests.{goodAt}
 use Rattle.rules.specs.Filling.{linearValue, isReference, meanOf}
-use Rattle.rules.specs.Spans.{advance, outcomeAt}
+use Rattle.rules.specs.Spans.{isA, isF, advance, actual, stateOf, outcomeAt}
 
 -- a head of interval 30, kind 1 and tolerance 0
 abbrev pub headOn : ℕ → ℕ → ℕ → ℕ → Head
@@ -38,6 +40,7 @@ day e rest = record {
   holidays = 0 ∷ [];
   readings = 0 ∷ 110 ∷ [];
   readVersions = 1 ∷ 1 ∷ [];
+  agreed = record { values = []; versions = [] };
 }
 
 -- the gaps get 3, 3 and 4
@@ -45,6 +48,26 @@ abbrev pub scaled : Cells → Bool
 scaled b =
     let value : ℕ → ℕ = λ i. outcomeAt (headOn 2024 5 1 1) b i .value in
     eqb (value 1) 3 && eqb (value 3) 3 && eqb (value 5) 4
+
+-- a day that begins with a delivery of 40 with the outage bit, a gap agreed at 600 and a delivery of 50 agreed at 700; the rest are 0, and the dial goes from 0 to 690 (02, W1)
+abbrev pub agreedDay : Cells
+agreedDay = record {
+  slots = record {
+    values = 40 ∷ 0 ∷ 50 ∷ replicate 45 0;
+    versions = 1 ∷ 0 ∷ replicate 46 1;
+    statuses = 2 ∷ replicate 47 0;
+  };
+  holidays = 0 ∷ [];
+  readings = 0 ∷ 690 ∷ [];
+  readVersions = 1 ∷ 1 ∷ [];
+  agreed = record { values = 0 ∷ 600 ∷ 700 ∷ []; versions = 0 ∷ 1 ∷ 1 ∷ [] };
+}
+
+-- its slot i has this value, quality and method
+abbrev pub agreedHas : ℕ → ℕ → (Quality → Bool) → ℕ → Bool
+agreedHas i value quality method =
+    let o : Outcome = outcomeAt (headOn 2024 5 1 1) agreedDay i in
+    eqb (o .value) value && quality (o .quality) && eqb (o .method) method
 
 unfoldable pub cases : List Bool
 cases =
@@ -62,4 +85,8 @@ cases =
     ∷ not (headOk (headOn 2001 2 29 1))
     ∷ headOk (headOn 2099 12 31 1)
     ∷ not (headOk (headOn 2099 12 31 2))
+    ∷ agreedHas 1 600 isF 5
+    ∷ agreedHas 2 50 isA 0
+    ∷ eqb (actual (headOn 2024 5 1 1) agreedDay 0 1) 690
+    ∷ eqb (stateOf (headOn 2024 5 1 1) agreedDay 0 1) 0
     ∷ []

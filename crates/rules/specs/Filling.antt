@@ -6,8 +6,8 @@ use lib.Dec.{leb, ltb, eqb}
 use lib.ListN.{getD, length, take}
 use Rattle.rules.specs.declared.Head.{Head}
 use Rattle.rules.specs.declared.Outcome.{Outcome}
-use Rattle.rules.specs.declared.Quality.the-variants.{A, S, N}
-use Rattle.rules.specs.Opening.{Slots, slotsPerDay, slotCount}
+use Rattle.rules.specs.declared.Quality.the-variants.{A, S, F, N}
+use Rattle.rules.specs.Opening.{Slots, Agreed, slotsPerDay, slotCount}
 use Rattle.rules.specs.Tests.{isGap, outageBit, goodAt}
 
 -- 1. Outage zero: slot i is delivered with the outage bit
@@ -73,10 +73,15 @@ fromReferences xs =
     cond (eqb (length xs) 0) (record { value = 0; quality = N; method = 0 })
     (record { value = meanOf xs; quality = S; method = 3 })
 
--- a good slot has its delivered value; for a slot with a cause, the first rule that applies
-unfoldable pub filledAt : Head → Slots → List ℕ → ℕ → Outcome
-filledAt h s holidays i =
+-- an agreed version above 0 (02, W1)
+unfoldable pub isAgreed : Agreed → ℕ → Bool
+isAgreed a i = ltb 0 (getD (a .versions) i 0)
+
+-- a good slot has its delivered value; one with a cause has its agreed value, or else the first rule that applies
+unfoldable pub filledAt : Head → Slots → Agreed → List ℕ → ℕ → Outcome
+filledAt h s a holidays i =
     cond (goodAt h s i) (record { value = getD (s .values) i 0; quality = A; method = 0 })
+    (cond (isAgreed a i) (record { value = getD (a .values) i 0; quality = F; method = 5 })
     (cond (isOutageZero h s i) (record { value = 0; quality = A; method = 1 })
     (cond (isLinear h s i) (record { value = linearValue s i; quality = S; method = 2 })
-    (fromReferences (references h s holidays i))))
+    (fromReferences (references h s holidays i)))))

@@ -53,9 +53,15 @@ pub record Slots : Type 0 where
   pub versions : List ℕ
   pub statuses : List ℕ
 
--- the six lent lists
+-- the two lent lists of agreed values (02, W1)
+pub record Agreed : Type 0 where
+  pub values : List ℕ
+  pub versions : List ℕ
+
+-- the eight lent lists
 pub record Cells : Type 0 where
   pub slots : Slots
   pub holidays : List ℕ
   pub readings : List ℕ
   pub readVersions : List ℕ
+  pub agreed : Agreed

@@ -8,7 +8,7 @@ use lib.ListN.{getD}
 use Rattle.rules.specs.declared.Head.{Head}
 use Rattle.rules.specs.declared.Outcome.{Outcome}
 use Rattle.rules.specs.declared.Quality.{Quality}
-use Rattle.rules.specs.declared.Quality.the-variants.{A, S, N}
+use Rattle.rules.specs.declared.Quality.the-variants.{A, S, F, N}
 use Rattle.rules.specs.declared.Span.{Span}
 use Rattle.rules.specs.Lists.{sum, any}
 use Rattle.rules.specs.Opening.{Cells, slotsPerDay, slotCount}
@@ -17,21 +17,30 @@ use Rattle.rules.specs.Filling.{filledAt}
 abbrev pub isA : Quality → Bool
 isA A = true
 isA S = false
+isA F = false
 isA N = false
 
 abbrev pub isS : Quality → Bool
 isS A = false
 isS S = true
+isS F = false
 isS N = false
+
+abbrev pub isF : Quality → Bool
+isF A = false
+isF S = false
+isF F = true
+isF N = false
 
 abbrev pub isN : Quality → Bool
 isN A = false
 isN S = false
+isN F = false
 isN N = true
 
--- the value of an A slot, and of an S slot
+-- the value of an A or F slot, and of an S slot
 abbrev pub actualIn : Outcome → ℕ
-actualIn o = cond (isA (o .quality)) (o .value) 0
+actualIn o = cond (isA (o .quality) || isF (o .quality)) (o .value) 0
 
 abbrev pub substitutedIn : Outcome → ℕ
 substitutedIn o = cond (isS (o .quality)) (o .value) 0
@@ -74,7 +83,7 @@ share t c e = t * c / e
 module _ (h : Head) (b : Cells) (first last : ℕ) where
   -- its slots, before scaling
   abbrev pub filled : ℕ → Outcome
-  filled i = filledAt h (b .slots) (b .holidays) i
+  filled i = filledAt h (b .slots) (b .agreed) (b .holidays) i
 
   unfoldable pub start : ℕ
   start = first * slotsPerDay h
@@ -85,7 +94,7 @@ module _ (h : Head) (b : Cells) (first last : ℕ) where
   unfoldable pub R : ℕ
   R = advance (getD (b .readings) first 0) (getD (b .readings) last 0)
 
-  -- V, the sum of its A slots
+  -- V, the sum of its A and F slots
   unfoldable pub actual : ℕ
   actual = sum (λ i. actualIn (filled i)) start slotsIn
 
@@ -136,8 +145,8 @@ noSpan = record { first = 0; last = 0; advance = 0; state = 0 }
 -- a slot before the first or after the last boundary with a reading lies in no span
 unfoldable pub between : Head → Cells → Option ℕ → Option ℕ → ℕ → Outcome
 between h b (some first) (some last) i = inSpan h b first last i
-between h b (some first) none i = filledAt h (b .slots) (b .holidays) i
-between h b none last i = filledAt h (b .slots) (b .holidays) i
+between h b (some first) none i = filledAt h (b .slots) (b .agreed) (b .holidays) i
+between h b none last i = filledAt h (b .slots) (b .agreed) (b .holidays) i
 
 -- a slot's outcome
 unfoldable pub outcomeAt : Head → Cells → ℕ → Outcome

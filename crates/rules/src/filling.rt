@@ -11,8 +11,8 @@ ghost use lib.ListN.{take};
 ghost use Rattle.rules.specs.Opening.{slotsPerDay, slotCount};
 ghost use Rattle.rules.specs.Tests.{goodAt};
 ghost use Rattle.rules.specs.Filling.{isReference, references, meanOf, isLinear, fromReferences, isOutageZero, filledAt};
-ghost use Rattle.rules.specs.Inner.Lent.{lentSlots, Fitted, Lent};
-ghost use Rattle.rules.specs.Inner.Fills.{actualOf};
+ghost use Rattle.rules.specs.Inner.Lent.{lentSlots, lentAgreed, Fitted, Lent, Settled};
+ghost use Rattle.rules.specs.Inner.Fills.{actualOf, agreedOf};
 
 // Up to four values of the same position on earlier weeks, nearest first.
 pub struct References {
@@ -172,6 +172,17 @@ pub fn delivered(value: u32) -> Outcome
     }
 }
 
+// The outcome of an agreed slot.
+fn by_agreement(value: u32) -> Outcome
+    ensures { λ r. ⌜ r ≡ agreedOf value ⌝ }
+{
+    Outcome {
+        value: value,
+        quality: Quality::F,
+        method: 5,
+    }
+}
+
 // The outcome before scaling of slot `at`, which has a cause; `outage` says whether outage zero applies.
 pub fn unscaled(
     head: Head,
@@ -179,12 +190,17 @@ pub fn unscaled(
     versions: &[u32],
     statuses: &[u8],
     holidays: &[u8],
+    agreed: &[u32],
+    agreed_versions: &[u32],
     at: usize,
     outage: bool,
 ) -> Outcome
-    requires { ⌜ Lent head (lentSlots values versions statuses) (now holidays) × (at < slotCount head) × (goodAt head (lentSlots values versions statuses) at ≡ false) × (outage ≡ isOutageZero head (lentSlots values versions statuses) at) ⌝ }
-    ensures { λ r. ⌜ r ≡ filledAt head (lentSlots (values .entry) (versions .entry) (statuses .entry)) (now (holidays .entry)) at ⌝ }
+    requires { ⌜ Lent head (lentSlots values versions statuses) (now holidays) × Settled head (lentAgreed agreed «agreed_versions») × (at < slotCount head) × (goodAt head (lentSlots values versions statuses) at ≡ false) × (outage ≡ isOutageZero head (lentSlots values versions statuses) at) ⌝ }
+    ensures { λ r. ⌜ r ≡ filledAt head (lentSlots (values .entry) (versions .entry) (statuses .entry)) (lentAgreed (agreed .entry) («agreed_versions» .entry)) (now (holidays .entry)) at ⌝ }
 {
+    if 0 < agreed_versions[at] {
+        return by_agreement(agreed[at]);
+    }
     if outage {
         return Outcome {
             value: 0,

@@ -8,7 +8,7 @@ ghost use Prim.Native.Nat.{_+_, _-_, _<_, _≤_};
 ghost use lib.ListN.{length};
 ghost use Rattle.rules.specs.Opening.{slotCount};
 ghost use Rattle.rules.specs.Filling.{outageAfter, filledAt};
-ghost use Rattle.rules.specs.Inner.Lent.{lentSlots, Lent};
+ghost use Rattle.rules.specs.Inner.Lent.{lentSlots, lentAgreed, Lent, Settled};
 ghost use Rattle.rules.specs.Inner.Fills.{zeroAt, zeroBefore, fillsAt};
 
 // What is known at slot `at`: whether outage zero applies to the slot before it.
@@ -66,10 +66,12 @@ pub fn fill(
     versions: &[u32],
     statuses: &[u8],
     holidays: &[u8],
+    agreed: &[u32],
+    agreed_versions: &[u32],
     fills: Fills,
 ) -> Filled
-    requires { ⌜ Lent head (lentSlots values versions statuses) (now holidays) × (fills .at < slotCount head) × (fills ≡ fillsAt head (lentSlots values versions statuses) (fills .at)) ⌝ }
-    ensures { λ r. ⌜ (r .outcome ≡ filledAt head (lentSlots (values .entry) (versions .entry) (statuses .entry)) (now (holidays .entry)) (fills .at)) × (r .next ≡ fillsAt head (lentSlots (values .entry) (versions .entry) (statuses .entry)) (fills .at + 1)) ⌝ }
+    requires { ⌜ Lent head (lentSlots values versions statuses) (now holidays) × Settled head (lentAgreed agreed «agreed_versions») × (fills .at < slotCount head) × (fills ≡ fillsAt head (lentSlots values versions statuses) (fills .at)) ⌝ }
+    ensures { λ r. ⌜ (r .outcome ≡ filledAt head (lentSlots (values .entry) (versions .entry) (statuses .entry)) (lentAgreed (agreed .entry) («agreed_versions» .entry)) (now (holidays .entry)) (fills .at)) × (r .next ≡ fillsAt head (lentSlots (values .entry) (versions .entry) (statuses .entry)) (fills .at + 1)) ⌝ }
 {
     let at = fills.at;
     let on = at + 1;
@@ -84,7 +86,17 @@ pub fn fill(
         };
     }
     let outage = outage_zero(versions, statuses, at, fills.outage);
-    let outcome = filling::unscaled(head, values, versions, statuses, holidays, at, outage);
+    let outcome = filling::unscaled(
+        head,
+        values,
+        versions,
+        statuses,
+        holidays,
+        agreed,
+        agreed_versions,
+        at,
+        outage,
+    );
     let next = Fills {
         at: on,
         outage: outage,

@@ -19,10 +19,11 @@ pub struct Head {
     pub tolerance: u32,
 }
 
-// Actual, substituted, none.
+// Actual, substituted, agreed, none.
 pub enum Quality {
     A,
     S,
+    F,
     N,
 }
 

@@ -74,10 +74,12 @@ pub fn step(
     holidays: &[u8],
     readings: &[u32],
     reads: &[u32],
+    agreed: &[u32],
+    agreed_versions: &[u32],
     pass: Pass,
 ) -> Stepped
-    requires { ⌜ Whole head (lentCells values versions statuses holidays readings reads) × (pass .fills .at < slotCount head) × (pass ≡ passAt head (lentCells values versions statuses holidays readings reads) (pass .fills .at)) ⌝ }
-    ensures { λ r. ⌜ SteppedAt head (lentCells (values .entry) (versions .entry) (statuses .entry) (holidays .entry) (readings .entry) (reads .entry)) (pass .fills .at) r ⌝ }
+    requires { ⌜ Whole head (lentCells values versions statuses holidays readings reads agreed «agreed_versions») × (pass .fills .at < slotCount head) × (pass ≡ passAt head (lentCells values versions statuses holidays readings reads agreed «agreed_versions») (pass .fills .at)) ⌝ }
+    ensures { λ r. ⌜ SteppedAt head (lentCells (values .entry) (versions .entry) (statuses .entry) (holidays .entry) (readings .entry) (reads .entry) (agreed .entry) («agreed_versions» .entry)) (pass .fills .at) r ⌝ }
 {
     let fills = pass.fills;
     let carried = pass.stretch;
@@ -89,9 +91,20 @@ pub fn step(
         holidays,
         readings,
         reads,
+        agreed,
+        agreed_versions,
         fills,
         carried,
     );
-    let filled = fills::fill(head, values, versions, statuses, holidays, fills);
+    let filled = fills::fill(
+        head,
+        values,
+        versions,
+        statuses,
+        holidays,
+        agreed,
+        agreed_versions,
+        fills,
+    );
     settle(entered, filled)
 }

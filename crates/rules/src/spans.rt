@@ -8,12 +8,12 @@ use crate::fills::Fills;
 use crate::tests;
 ghost use mathlib.Core.Path.{_≡_};
 ghost use lib.Dec.{leb};
-ghost use Prim.Native.Nat.{_+_, _-_, _<_, _≤_};
+ghost use Prim.Native.Nat.{_+_, _-_, _^_, _<_, _≤_};
 ghost use Rattle.rules.specs.Opening.{slotCount};
 ghost use Rattle.rules.specs.Spans.{isS, advance, apart, stateBy, share};
-ghost use Rattle.rules.specs.Inner.Lent.{lentSlots, Lent};
+ghost use Rattle.rules.specs.Inner.Lent.{lentSlots, lentAgreed, Lent, Settled};
 ghost use Rattle.rules.specs.Inner.Fills.{fillsAt};
-ghost use Rattle.rules.specs.Inner.Summaries.{summaryOf, addedTo, scalingOf, scaledBy, Scales};
+ghost use Rattle.rules.specs.Inner.Summaries.{summaryOf, actualAdded, addedTo, scalingOf, scaledBy, Scales};
 
 // V, the sum and the number of the S values, whether a slot is N, whether one is S.
 pub struct Summary {
@@ -38,27 +38,37 @@ pub struct Scaled {
     pub next: Scaling,
 }
 
-// One slot more.
+// One A or F slot more.
+fn add_actual(sum: Summary, value: u64) -> Summary
+    requires { ⌜ sum .actual + value < 2 ^ 64 ⌝ }
+    ensures { λ r. ⌜ r ≡ actualAdded sum value ⌝ }
+{
+    Summary {
+        actual: sum.actual + value,
+        substituted: sum.substituted,
+        count: sum.count,
+        hole: sum.hole,
+        filled: sum.filled,
+    }
+}
+
+// One slot more, of at most 115,200: an A or F value is at most 99,999,999 Wh, an S value 35,000 Wh.
 fn add(sum: Summary, slot: Outcome) -> Summary
-    requires { ⌜ (sum .actual ≤ 4032000000) × (sum .substituted ≤ 4032000000) × (sum .count ≤ 115200) ⌝ }
+    requires { ⌜ (sum .actual ≤ 11519999884800) × (sum .substituted ≤ 4032000000) × (sum .count ≤ 115200) ⌝ }
     ensures { λ r. ⌜ r ≡ addedTo sum slot ⌝ }
 {
+    let value = slot.value as u64;
     let quality = slot.quality;
     match quality {
-        Quality::A => Summary {
-            actual: sum.actual + (slot.value as u64),
-            substituted: sum.substituted,
-            count: sum.count,
-            hole: sum.hole,
-            filled: sum.filled,
-        },
+        Quality::A => add_actual(sum, value),
         Quality::S => Summary {
             actual: sum.actual,
-            substituted: sum.substituted + (slot.value as u64),
+            substituted: sum.substituted + value,
             count: sum.count + 1,
             hole: sum.hole,
             filled: true,
         },
+        Quality::F => add_actual(sum, value),
         Quality::N => Summary {
             actual: sum.actual,
             substituted: sum.substituted,
@@ -76,11 +86,13 @@ pub fn summarise(
     versions: &[u32],
     statuses: &[u8],
     holidays: &[u8],
+    agreed: &[u32],
+    agreed_versions: &[u32],
     first: Fills,
     count: usize,
 ) -> Summary
-    requires { ⌜ Lent head (lentSlots values versions statuses) (now holidays) × (first .at + count ≤ slotCount head) × (first ≡ fillsAt head (lentSlots values versions statuses) (first .at)) ⌝ }
-    ensures { λ r. ⌜ r ≡ summaryOf head (lentSlots (values .entry) (versions .entry) (statuses .entry)) (now (holidays .entry)) (first .at) count ⌝ }
+    requires { ⌜ Lent head (lentSlots values versions statuses) (now holidays) × Settled head (lentAgreed agreed «agreed_versions») × (first .at + count ≤ slotCount head) × (first ≡ fillsAt head (lentSlots values versions statuses) (first .at)) ⌝ }
+    ensures { λ r. ⌜ r ≡ summaryOf head (lentSlots (values .entry) (versions .entry) (statuses .entry)) (lentAgreed (agreed .entry) («agreed_versions» .entry)) (now (holidays .entry)) (first .at) count ⌝ }
 {
     let mut sum = Summary {
         actual: 0,
@@ -101,7 +113,17 @@ pub fn summarise(
             outage = fills::outage_zero(versions, statuses, at, outage);
             sum = add(
                 sum,
-                filling::unscaled(head, values, versions, statuses, holidays, at, outage),
+                filling::unscaled(
+                    head,
+                    values,
+                    versions,
+                    statuses,
+                    holidays,
+                    agreed,
+                    agreed_versions,
+                    at,
+                    outage,
+                ),
             );
         }
         k += 1;
@@ -167,6 +189,7 @@ pub fn is_substituted(quality: Quality) -> bool
     match quality {
         Quality::A => false,
         Quality::S => true,
+        Quality::F => false,
         Quality::N => false,
     }
 }

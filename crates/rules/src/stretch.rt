@@ -15,7 +15,7 @@ ghost use mathlib.Core.Path.{_≡_};
 ghost use Prim.Native.Nat.{_≤_};
 ghost use Rattle.rules.specs.declared.stretch.Begins.the-variants.{Nothing};
 ghost use Rattle.rules.specs.Spans.{spanOf};
-ghost use Rattle.rules.specs.Inner.Lent.{lentSlots, lentCells, cells, Lent, Dialled, Whole};
+ghost use Rattle.rules.specs.Inner.Lent.{lentSlots, lentAgreed, lentCells, cells, Lent, Settled, Dialled, Whole};
 ghost use Rattle.rules.specs.Inner.Stretches.{unscaledTo, spanStretch, stretchBy, beginsWith, stretchFrom, beginsAt, stretchAt, fitOutcome, fitNext, Fits, Starts, Before};
 
 // Where the stretch ends, and how it is scaled.
@@ -84,12 +84,14 @@ fn meet(
     statuses: &[u8],
     holidays: &[u8],
     readings: &[u32],
+    agreed: &[u32],
+    agreed_versions: &[u32],
     fills: Fills,
     first: usize,
     last: usize,
 ) -> Met
-    requires { ⌜ Lent head (lentSlots values versions statuses) (now holidays) × Dialled head (now readings) × Starts head (lentSlots values versions statuses) fills first last ⌝ }
-    ensures { λ r. ⌜ (r .span ≡ spanOf head (cells (lentSlots (values .entry) (versions .entry) (statuses .entry)) (now (holidays .entry)) (now (readings .entry)) []) first last) × (r .stretch ≡ spanStretch head (cells (lentSlots (values .entry) (versions .entry) (statuses .entry)) (now (holidays .entry)) (now (readings .entry)) []) first last (fills .at)) ⌝ }
+    requires { ⌜ Lent head (lentSlots values versions statuses) (now holidays) × Dialled head (now readings) × Settled head (lentAgreed agreed «agreed_versions») × Starts head (lentSlots values versions statuses) fills first last ⌝ }
+    ensures { λ r. ⌜ (r .span ≡ spanOf head (cells (lentSlots (values .entry) (versions .entry) (statuses .entry)) (now (holidays .entry)) (now (readings .entry)) [] (lentAgreed (agreed .entry) («agreed_versions» .entry))) first last) × (r .stretch ≡ spanStretch head (cells (lentSlots (values .entry) (versions .entry) (statuses .entry)) (now (holidays .entry)) (now (readings .entry)) [] (lentAgreed (agreed .entry) («agreed_versions» .entry))) first last (fills .at)) ⌝ }
 {
     let day = opening::slots_per_day(head);
     let sum = spans::summarise(
@@ -98,6 +100,8 @@ fn meet(
         versions,
         statuses,
         holidays,
+        agreed,
+        agreed_versions,
         fills,
         (last - first) * day,
     );
@@ -134,12 +138,14 @@ fn reach(
     holidays: &[u8],
     readings: &[u32],
     reads: &[u32],
+    agreed: &[u32],
+    agreed_versions: &[u32],
     fills: Fills,
     day: usize,
     last: usize,
 ) -> Entered
-    requires { ⌜ Whole head (lentCells values versions statuses holidays readings reads) × Starts head (lentSlots values versions statuses) fills day last ⌝ }
-    ensures { λ r. ⌜ (r .begins ≡ beginsWith head (lentCells (values .entry) (versions .entry) (statuses .entry) (holidays .entry) (readings .entry) (reads .entry)) day last) × (r .stretch ≡ stretchFrom head (lentCells (values .entry) (versions .entry) (statuses .entry) (holidays .entry) (readings .entry) (reads .entry)) day last (fills .at)) ⌝ }
+    requires { ⌜ Whole head (lentCells values versions statuses holidays readings reads agreed «agreed_versions») × Starts head (lentSlots values versions statuses) fills day last ⌝ }
+    ensures { λ r. ⌜ (r .begins ≡ beginsWith head (lentCells (values .entry) (versions .entry) (statuses .entry) (holidays .entry) (readings .entry) (reads .entry) (agreed .entry) («agreed_versions» .entry)) day last) × (r .stretch ≡ stretchFrom head (lentCells (values .entry) (versions .entry) (statuses .entry) (holidays .entry) (readings .entry) (reads .entry) (agreed .entry) («agreed_versions» .entry)) day last (fills .at)) ⌝ }
 {
     if reads[day] == 0 {
         return no_span(unscaled_to(last * opening::slots_per_day(head)));
@@ -151,6 +157,8 @@ fn reach(
         statuses,
         holidays,
         readings,
+        agreed,
+        agreed_versions,
         fills,
         day,
         last,
@@ -172,11 +180,13 @@ pub fn enter(
     holidays: &[u8],
     readings: &[u32],
     reads: &[u32],
+    agreed: &[u32],
+    agreed_versions: &[u32],
     fills: Fills,
     carried: Stretch,
 ) -> Entered
-    requires { ⌜ Whole head (lentCells values versions statuses holidays readings reads) × Before head (lentCells values versions statuses holidays readings reads) fills carried ⌝ }
-    ensures { λ r. ⌜ (r .begins ≡ beginsAt head (lentCells (values .entry) (versions .entry) (statuses .entry) (holidays .entry) (readings .entry) (reads .entry)) (fills .at)) × (r .stretch ≡ stretchAt head (lentCells (values .entry) (versions .entry) (statuses .entry) (holidays .entry) (readings .entry) (reads .entry)) (fills .at)) ⌝ }
+    requires { ⌜ Whole head (lentCells values versions statuses holidays readings reads agreed «agreed_versions») × Before head (lentCells values versions statuses holidays readings reads agreed «agreed_versions») fills carried ⌝ }
+    ensures { λ r. ⌜ (r .begins ≡ beginsAt head (lentCells (values .entry) (versions .entry) (statuses .entry) (holidays .entry) (readings .entry) (reads .entry) (agreed .entry) («agreed_versions» .entry)) (fills .at)) × (r .stretch ≡ stretchAt head (lentCells (values .entry) (versions .entry) (statuses .entry) (holidays .entry) (readings .entry) (reads .entry) (agreed .entry) («agreed_versions» .entry)) (fills .at)) ⌝ }
 {
     let at = fills.at;
     if at != carried.until {
@@ -193,6 +203,8 @@ pub fn enter(
             holidays,
             readings,
             reads,
+            agreed,
+            agreed_versions,
             fills,
             day,
             last,

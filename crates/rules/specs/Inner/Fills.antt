@@ -4,7 +4,7 @@ use mathlib.Core.List.{List}
 use Prim.Native.Nat.{ℕ, zero, suc, _-_}
 use Rattle.rules.specs.declared.Head.{Head}
 use Rattle.rules.specs.declared.Outcome.{Outcome}
-use Rattle.rules.specs.declared.Quality.the-variants.{A}
+use Rattle.rules.specs.declared.Quality.the-variants.{A, F}
 use Rattle.rules.specs.declared.fills.Fills.{Fills}
 use Rattle.rules.specs.Opening.{Slots, slotCount}
 use Rattle.rules.specs.Tests.{isGap}
@@ -13,6 +13,10 @@ use Rattle.rules.specs.Filling.{outageBefore, outageAfter}
 -- a good slot with this value
 abbrev pub actualOf : ℕ → Outcome
 actualOf value = record { value = value; quality = A; method = 0 }
+
+-- a slot agreed at this value
+abbrev pub agreedOf : ℕ → Outcome
+agreedOf value = record { value = value; quality = F; method = 5 }
 
 -- outage zero applies to slot i of n
 unfoldable pub zeroAt : List ℕ → List ℕ → ℕ → ℕ → Bool

@@ -6,7 +6,7 @@ use Prim.Native.Nat.{ℕ, suc, _<_}
 use denote.Ref.{RefT, now}
 use lib.ListN.{length, getD}
 use Rattle.rules.specs.declared.Head.{Head}
-use Rattle.rules.specs.Opening.{Slots, Cells, headOk, slotCount}
+use Rattle.rules.specs.Opening.{Slots, Agreed, Cells, headOk, slotCount}
 
 abbrev pub slots : List ℕ → List ℕ → List ℕ → Slots
 slots values versions statuses = record { values = values; versions = versions; statuses = statuses }
@@ -26,21 +26,38 @@ pub record Lent (h : Head) (s : Slots) (days : List ℕ) : Type 0 where
   pub fitted : Fitted h s
   pub holidays : length days ≡ h .days
 
-abbrev pub cells : Slots → List ℕ → List ℕ → List ℕ → Cells
-cells s holidays readings readVersions =
-    record { slots = s; holidays = holidays; readings = readings; readVersions = readVersions }
+abbrev pub agreedLists : List ℕ → List ℕ → Agreed
+agreedLists values versions = record { values = values; versions = versions }
 
-abbrev pub lentCells : RefT (List ℕ) → RefT (List ℕ) → RefT (List ℕ) → RefT (List ℕ) → RefT (List ℕ) → RefT (List ℕ) → Cells
-lentCells values versions statuses holidays readings reads =
-    cells (lentSlots values versions statuses) (now holidays) (now readings) (now reads)
+abbrev pub lentAgreed : RefT (List ℕ) → RefT (List ℕ) → Agreed
+lentAgreed agreed agreedVersions = agreedLists (now agreed) (now agreedVersions)
+
+-- no agreed value is over 99,999,999
+abbrev pub AgreedLow : Agreed → Type 0
+AgreedLow a = (i : ℕ) → getD (a .values) i 0 < 100000000
+
+-- agreed lists of a head's length, with such values
+pub record Settled (h : Head) (a : Agreed) : Type 0 where
+  pub values : length (a .values) ≡ slotCount h
+  pub versions : length (a .versions) ≡ slotCount h
+  pub low : AgreedLow a
+
+abbrev pub cells : Slots → List ℕ → List ℕ → List ℕ → Agreed → Cells
+cells s holidays readings readVersions agreed =
+    record { slots = s; holidays = holidays; readings = readings; readVersions = readVersions; agreed = agreed }
+
+abbrev pub lentCells : RefT (List ℕ) → RefT (List ℕ) → RefT (List ℕ) → RefT (List ℕ) → RefT (List ℕ) → RefT (List ℕ) → RefT (List ℕ) → RefT (List ℕ) → Cells
+lentCells values versions statuses holidays readings reads agreed agreedVersions =
+    cells (lentSlots values versions statuses) (now holidays) (now readings) (now reads) (lentAgreed agreed agreedVersions)
 
 -- readings of an eight-digit dial
 pub record Dialled (h : Head) (readings : List ℕ) : Type 0 where
   pub length : length readings ≡ suc (h .days)
   pub low : (d : ℕ) → getD readings d 0 < 100000000
 
--- a good head, and cells of its lengths with readings of an eight-digit dial
+-- a good head, and cells of its lengths with readings of an eight-digit dial and agreed values of eight digits
 pub record Whole (h : Head) (b : Cells) : Type 0 where
   pub lent : Lent h (b .slots) (b .holidays)
   pub dialled : Dialled h (b .readings)
   pub readVersions : length (b .readVersions) ≡ suc (h .days)
+  pub settled : Settled h (b .agreed)

@@ -94,7 +94,7 @@ fitNext o here =
 
 -- a slot that can be scaled without a wrap, where it is to be scaled
 pub record Fits (o : Outcome) (here : Stretch) : Type 0 where
-  pub method-low : o .method ≤ 3
+  pub method-low : o .method ≤ 5
   pub scales : isS (o .quality) ≡ true → (here .by .whole ≡ 0 → ⊥) → Scales (o .value) (here .by)
 
 -- the span that begins at slot i

@@ -9,7 +9,7 @@ use Rattle.rules.specs.declared.spans.Summary.{Summary}
 use Rattle.rules.specs.declared.spans.Scaling.{Scaling}
 use Rattle.rules.specs.declared.spans.Scaled.{Scaled}
 use Rattle.rules.specs.Lists.{sum, any}
-use Rattle.rules.specs.Opening.{Slots}
+use Rattle.rules.specs.Opening.{Slots, Agreed}
 use Rattle.rules.specs.Filling.{filledAt}
 use Rattle.rules.specs.Spans.{isS, isN, actualIn, substitutedIn, share}
 
@@ -18,13 +18,23 @@ abbrev pub oneIn : Outcome → ℕ
 oneIn o = cond (isS (o .quality)) 1 0
 
 -- k slots from slot a
-unfoldable pub summaryOf : Head → Slots → List ℕ → ℕ → ℕ → Summary
-summaryOf h s holidays a k = record {
-  actual = sum (λ i. actualIn (filledAt h s holidays i)) a k;
-  substituted = sum (λ i. substitutedIn (filledAt h s holidays i)) a k;
-  count = sum (λ i. oneIn (filledAt h s holidays i)) a k;
-  hole = any (λ i. isN (filledAt h s holidays i .quality)) a k;
-  filled = any (λ i. isS (filledAt h s holidays i .quality)) a k;
+unfoldable pub summaryOf : Head → Slots → Agreed → List ℕ → ℕ → ℕ → Summary
+summaryOf h s agreed holidays a k = record {
+  actual = sum (λ i. actualIn (filledAt h s agreed holidays i)) a k;
+  substituted = sum (λ i. substitutedIn (filledAt h s agreed holidays i)) a k;
+  count = sum (λ i. oneIn (filledAt h s agreed holidays i)) a k;
+  hole = any (λ i. isN (filledAt h s agreed holidays i .quality)) a k;
+  filled = any (λ i. isS (filledAt h s agreed holidays i .quality)) a k;
+}
+
+-- one A or F slot more, with this value
+abbrev pub actualAdded : Summary → ℕ → Summary
+actualAdded m value = record {
+  actual = m .actual + value;
+  substituted = m .substituted;
+  count = m .count;
+  hole = m .hole;
+  filled = m .filled;
 }
 
 -- one slot more

@@ -2,7 +2,7 @@
 use borrow.Author.Needs.{needs}
 use mathlib.Core.Path.{_∙_, sym, refl}
 use native.Mathlib.Omega.{arith}
-use Rattle.rules.specs.Inner.Lent.{slots}
+use Rattle.rules.specs.Inner.Lent.{slots, agreedLists}
 use Rattle.rules.proofs.Outages.{zero-none, zero-applies, good-delivered, filled-good, fills-outage, fills-next}
 use Rattle.rules.proofs.fills.fill.Statement.{statement}
 use Rattle.rules.proofs.fills.fill.Tie as tie
@@ -23,25 +23,25 @@ delivered-requires : tie.Need-delivered-requires
 delivered-requires c κs = search needs
 
 returns : tie.Need-returns
-returns c = let a = c .before .before .before .before .before .before .before .before .args in
+returns c = let a = c .before .before .before .before .before .before .before .before .before .before .args in
     let s = slots (a .values .now) (a .versions .now) (a .statuses .now) in
     let g = sym (c .before .before .before .is-good .ensures) ∙ c .before .before .if1 .taken in
-    (c .delivered .ensures ∙ filled-good (a .head) s (a .holidays .now) (a .fills .at) g, fills-next (a .head) s (a .fills .at) _ refl _ (sym (zero-none (s .versions) (s .statuses) _ _ (good-delivered (a .head) s (a .fills .at) g))))
+    (c .delivered .ensures ∙ filled-good (a .head) s (agreedLists (a .agreed .now) (a .agreed-versions .now)) (a .holidays .now) (a .fills .at) g, fills-next (a .head) s (a .fills .at) _ refl _ (sym (zero-none (s .versions) (s .statuses) _ _ (good-delivered (a .head) s (a .fills .at) g))))
 
 outage-zero-requires : tie.Need-outage-zero-requires
-outage-zero-requires c κs = let a = c .before .before .before .before .before .before .args in
+outage-zero-requires c κs = let a = c .before .before .before .before .before .before .before .before .args in
     let s = slots (a .values .now) (a .versions .now) (a .statuses .now) in
-    (omega arith, omega arith, fills-outage (a .head) s (a .fills) (a .fills .at) (c .before .before .before .before .before .before .pre .2) _ (c .before .before .before .before .before .before .pre .0 .fitted .versions))
+    (omega arith, omega arith, fills-outage (a .head) s (a .fills) (a .fills .at) (c .before .before .before .before .before .before .before .before .pre .3) _ (c .before .before .before .before .before .before .before .before .pre .0 .fitted .versions))
 
 unscaled-requires : tie.Need-unscaled-requires
-unscaled-requires c κs = let a = c .before .before .before .before .before .before .before .args in
+unscaled-requires c κs = let a = c .before .before .before .before .before .before .before .before .before .args in
     let s = slots (a .values .now) (a .versions .now) (a .statuses .now) in
-    (c .before .before .before .before .before .before .before .pre .0, c .before .before .before .before .before .before .before .pre .1, sym (c .before .before .is-good .ensures) ∙ c .before .if1 .left, c .outage-zero .ensures ∙ zero-applies (a .head) s _ (c .before .before .before .before .before .before .before .pre .0 .fitted .versions) (a .fills .at))
+    (c .before .before .before .before .before .before .before .before .before .pre .0, c .before .before .before .before .before .before .before .before .before .pre .1, c .before .before .before .before .before .before .before .before .before .pre .2, sym (c .before .before .is-good .ensures) ∙ c .before .if1 .left, c .outage-zero .ensures ∙ zero-applies (a .head) s _ (c .before .before .before .before .before .before .before .before .before .pre .0 .fitted .versions) (a .fills .at))
 
 returns-2 : tie.Need-returns-2
-returns-2 c = let a = c .before .before .before .before .before .before .before .before .args in
+returns-2 c = let a = c .before .before .before .before .before .before .before .before .before .before .args in
     let s = slots (a .values .now) (a .versions .now) (a .statuses .now) in
-    (c .unscaled .ensures, fills-next (a .head) s (a .fills .at) _ (c .before .before .before .before .before .before .before .before .pre .0 .fitted .versions) _ (c .before .outage-zero .ensures))
+    (c .unscaled .ensures, fills-next (a .head) s (a .fills .at) _ (c .before .before .before .before .before .before .before .before .before .before .pre .0 .fitted .versions) _ (c .before .outage-zero .ensures))
 
 pub fill-spec : {M : Type 1} → statement M
 fill-spec =
