@@ -14,19 +14,19 @@ use Rattle.book.specs.Answers.{Answer, isAccepted, unless}
 use Rattle.book.specs.Answers.Answer.{stored, repeat}
 use Rattle.book.specs.Answers.Rule.{rule}
 use Rattle.book.specs.Arguments.{Call, argumentRules}
-use Rattle.book.specs.Arguments.Call.{delivery, holiday, register}
-use Rattle.book.specs.Cells.{readsOf, allLong, slotsFit, daysFit, readsFit, cellsFits, cellsFit}
+use Rattle.book.specs.Arguments.Call.{delivery, holiday, register, agreed}
+use Rattle.book.specs.Cells.{readsOf, allLong, slotsFit, daysFit, readsFit, agreedFits, cellsFits, cellsFit}
 use Rattle.book.specs.Opening.{opened}
-use Rattle.book.specs.Filling.{inputRules, againstSlot, againstDay, againstBoundary, deliverAnswer, holidayAnswer, registerAnswer, answer, after, answers, afterAll}
-use Rattle.book.specs.Plain.{deliveries, reads, named, highest, contentWith, againstKept, plainAnswer, keep, plainAnswers, keptOf, bookOf}
+use Rattle.book.specs.Filling.{inputRules, againstSlot, againstDay, againstBoundary, againstAgreed, deliverAnswer, holidayAnswer, registerAnswer, agreeAnswer, answer, after, answers, afterAll}
+use Rattle.book.specs.Plain.{deliveries, reads, agreements, named, highest, contentWith, againstKept, plainAnswer, keep, plainAnswers, keptOf, bookOf}
 use Rattle.book.proofs.Tables.{length-upTo, getD-upTo, upTo-zero}
 use Rattle.book.proofs.Next.{filedIn, after-filed, filed-refused, book-next}
 use Rattle.book.proofs.Kept.{Kept, Sound, sound, accepted, unless-same, keep-kept}
-use Rattle.book.proofs.Clean.{slot-clean, day-clean, read-clean}
+use Rattle.book.proofs.Clean.{slot-clean, day-clean, read-clean, agreed-clean}
 
 -- the lists of kept calls have the right lengths
 pub book-fits : (h : Head) (kept : List Call) → cellsFit h (bookOf h kept) ≡ true
-unfolding cellsFit slotsFit daysFit readsFit allLong bookOf
+unfolding cellsFit slotsFit daysFit readsFit agreedFits allLong bookOf
 book-fits h kept = simp (length-upTo, eq-eqb (slotCount h) (slotCount h) refl, eq-eqb (h .days) (h .days) refl, eq-eqb (suc (h .days)) (suc (h .days)) refl)
 
 -- against its cell a sound call is what it is against the kept calls
@@ -51,6 +51,12 @@ against-boundary : (h : Head) (kept : List Call) (boundary version reading : ℕ
 unfolding againstBoundary againstKept bookOf
 against-boundary h kept boundary version reading ok lt = simp getD-upTo (rw (read-clean h kept ok boundary))
 
+against-agreed : (h : Head) (kept : List Call) (slot version value : ℕ) → Kept h kept → slot < slotCount h
+    → againstAgreed (getD (bookOf h kept .agreed .versions) slot 0) (getD (bookOf h kept .agreed .values) slot 0) version value
+    ≡ againstKept kept (agreed slot version value)
+unfolding againstBoundary againstKept bookOf
+against-agreed h kept slot version value ok lt = simp getD-upTo (rw (agreed-clean h kept ok slot))
+
 -- where the lists fit, answers that are equal for a sound call are equal behind the rules
 behind : (h : Head) (c : Call) (fit : Bool) (a b : Answer) → fit ≡ true → (Sound h c → a ≡ b)
     → unless (inputRules h fit c) a ≡ unless (rule 1 (not (headOk h)) ∷ argumentRules h c) b
@@ -58,7 +64,7 @@ behind h c fit a b e same = rw e (unless-same (rule 1 (not (headOk h)) ∷ argum
 
 -- the same answer to one call
 answer-agrees : (h : Head) (kept : List Call) (c : Call) → Kept h kept → answer h (bookOf h kept) c ≡ plainAnswer h kept c
-unfolding answer deliverAnswer holidayAnswer registerAnswer plainAnswer cellsFit
+unfolding answer deliverAnswer holidayAnswer registerAnswer agreeAnswer plainAnswer cellsFit
 answer-agrees h kept (delivery slot version value status) ok =
     behind h (delivery slot version value status) (slotsFit h (bookOf h kept .slots)) _ _ (passed (cellsFits h (bookOf h kept)) (book-fits h kept) 0)
     (λ s. against-slot h kept slot version value status ok (s .0))
@@ -68,6 +74,9 @@ answer-agrees h kept (holiday day) ok =
 answer-agrees h kept (register boundary version reading) ok =
     behind h (register boundary version reading) (readsFit h (readsOf (bookOf h kept))) _ _ (passed (cellsFits h (bookOf h kept)) (book-fits h kept) 2)
     (λ s. let le = s .0 in against-boundary h kept boundary version reading ok (omega arith))
+answer-agrees h kept (agreed slot version value) ok =
+    behind h (agreed slot version value) (agreedFits h (bookOf h kept .agreed)) _ _ (passed (cellsFits h (bookOf h kept)) (book-fits h kept) 3)
+    (λ s. against-agreed h kept slot version value ok (s .0))
 
 -- the cells that one call leaves are those of the kept calls
 after-agrees : (h : Head) (kept : List Call) (c : Call) → Kept h kept → after h (bookOf h kept) c ≡ bookOf h (keep h kept c)
@@ -83,7 +92,7 @@ after-agrees h kept c ok =
 
 -- nothing is kept of a book that was only opened
 opened-book : (h : Head) → opened h ≡ bookOf h []
-unfolding opened bookOf deliveries reads named highest contentWith
+unfolding opened bookOf deliveries reads agreements named highest contentWith
 opened-book h = simp (upTo-zero 0)
 
 -- a whole list, from any kept calls

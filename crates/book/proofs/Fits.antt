@@ -9,7 +9,7 @@ use borrow.Author.Tests.{eqb-true}
 use Rattle.rules.specs.declared.Head.{Head}
 use Rattle.rules.specs.Opening.{slotCount, Cells}
 use Rattle.rules.proofs.Logic.{and-parts, passed}
-use Rattle.book.specs.Cells.{allLong, slotsFit, daysFit, readsFit, cellsFits, cellsFit}
+use Rattle.book.specs.Cells.{allLong, slotsFit, daysFit, readsFit, agreedFits, cellsFits, cellsFit}
 
 -- length k of those that are all n
 pub long : (n : ℕ) (ls : List ℕ) → allLong n ls ≡ true → (k : ℕ) → getD ls k n ≡ n
@@ -18,7 +18,7 @@ long n [] e k = refl
 long n (l ∷ ls) e zero = eqb-true l n (and-parts (eqb l n) (allLong n ls) e .0)
 long n (l ∷ ls) e (suc k) = long n ls (and-parts (eqb l n) (allLong n ls) e .1) k
 
--- the six lengths of lists that fit
+-- the eight lengths of lists that fit
 pub record Lengths (h : Head) (b : Cells) : Type 0 where
   pub values : length (b .slots .values) ≡ slotCount h
   pub versions : length (b .slots .versions) ≡ slotCount h
@@ -26,11 +26,23 @@ pub record Lengths (h : Head) (b : Cells) : Type 0 where
   pub holidays : length (b .holidays) ≡ h .days
   pub readings : length (b .readings) ≡ suc (h .days)
   pub readVersions : length (b .readVersions) ≡ suc (h .days)
+  pub agreed : length (b .agreed .values) ≡ slotCount h
+  pub agreedVersions : length (b .agreed .versions) ≡ slotCount h
 
 pub lengths-of : (h : Head) (b : Cells) → cellsFit h b ≡ true → Lengths h b
-unfolding cellsFit slotsFit daysFit readsFit
+unfolding cellsFit slotsFit daysFit readsFit agreedFits
 lengths-of h b fit =
     let slots = long _ _ (passed (cellsFits h b) fit 0) in
     let days = long _ _ (passed (cellsFits h b) fit 1) in
     let reads = long _ _ (passed (cellsFits h b) fit 2) in
-    record { values = slots 0; versions = slots 1; statuses = slots 2; holidays = days 0; readings = reads 0; readVersions = reads 1 }
+    let agreed = long _ _ (passed (cellsFits h b) fit 3) in
+    record {
+      values = slots 0;
+      versions = slots 1;
+      statuses = slots 2;
+      holidays = days 0;
+      readings = reads 0;
+      readVersions = reads 1;
+      agreed = agreed 0;
+      agreedVersions = agreed 1;
+    }

@@ -11,7 +11,7 @@ use Rattle.rules.specs.Opening.{headOk, slotCount}
 use Rattle.book.specs.Answers.{Answer, isAccepted, Rule, unless}
 use Rattle.book.specs.Answers.Rule.{rule}
 use Rattle.book.specs.Arguments.{Call, argumentRules}
-use Rattle.book.specs.Arguments.Call.{delivery, holiday, register}
+use Rattle.book.specs.Arguments.Call.{delivery, holiday, register, agreed}
 use Rattle.book.specs.Plain.{againstKept, plainAnswer, keep, keptOf}
 
 -- whether rule k of a list is broken
@@ -44,6 +44,7 @@ abbrev pub Sound : Head → Call → Type 0
 Sound h (delivery slot version value status) = (slot < slotCount h) × (0 < version) × (status ≤ 7)
 Sound h (holiday day) = day < h .days
 Sound h (register boundary version reading) = (boundary ≤ h .days) × (0 < version) × (reading ≤ 99999999)
+Sound h (agreed slot version value) = (slot < slotCount h) × (0 < version) × (value ≤ 99999999)
 
 positive : (n : ℕ) → eqb n 0 ≡ false → 0 < n
 positive zero e = absurd (true≢false e)
@@ -56,6 +57,8 @@ sound h (delivery slot version value status) u =
 sound h (holiday day) u = leb-false _ _ (u 1)
 sound h (register boundary version reading) u =
     (ltb-false _ _ (u 1), positive version (u 2), ltb-false _ _ (u 3))
+sound h (agreed slot version value) u =
+    (leb-false _ _ (u 1), positive version (u 2), ltb-false _ _ (u 3))
 
 -- a list of kept calls, the newest first
 abbrev pub Kept : Head → List Call → Type 0

@@ -10,4 +10,5 @@ pub mod Soundness
 pub mod Cleared
 pub mod Fits
 pub mod Looked
+pub mod OneNumber
 pub mod EachCall

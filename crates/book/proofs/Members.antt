@@ -9,8 +9,8 @@ use lib.Dec.{eqb}
 use borrow.Author.Tests.{eqb-true, eq-eqb}
 use Rattle.rules.proofs.Logic.{or-parts}
 use Rattle.book.specs.Arguments.{Call}
-use Rattle.book.specs.Arguments.Call.{delivery, holiday, register}
-use Rattle.book.specs.Plain.{Said, Measured, deliveries, reads, named}
+use Rattle.book.specs.Arguments.Call.{delivery, holiday, register, agreed}
+use Rattle.book.specs.Plain.{Said, Measured, deliveries, reads, agreements, named}
 
 -- the call that said it
 abbrev pub deliveredAs : ℕ → Said Measured → Call
@@ -18,6 +18,9 @@ deliveredAs i s = delivery i (s .version) (s .content .value) (s .content .statu
 
 abbrev pub readAs : ℕ → Said ℕ → Call
 readAs d s = register d (s .version) (s .content)
+
+abbrev pub agreedAs : ℕ → Said ℕ → Call
+agreedAs i s = agreed i (s .version) (s .content)
 
 -- what stands in a list, where x may have been put in front, was said by c, where d may have said x
 said-by : {A : Type 0} (t : Bool) (x s : Said A) (ss : List (Said A)) (c d : Call) (kept : List Call) → (t ≡ true → s ≡ x → c ≡ d)
@@ -35,6 +38,7 @@ deliveries-from i (delivery slot version value status ∷ kept) s m =
     (λ e q. rw (q, eqb-true slot i e)) (deliveries-from i kept s) m
 deliveries-from i (holiday day ∷ kept) s m = List·Memᴰ·tail (deliveries-from i kept s m)
 deliveries-from i (register boundary version reading ∷ kept) s m = List·Memᴰ·tail (deliveries-from i kept s m)
+deliveries-from i (agreed slot version value ∷ kept) s m = List·Memᴰ·tail (deliveries-from i kept s m)
 
 -- and of a boundary by a kept register read
 pub reads-from : (d : ℕ) (kept : List Call) (s : Said ℕ) → List·Memᴰ s (reads d kept) → List·Memᴰ (readAs d s) kept
@@ -45,6 +49,18 @@ reads-from d (register boundary version reading ∷ kept) s m =
     said-by (eqb boundary d) (record { version = version; content = reading }) s
     (reads d kept) (readAs d s) (register boundary version reading) kept
     (λ e q. rw (q, eqb-true boundary d e)) (reads-from d kept s) m
+reads-from d (agreed slot version value ∷ kept) s m = List·Memᴰ·tail (reads-from d kept s m)
+
+-- and of an agreed slot by a kept agreed call
+pub agreements-from : (i : ℕ) (kept : List Call) (s : Said ℕ) → List·Memᴰ s (agreements i kept) → List·Memᴰ (agreedAs i s) kept
+unfolding agreements
+agreements-from i (delivery slot version value status ∷ kept) s m = List·Memᴰ·tail (agreements-from i kept s m)
+agreements-from i (holiday day ∷ kept) s m = List·Memᴰ·tail (agreements-from i kept s m)
+agreements-from i (register boundary version reading ∷ kept) s m = List·Memᴰ·tail (agreements-from i kept s m)
+agreements-from i (agreed slot version value ∷ kept) s m =
+    said-by (eqb slot i) (record { version = version; content = value }) s
+    (agreements i kept) (agreedAs i s) (agreed slot version value) kept
+    (λ e q. rw (q, eqb-true slot i e)) (agreements-from i kept s) m
 
 -- what a kept delivery says of its slot is among what is said of it
 said-of : {A : Type 0} (t : Bool) (x s : Said A) (ss : List (Said A)) (c d : Call) (kept : List Call) → (c ≡ d → (t ≡ true) × (s ≡ x))
@@ -75,6 +91,7 @@ deliveries-of i (delivery slot version value status ∷ kept) s m =
 deliveries-of i (holiday day ∷ kept) s m = deliveries-of i kept s (other-call (λ e. let z : _≡_ {A = ℕ} 0 1 = cc in omega arith) m)
 deliveries-of i (register boundary version reading ∷ kept) s m =
     deliveries-of i kept s (other-call (λ e. let z : _≡_ {A = ℕ} 0 1 = cc in omega arith) m)
+deliveries-of i (agreed slot version value ∷ kept) s m = deliveries-of i kept s (other-call (λ e. let z : _≡_ {A = ℕ} 0 1 = cc in omega arith) m)
 
 pub reads-of : (d : ℕ) (kept : List Call) (s : Said ℕ) → List·Memᴰ (readAs d s) kept → List·Memᴰ s (reads d kept)
 unfolding reads
@@ -91,6 +108,25 @@ reads-of d (register boundary version reading ∷ kept) s m =
         let v : s .version ≡ version = cc in
         let x : s .content ≡ reading = cc in
         (eq-eqb boundary d at, λ t. record { version = v t; content = x t })
+reads-of d (agreed slot version value ∷ kept) s m = reads-of d kept s (other-call (λ e. let z : _≡_ {A = ℕ} 0 1 = cc in omega arith) m)
+
+pub agreements-of : (i : ℕ) (kept : List Call) (s : Said ℕ) → List·Memᴰ (agreedAs i s) kept → List·Memᴰ s (agreements i kept)
+unfolding agreements
+agreements-of i (delivery slot version value status ∷ kept) s m =
+    agreements-of i kept s (other-call (λ e. let z : _≡_ {A = ℕ} 0 1 = cc in omega arith) m)
+agreements-of i (holiday day ∷ kept) s m = agreements-of i kept s (other-call (λ e. let z : _≡_ {A = ℕ} 0 1 = cc in omega arith) m)
+agreements-of i (register boundary version reading ∷ kept) s m =
+    agreements-of i kept s (other-call (λ e. let z : _≡_ {A = ℕ} 0 1 = cc in omega arith) m)
+agreements-of i (agreed slot version value ∷ kept) s m =
+    said-of (eqb slot i) (record { version = version; content = value }) s
+    (agreements i kept) (agreedAs i s) (agreed slot version value) kept (λ e. parts e) (agreements-of i kept s) m
+  where
+    parts : agreedAs i s ≡ agreed slot version value → (eqb slot i ≡ true) × (s ≡ record { version = version; content = value })
+    parts e =
+        let at : slot ≡ i = cc in
+        let v : s .version ≡ version = cc in
+        let x : s .content ≡ value = cc in
+        (eq-eqb slot i at, λ t. record { version = v t; content = x t })
 
 -- a day is named exactly when its holiday call is kept
 pub named-from : (d : ℕ) (kept : List Call) → named d kept ≡ true → List·Memᴰ (holiday d) kept
@@ -100,6 +136,7 @@ named-from d (delivery slot version value status ∷ kept) e = List·Memᴰ·tai
 named-from d (holiday day ∷ kept) e =
     ⊎-elim (λ q. List·Memᴰ·head (ap holiday (sym (eqb-true day d q)))) (λ q. List·Memᴰ·tail (named-from d kept q)) (or-parts _ _ e)
 named-from d (register boundary version reading ∷ kept) e = List·Memᴰ·tail (named-from d kept e)
+named-from d (agreed slot version value ∷ kept) e = List·Memᴰ·tail (named-from d kept e)
 
 pub named-of : (d : ℕ) (kept : List Call) → List·Memᴰ (holiday d) kept → named d kept ≡ true
 unfolding named
@@ -108,3 +145,4 @@ named-of d (holiday day ∷ kept) (List·Memᴰ·head e) = let at : day ≡ d = 
 named-of d (holiday day ∷ kept) (List·Memᴰ·tail m) = rw (named-of d kept m) (or-true (eqb day d))
 named-of d (register boundary version reading ∷ kept) m =
     named-of d kept (other-call (λ e. let z : _≡_ {A = ℕ} 0 1 = cc in omega arith) m)
+named-of d (agreed slot version value ∷ kept) m = named-of d kept (other-call (λ e. let z : _≡_ {A = ℕ} 0 1 = cc in omega arith) m)

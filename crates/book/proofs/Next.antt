@@ -12,11 +12,11 @@ use Rattle.rules.specs.Spans.{upTo}
 use Rattle.book.specs.Answers.{Answer, isAccepted, isStored, byVersion}
 use Rattle.book.specs.Answers.Answer.{done, stored, late, repeat, refused}
 use Rattle.book.specs.Arguments.{Call}
-use Rattle.book.specs.Arguments.Call.{delivery, holiday, register}
-use Rattle.book.specs.Filling.{storedIn, deliverAfter, holidayAfter, registerAfter, answer, after}
-use Rattle.book.specs.Plain.{Measured, deliveries, reads, named, slotVersion, slotContent, readVersion, readContent, againstKept, bookOf}
+use Rattle.book.specs.Arguments.Call.{delivery, holiday, register, agreed}
+use Rattle.book.specs.Filling.{storedIn, deliverAfter, holidayAfter, registerAfter, agreeAfter, answer, after}
+use Rattle.book.specs.Plain.{Said, Measured, deliveries, reads, agreements, named, highest, slotVersion, slotContent, againstKept, bookOf}
 use Rattle.book.proofs.Tables.{upTo-filed}
-use Rattle.book.proofs.Said.{said-filed}
+use Rattle.book.proofs.Said.{latest, said-filed}
 
 -- the cells after a call with this answer
 unfoldable pub filedIn : Answer → Cells → Call → Cells
@@ -29,25 +29,36 @@ filedIn a b (delivery slot version value status) = record {
   holidays = b .holidays;
   readings = b .readings;
   readVersions = b .readVersions;
+  agreed = b .agreed;
 }
 filedIn a b (holiday day) = record {
   slots = b .slots;
   holidays = storedIn a (b .holidays) day 1;
   readings = b .readings;
   readVersions = b .readVersions;
+  agreed = b .agreed;
 }
 filedIn a b (register boundary version reading) = record {
   slots = b .slots;
   holidays = b .holidays;
   readings = storedIn a (b .readings) boundary reading;
   readVersions = storedIn a (b .readVersions) boundary version;
+  agreed = b .agreed;
+}
+filedIn a b (agreed slot version value) = record {
+  slots = b .slots;
+  holidays = b .holidays;
+  readings = b .readings;
+  readVersions = b .readVersions;
+  agreed = record { values = storedIn a (b .agreed .values) slot value; versions = storedIn a (b .agreed .versions) slot version };
 }
 
 pub after-filed : (h : Head) (b : Cells) (c : Call) → after h b c ≡ filedIn (answer h b c) b c
-unfolding after answer deliverAfter holidayAfter registerAfter filedIn
+unfolding after answer deliverAfter holidayAfter registerAfter agreeAfter filedIn
 after-filed h b (delivery slot version value status) = refl
 after-filed h b (holiday day) = refl
 after-filed h b (register boundary version reading) = refl
+after-filed h b (agreed slot version value) = refl
 
 not-stored : (a : Answer) → isAccepted a ≡ false → isStored a ≡ false
 not-stored done e = refl
@@ -62,6 +73,7 @@ unfolding filedIn
 filed-refused a b (delivery slot version value status) e = rw (not-stored a e)
 filed-refused a b (holiday day) e = rw (not-stored a e)
 filed-refused a b (register boundary version reading) e = rw (not-stored a e)
+filed-refused a b (agreed slot version value) e = rw (not-stored a e)
 
 -- equal tests of the content mean equal content
 pub same-measured : (m : Measured) (value status : ℕ) → (eqb (m .value) value && eqb (m .status) status) ≡ true
@@ -98,22 +110,20 @@ days-next h kept day =
     here true = refl
     here false = refl
 
--- the lists of boundaries, when one accepted register read more is kept
-reads-next : (h : Head) (kept : List Call) (boundary version reading : ℕ)
-    → isAccepted (byVersion (readVersion kept boundary) version (eqb (readContent kept boundary) reading)) ≡ true → (m : ℕ → ℕ → ℕ)
-    → upTo (λ d. m (readVersion (register boundary version reading ∷ kept) d) (readContent (register boundary version reading ∷ kept) d)) 0 (suc (h .days))
-    ≡ storedIn (byVersion (readVersion kept boundary) version (eqb (readContent kept boundary) reading))
-    (upTo (λ d. m (readVersion kept d) (readContent kept d)) 0 (suc (h .days))) boundary (m version reading)
-unfolding reads
-reads-next h kept boundary version reading ok m =
-    said-filed 0 (λ d. reads d kept) (λ d. reads d (register boundary version reading ∷ kept)) boundary
-    (record { version = version; content = reading }) (eqb (readContent kept boundary) reading)
-    (λ e. sym (eqb-true _ _ e)) ok (rw (eq-eqb boundary boundary refl)) (λ d ne. rw (ne-eqb boundary d ne)) m (suc (h .days))
+-- a table of readings or agreed values, when one accepted call more is for place j
+numbers-next : (of next : ℕ → List (Said ℕ)) (j : ℕ) (s : Said ℕ) (n : ℕ)
+    → isAccepted (byVersion (highest (of j)) (s .version) (eqb (latest 0 (of j)) (s .content))) ≡ true
+    → next j ≡ s ∷ of j → ((i : ℕ) → (j ≡ i → ⊥) → next i ≡ of i) → (m : ℕ → ℕ → ℕ)
+    → upTo (λ i. m (highest (next i)) (latest 0 (next i))) 0 n
+    ≡ storedIn (byVersion (highest (of j)) (s .version) (eqb (latest 0 (of j)) (s .content)))
+    (upTo (λ i. m (highest (of i)) (latest 0 (of i))) 0 n) j (m (s .version) (s .content))
+numbers-next of next j s n ok here there m =
+    said-filed 0 of next j s (eqb (latest 0 (of j)) (s .content)) (λ e. sym (eqb-true _ _ e)) ok here there m n
 
 -- the book of one more accepted call is the book before with the call filed in it
 pub book-next : (h : Head) (kept : List Call) (c : Call) → isAccepted (againstKept kept c) ≡ true
     → bookOf h (c ∷ kept) ≡ filedIn (againstKept kept c) (bookOf h kept) c
-unfolding bookOf filedIn againstKept deliveries reads named sameSlot
+unfolding bookOf filedIn againstKept deliveries reads agreements named sameSlot
 book-next h kept (delivery slot version value status) ok =
     let column = slots-next h kept slot version value status ok in
     λ t. record {
@@ -121,18 +131,34 @@ book-next h kept (delivery slot version value status) ok =
       holidays = bookOf h kept .holidays;
       readings = bookOf h kept .readings;
       readVersions = bookOf h kept .readVersions;
+      agreed = bookOf h kept .agreed;
     }
 book-next h kept (holiday day) ok = λ t. record {
   slots = bookOf h kept .slots;
   holidays = days-next h kept day t;
   readings = bookOf h kept .readings;
   readVersions = bookOf h kept .readVersions;
+  agreed = bookOf h kept .agreed;
 }
 book-next h kept (register boundary version reading) ok =
-    let column = reads-next h kept boundary version reading ok in
+    let column =
+    numbers-next (λ d. reads d kept) (λ d. reads d (register boundary version reading ∷ kept)) boundary (record { version = version; content = reading })
+    (suc (h .days)) ok (rw (eq-eqb boundary boundary refl)) (λ d ne. rw (ne-eqb boundary d ne)) in
     λ t. record {
       slots = bookOf h kept .slots;
       holidays = bookOf h kept .holidays;
       readings = column (λ v a. a) t;
       readVersions = column (λ v a. v) t;
+      agreed = bookOf h kept .agreed;
+    }
+book-next h kept (agreed slot version value) ok =
+    let column =
+    numbers-next (λ i. agreements i kept) (λ i. agreements i (agreed slot version value ∷ kept)) slot (record { version = version; content = value })
+    (slotCount h) ok (rw (eq-eqb slot slot refl)) (λ i ne. rw (ne-eqb slot i ne)) in
+    λ t. record {
+      slots = bookOf h kept .slots;
+      holidays = bookOf h kept .holidays;
+      readings = bookOf h kept .readings;
+      readVersions = bookOf h kept .readVersions;
+      agreed = record { values = column (λ v a. a) t; versions = column (λ v a. v) t };
     }

@@ -7,14 +7,14 @@ use lib.Dec.{eqb}
 use borrow.Author.Tests.{eqb-true}
 use Rattle.rules.specs.declared.Head.{Head}
 use Rattle.rules.specs.Opening.{slotCount}
-use Rattle.book.specs.Answers.{isAccepted}
+use Rattle.book.specs.Answers.{isAccepted, byVersion}
 use Rattle.book.specs.Arguments.{Call}
-use Rattle.book.specs.Arguments.Call.{delivery, holiday, register}
-use Rattle.book.specs.Plain.{Said, Measured, deliveries, reads, named, highest, slotVersion, slotContent, readVersion, readContent, againstKept, plainAnswer, keptOf, bookOf}
+use Rattle.book.specs.Arguments.Call.{delivery, holiday, register, agreed}
+use Rattle.book.specs.Plain.{Said, Measured, deliveries, reads, agreements, named, highest, slotVersion, slotContent, readVersion, readContent, agreedVersion, agreedContent, againstKept, plainAnswer, keptOf, bookOf}
 use Rattle.book.proofs.Tables.{upTo-same}
 use Rattle.book.proofs.Said.{latest, AllFair, fair-next, ruled, ruled-same, same-said}
 use Rattle.book.proofs.Kept.{Kept, accepted, keptOf-kept}
-use Rattle.book.proofs.Members.{deliveries-from, deliveries-of, reads-from, reads-of, named-from, named-of}
+use Rattle.book.proofs.Members.{deliveries-from, deliveries-of, reads-from, reads-of, agreements-from, agreements-of, named-from, named-of}
 use Rattle.book.proofs.Next.{same-measured}
 
 -- where an accepted call may be in front: with the content before, where it has the highest version before
@@ -24,7 +24,7 @@ fair-if : {A : Type 0} (zeros : A) (t : Bool) (s : Said A) (ss : List (Said A))
 fair-if zeros true s ss here fair = fair-next zeros s ss (here refl .0) (here refl .1) fair
 fair-if zeros false s ss here fair = fair
 
--- a kept delivery has the content before, where it has the highest version before; so has a register read
+-- a kept delivery has the content before, where it has the highest version before; so have a register read and an agreed call
 delivery-fair : (h : Head) (kept : List Call) (slot version value status : ℕ) → isAccepted (plainAnswer h kept (delivery slot version value status)) ≡ true
     → (0 < version) × (version ≡ slotVersion kept slot → _≡_ {A = Measured} (record { value = value; status = status }) (slotContent kept slot))
 unfolding againstKept
@@ -33,13 +33,23 @@ delivery-fair h kept slot version value status ok =
     let test = eqb (slotContent kept slot .value) value && eqb (slotContent kept slot .status) status in
     (fine .1, λ e. same-measured (slotContent kept slot) value status (ruled-same (ruled (slotVersion kept slot) version test) (ap isAccepted (sym same) ∙ ok) e))
 
+number-before : (before version content number : ℕ) → isAccepted (byVersion before version (eqb content number)) ≡ true
+    → version ≡ before → number ≡ content
+number-before before version content number ok e = sym (eqb-true _ _ (ruled-same (ruled before version (eqb content number)) ok e))
+
 read-fair : (h : Head) (kept : List Call) (boundary version reading : ℕ) → isAccepted (plainAnswer h kept (register boundary version reading)) ≡ true
     → (0 < version) × (version ≡ readVersion kept boundary → reading ≡ readContent kept boundary)
 unfolding againstKept
 read-fair h kept boundary version reading ok =
     let (same, fine) = accepted h kept (register boundary version reading) ok in
-    let test = eqb (readContent kept boundary) reading in
-    (fine .1, λ e. sym (eqb-true _ _ (ruled-same (ruled (readVersion kept boundary) version test) (ap isAccepted (sym same) ∙ ok) e)))
+    (fine .1, number-before (readVersion kept boundary) version (readContent kept boundary) reading (ap isAccepted (sym same) ∙ ok))
+
+agreed-fair : (h : Head) (kept : List Call) (slot version value : ℕ) → isAccepted (plainAnswer h kept (agreed slot version value)) ≡ true
+    → (0 < version) × (version ≡ agreedVersion kept slot → value ≡ agreedContent kept slot)
+unfolding againstKept
+agreed-fair h kept slot version value ok =
+    let (same, fine) = accepted h kept (agreed slot version value) ok in
+    (fine .1, number-before (agreedVersion kept slot) version (agreedContent kept slot) value (ap isAccepted (sym same) ∙ ok))
 
 -- what the kept calls say of a slot is fair
 fair-deliveries : (h : Head) (i : ℕ) (kept : List Call) → Kept h kept → AllFair (record { value = 0; status = 0 }) (deliveries i kept)
@@ -51,6 +61,7 @@ fair-deliveries h i (delivery slot version value status ∷ kept) ok =
     (fair-deliveries h i kept (ok .1))
 fair-deliveries h i (holiday day ∷ kept) ok = fair-deliveries h i kept (ok .1)
 fair-deliveries h i (register boundary version reading ∷ kept) ok = fair-deliveries h i kept (ok .1)
+fair-deliveries h i (agreed slot version value ∷ kept) ok = fair-deliveries h i kept (ok .1)
 
 -- and of a boundary
 fair-reads : (h : Head) (d : ℕ) (kept : List Call) → Kept h kept → AllFair 0 (reads d kept)
@@ -62,6 +73,19 @@ fair-reads h d (register boundary version reading ∷ kept) ok =
     fair-if 0 (eqb boundary d) (record { version = version; content = reading })
     (reads d kept) (λ e. rw (sym (eqb-true boundary d e)) (read-fair h kept boundary version reading (ok .0)))
     (fair-reads h d kept (ok .1))
+fair-reads h d (agreed slot version value ∷ kept) ok = fair-reads h d kept (ok .1)
+
+-- and of an agreed slot
+fair-agreements : (h : Head) (i : ℕ) (kept : List Call) → Kept h kept → AllFair 0 (agreements i kept)
+unfolding agreements
+fair-agreements h i [] ok = λ s m. absurd (List·Memᴰ·not-nil m)
+fair-agreements h i (delivery slot version value status ∷ kept) ok = fair-agreements h i kept (ok .1)
+fair-agreements h i (holiday day ∷ kept) ok = fair-agreements h i kept (ok .1)
+fair-agreements h i (register boundary version reading ∷ kept) ok = fair-agreements h i kept (ok .1)
+fair-agreements h i (agreed slot version value ∷ kept) ok =
+    fair-if 0 (eqb slot i) (record { version = version; content = value })
+    (agreements i kept) (λ e. rw (sym (eqb-true slot i e)) (agreed-fair h kept slot version value (ok .0)))
+    (fair-agreements h i kept (ok .1))
 
 same-tests : (s t : Bool) → (s ≡ true → t ≡ true) → (t ≡ true → s ≡ true) → s ≡ t
 same-tests true t sub sup = sym (sub refl)
@@ -86,6 +110,11 @@ module _ (h : Head) (kept other : List Call) (ok : Kept h kept) (ok′ : Kept h 
       same-said 0 (reads d kept) (reads d other) (fair-reads h d kept ok) (fair-reads h d other ok′)
       (λ s m. reads-of d other s (sub _ (reads-from d kept s m))) (λ s m. reads-of d kept s (sup _ (reads-from d other s m)))
 
+  same-agreed : (i : ℕ) → (agreedVersion kept i ≡ agreedVersion other i) × (agreedContent kept i ≡ agreedContent other i)
+  same-agreed i =
+      same-said 0 (agreements i kept) (agreements i other) (fair-agreements h i kept ok) (fair-agreements h i other ok′)
+      (λ s m. agreements-of i other s (sub _ (agreements-from i kept s m))) (λ s m. agreements-of i kept s (sup _ (agreements-from i other s m)))
+
   -- the book depends on which calls were kept alone
   same-book : bookOf h kept ≡ bookOf h other
   unfolding bookOf
@@ -98,6 +127,10 @@ module _ (h : Head) (kept other : List Call) (ok : Kept h kept) (ok′ : Kept h 
     holidays = upTo-same _ _ (h .days) (λ d. ap (λ (t : Bool). cond t 1 0) (same-day d)) t;
     readings = upTo-same _ _ (suc (h .days)) (λ d. same-read d .1) t;
     readVersions = upTo-same _ _ (suc (h .days)) (λ d. same-read d .0) t;
+    agreed = record {
+      values = upTo-same _ _ (slotCount h) (λ i. same-agreed i .1) t;
+      versions = upTo-same _ _ (slotCount h) (λ i. same-agreed i .0) t;
+    };
   }
 
 -- two lists of calls with the same accepted calls amount to the same book, whatever their order and repetition

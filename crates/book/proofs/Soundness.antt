@@ -9,13 +9,13 @@ use Rattle.rules.specs.Opening.{slotCount}
 use Rattle.rules.specs.Lists.{any}
 use Rattle.rules.proofs.Sums.{any-none}
 use Rattle.book.specs.Arguments.{Call}
-use Rattle.book.specs.Cells.{readsOf, slotFaultAt, dayFaultAt, readFaultAt, cellsFit, cellsOk}
+use Rattle.book.specs.Cells.{readsOf, slotFaultAt, dayFaultAt, readFaultAt, agreedFaultAt, cellsFit, cellsOk}
 use Rattle.book.specs.Opening.{opened}
 use Rattle.book.specs.Filling.{afterAll}
 use Rattle.book.specs.Plain.{keptOf, bookOf}
 use Rattle.book.proofs.Tables.{getD-upTo}
 use Rattle.book.proofs.Kept.{Kept, keptOf-kept}
-use Rattle.book.proofs.Clean.{slot-clean, day-clean, read-clean}
+use Rattle.book.proofs.Clean.{slot-clean, day-clean, read-clean, agreed-clean}
 use Rattle.book.proofs.Agreement.{book-fits, cells-agree}
 
 module _ (h : Head) (kept : List Call) (ok : Kept h kept) where
@@ -37,9 +37,15 @@ module _ (h : Head) (kept : List Call) (ok : Kept h kept) where
       any-none (readFaultAt (readsOf (bookOf h kept))) 0 (suc (h .days))
       (λ i l m. let lt : i < suc (h .days) = omega arith in simp getD-upTo (read-clean h kept ok i))
 
+  agreements-clean : any (agreedFaultAt (bookOf h kept .agreed)) 0 (slotCount h) ≡ false
+  unfolding bookOf
+  agreements-clean =
+      any-none (agreedFaultAt (bookOf h kept .agreed)) 0 (slotCount h)
+      (λ i l m. let lt : i < slotCount h = omega arith in simp getD-upTo (agreed-clean h kept ok i))
+
   book-ok : cellsOk h (bookOf h kept) ≡ true
   unfolding cellsOk
-  book-ok = rw (slots-clean, days-clean, reads-clean)
+  book-ok = rw (slots-clean, days-clean, reads-clean, agreements-clean)
 
 pub cells-sound : (h : Head) (cs : List Call)
     → (cellsFit h (afterAll h (opened h) cs) ≡ true) × (cellsOk h (afterAll h (opened h) cs) ≡ true)

@@ -27,7 +27,7 @@ filedMeant filed.Late = late
 filedMeant filed.Repeat = repeat
 filedMeant (filed.Refused n) = refused n
 
--- an answer as one number: 1 to 11 are 01's refusals, so 0, 100 and 101 are free
+-- an answer as one number: refusals are under 100, so 0, 100 and 101 are free
 abbrev pub answerCode : Answer → ℕ
 answerCode done = 0
 answerCode stored = 0

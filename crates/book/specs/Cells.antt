@@ -6,7 +6,7 @@ use lib.Dec.{ltb, eqb}
 use lib.ListN.{length, getD}
 use Rattle.rules.specs.declared.Head.{Head}
 use Rattle.rules.specs.Lists.{every, any}
-use Rattle.rules.specs.Opening.{slotCount, Slots, Cells}
+use Rattle.rules.specs.Opening.{slotCount, Slots, Agreed, Cells}
 
 -- the two lent lists of boundaries
 pub record Reads : Type 0 where
@@ -21,7 +21,7 @@ unfoldable pub allLong : ℕ → List ℕ → Bool
 allLong n [] = true
 allLong n (l ∷ ls) = eqb l n && allLong n ls
 
--- N, D and D + 1 long
+-- N, D and D + 1 long; the agreed lists N long (02, W1)
 unfoldable pub slotsFit : Head → Slots → Bool
 slotsFit h s = allLong (slotCount h) (length (s .values) ∷ length (s .versions) ∷ length (s .statuses) ∷ [])
 
@@ -31,8 +31,11 @@ daysFit h holidays = allLong (h .days) (length holidays ∷ [])
 unfoldable pub readsFit : Head → Reads → Bool
 readsFit h r = allLong (suc (h .days)) (length (r .readings) ∷ length (r .readVersions) ∷ [])
 
+unfoldable pub agreedFits : Head → Agreed → Bool
+agreedFits h a = allLong (slotCount h) (length (a .values) ∷ length (a .versions) ∷ [])
+
 abbrev pub cellsFits : Head → Cells → List Bool
-cellsFits h b = slotsFit h (b .slots) ∷ daysFit h (b .holidays) ∷ readsFit h (readsOf b) ∷ []
+cellsFits h b = slotsFit h (b .slots) ∷ daysFit h (b .holidays) ∷ readsFit h (readsOf b) ∷ agreedFits h (b .agreed) ∷ []
 
 unfoldable pub cellsFit : Head → Cells → Bool
 cellsFit h b = every (cellsFits h b)
@@ -49,6 +52,10 @@ dayFault cell = ltb 1 cell
 unfoldable pub readFault : ℕ → ℕ → Bool
 readFault version reading = ltb 99999999 reading || (eqb version 0 && not (eqb reading 0))
 
+-- an agreed value over 99,999,999, or a non-zero one beside version 0 (02, W1): as of a reading
+abbrev pub agreedFault : ℕ → ℕ → Bool
+agreedFault version value = readFault version value
+
 -- the same of a place in the lists
 abbrev pub slotFaultAt : Slots → ℕ → Bool
 slotFaultAt s i = slotFault (getD (s .versions) i 0) (getD (s .values) i 0) (getD (s .statuses) i 0)
@@ -59,11 +66,15 @@ dayFaultAt holidays day = dayFault (getD holidays day 0)
 abbrev pub readFaultAt : Reads → ℕ → Bool
 readFaultAt r boundary = readFault (getD (r .readVersions) boundary 0) (getD (r .readings) boundary 0)
 
--- no slot, day or boundary has a cell that no calls could leave
+abbrev pub agreedFaultAt : Agreed → ℕ → Bool
+agreedFaultAt a i = agreedFault (getD (a .versions) i 0) (getD (a .values) i 0)
+
+-- no slot, day or boundary has a cell that no calls could leave, nor has an agreed slot
 unfoldable pub cellsOk : Head → Cells → Bool
 cellsOk h b =
     every
     (not (any (slotFaultAt (b .slots)) 0 (slotCount h))
     ∷ not (any (dayFaultAt (b .holidays)) 0 (h .days))
     ∷ not (any (readFaultAt (readsOf b)) 0 (suc (h .days)))
+    ∷ not (any (agreedFaultAt (b .agreed)) 0 (slotCount h))
     ∷ [])

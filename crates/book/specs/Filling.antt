@@ -1,17 +1,17 @@
--- What the three calls answer, and what they leave in the lists they are lent (01, The three calls that fill it).
+-- What the filling calls answer, and what they leave in the lists they are lent (01, The three calls that fill it; 02, W1).
 use mathlib.Core.Bool.{Bool, not, cond, _&&_}
 use mathlib.Core.List.{List, [], _∷_}
 use Prim.Native.Nat.{ℕ}
 use lib.Dec.{eqb}
 use lib.ListN.{getD, set}
 use Rattle.rules.specs.declared.Head.{Head}
-use Rattle.rules.specs.Opening.{headOk, Slots, Cells}
+use Rattle.rules.specs.Opening.{headOk, Slots, Agreed, Cells}
 use Rattle.book.specs.Answers.{Answer, isStored, Rule, unless, byVersion}
 use Rattle.book.specs.Answers.Answer.{stored, repeat, refused}
 use Rattle.book.specs.Answers.Rule.{rule}
 use Rattle.book.specs.Arguments.{Call, argumentRules}
-use Rattle.book.specs.Arguments.Call.{delivery, holiday, register}
-use Rattle.book.specs.Cells.{Reads, readsOf, slotsFit, daysFit, readsFit, slotFault, dayFault, readFault}
+use Rattle.book.specs.Arguments.Call.{delivery, holiday, register, agreed}
+use Rattle.book.specs.Cells.{Reads, readsOf, slotsFit, daysFit, readsFit, agreedFits, slotFault, dayFault, readFault}
 
 -- the rules from the input, where the lists that the call is lent fit or do not
 abbrev pub inputRules : Head → Bool → Call → List Rule
@@ -30,6 +30,10 @@ againstDay cell = cond (dayFault cell) (refused 11) (cond (eqb cell 0) stored re
 unfoldable pub againstBoundary : ℕ → ℕ → ℕ → ℕ → Answer
 againstBoundary oldVersion oldReading version reading =
     cond (readFault oldVersion oldReading) (refused 11) (byVersion oldVersion version (eqb oldReading reading))
+
+-- "by the version rule of a delivery" (02, W1), with a value for the reading
+abbrev pub againstAgreed : ℕ → ℕ → ℕ → ℕ → Answer
+againstAgreed oldVersion oldValue version value = againstBoundary oldVersion oldValue version value
 
 -- a stored call writes one place of a list; with any other answer nothing changes
 abbrev pub storedIn : Answer → List ℕ → ℕ → ℕ → List ℕ
@@ -67,11 +71,24 @@ registerAfter h r boundary version reading = record {
   readVersions = storedIn (registerAnswer h r boundary version reading) (r .readVersions) boundary version;
 }
 
--- any of the three, over all cells
+-- an agreed value
+unfoldable pub agreeAnswer : Head → Agreed → ℕ → ℕ → ℕ → Answer
+agreeAnswer h a slot version value =
+    unless (inputRules h (agreedFits h a) (agreed slot version value))
+    (againstAgreed (getD (a .versions) slot 0) (getD (a .values) slot 0) version value)
+
+unfoldable pub agreeAfter : Head → Agreed → ℕ → ℕ → ℕ → Agreed
+agreeAfter h a slot version value = record {
+  values = storedIn (agreeAnswer h a slot version value) (a .values) slot value;
+  versions = storedIn (agreeAnswer h a slot version value) (a .versions) slot version;
+}
+
+-- any of the four, over all cells
 unfoldable pub answer : Head → Cells → Call → Answer
 answer h b (delivery slot version value status) = deliverAnswer h (b .slots) slot version value status
 answer h b (holiday day) = holidayAnswer h (b .holidays) day
 answer h b (register boundary version reading) = registerAnswer h (readsOf b) boundary version reading
+answer h b (agreed slot version value) = agreeAnswer h (b .agreed) slot version value
 
 unfoldable pub after : Head → Cells → Call → Cells
 after h b (delivery slot version value status) = record {
@@ -79,18 +96,28 @@ after h b (delivery slot version value status) = record {
   holidays = b .holidays;
   readings = b .readings;
   readVersions = b .readVersions;
+  agreed = b .agreed;
 }
 after h b (holiday day) = record {
   slots = b .slots;
   holidays = holidayAfter h (b .holidays) day;
   readings = b .readings;
   readVersions = b .readVersions;
+  agreed = b .agreed;
 }
 after h b (register boundary version reading) = record {
   slots = b .slots;
   holidays = b .holidays;
   readings = registerAfter h (readsOf b) boundary version reading .readings;
   readVersions = registerAfter h (readsOf b) boundary version reading .readVersions;
+  agreed = b .agreed;
+}
+after h b (agreed slot version value) = record {
+  slots = b .slots;
+  holidays = b .holidays;
+  readings = b .readings;
+  readVersions = b .readVersions;
+  agreed = agreeAfter h (b .agreed) slot version value;
 }
 
 -- a list of calls, each given the lists as the call before left them

@@ -10,13 +10,14 @@ use Rattle.book.specs.Answers.Answer.{done, stored, late, repeat, refuse
 use Rattle.book.specs.Answers.Rule.{rule}
 use Rattle.book.specs.Cells.{cellsFit}
 
--- "Opening sets all cells to 0"
+-- "Opening sets all cells to 0", and "clears the two lists" (02, W1)
 unfoldable pub opened : Head → Cells
 opened h = record {
   slots = record { values = replicate (slotCount h) 0; versions = replicate (slotCount h) 0; statuses = replicate (slotCount h) 0 };
   holidays = replicate (h .days) 0;
   readings = replicate (suc (h .days)) 0;
   readVersions = replicate (suc (h .days)) 0;
+  agreed = record { values = replicate (slotCount h) 0; versions = replicate (slotCount h) 0 };
 }
 
 -- "Opening answers done": 1 and 2 alone can refuse it

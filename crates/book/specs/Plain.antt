@@ -1,4 +1,4 @@
--- What a list of calls amounts to, from the head and the calls' arguments alone (01, The plain book).
+-- What a list of calls amounts to, from the head and the calls' arguments alone (01, The plain book; 02, W1).
 use mathlib.Core.Bool.{Bool, false, not, cond, _&&_, _||_}
 use mathlib.Core.List.{List, [], _∷_}
 use Prim.Native.Nat.{ℕ, suc, max}
@@ -10,14 +10,14 @@ use Rattle.book.specs.Answers.{Answer, isAccepted, unless, byVersion}
 use Rattle.book.specs.Answers.Answer.{stored, repeat}
 use Rattle.book.specs.Answers.Rule.{rule}
 use Rattle.book.specs.Arguments.{Call, argumentRules}
-use Rattle.book.specs.Arguments.Call.{delivery, holiday, register}
+use Rattle.book.specs.Arguments.Call.{delivery, holiday, register, agreed}
 
--- what a kept delivery or register read says: its version and its content
+-- what a kept delivery, register read or agreed call says: its version and its content
 pub record Said (A : Type 0) : Type 0 where
   pub version : ℕ
   pub content : A
 
--- a delivery's content; a register read's is the reading
+-- a delivery's content; a register read's is the reading, an agreed call's the value
 pub record Measured : Type 0 where
   pub value : ℕ
   pub status : ℕ
@@ -30,6 +30,7 @@ deliveries i (delivery slot version value status ∷ kept) =
     (deliveries i kept)
 deliveries i (holiday day ∷ kept) = deliveries i kept
 deliveries i (register boundary version reading ∷ kept) = deliveries i kept
+deliveries i (agreed slot version value ∷ kept) = deliveries i kept
 
 -- the kept register reads for a boundary
 unfoldable pub reads : ℕ → List Call → List (Said ℕ)
@@ -38,6 +39,16 @@ reads d (delivery slot version value status ∷ kept) = reads d kept
 reads d (holiday day ∷ kept) = reads d kept
 reads d (register boundary version reading ∷ kept) =
     cond (eqb boundary d) (record { version = version; content = reading } ∷ reads d kept) (reads d kept)
+reads d (agreed slot version value ∷ kept) = reads d kept
+
+-- the kept agreed calls for a slot
+unfoldable pub agreements : ℕ → List Call → List (Said ℕ)
+agreements i [] = []
+agreements i (delivery slot version value status ∷ kept) = agreements i kept
+agreements i (holiday day ∷ kept) = agreements i kept
+agreements i (register boundary version reading ∷ kept) = agreements i kept
+agreements i (agreed slot version value ∷ kept) =
+    cond (eqb slot i) (record { version = version; content = value } ∷ agreements i kept) (agreements i kept)
 
 -- a kept holiday call names the day
 unfoldable pub named : ℕ → List Call → Bool
@@ -45,6 +56,7 @@ named d [] = false
 named d (delivery slot version value status ∷ kept) = named d kept
 named d (holiday day ∷ kept) = eqb day d || named d kept
 named d (register boundary version reading ∷ kept) = named d kept
+named d (agreed slot version value ∷ kept) = named d kept
 
 -- h: the highest version among them, 0 if there are none
 unfoldable pub highest : {A : Type 0} → List (Said A) → ℕ
@@ -69,6 +81,13 @@ readVersion kept d = highest (reads d kept)
 abbrev pub readContent : List Call → ℕ → ℕ
 readContent kept d = contentWith 0 (readVersion kept d) (reads d kept)
 
+-- "with a highest version of their own" (02, W1)
+abbrev pub agreedVersion : List Call → ℕ → ℕ
+agreedVersion kept i = highest (agreements i kept)
+
+abbrev pub agreedContent : List Call → ℕ → ℕ
+agreedContent kept i = contentWith 0 (agreedVersion kept i) (agreements i kept)
+
 -- a call that breaks no rule from the input
 unfoldable pub againstKept : List Call → Call → Answer
 againstKept kept (delivery slot version value status) =
@@ -77,6 +96,8 @@ againstKept kept (delivery slot version value status) =
 againstKept kept (holiday day) = cond (named day kept) repeat stored
 againstKept kept (register boundary version reading) =
     byVersion (readVersion kept boundary) version (eqb (readContent kept boundary) reading)
+againstKept kept (agreed slot version value) =
+    byVersion (agreedVersion kept slot) version (eqb (agreedContent kept slot) value)
 
 unfoldable pub plainAnswer : Head → List Call → Call → Answer
 plainAnswer h kept c = unless (rule 1 (not (headOk h)) ∷ argumentRules h c) (againstKept kept c)
@@ -105,4 +126,8 @@ bookOf h kept = record {
   holidays = upTo (λ d. cond (named d kept) 1 0) 0 (h .days);
   readings = upTo (readContent kept) 0 (suc (h .days));
   readVersions = upTo (readVersion kept) 0 (suc (h .days));
+  agreed = record {
+    values = upTo (agreedContent kept) 0 (slotCount h);
+    versions = upTo (agreedVersion kept) 0 (slotCount h);
+  };
 }

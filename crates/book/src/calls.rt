@@ -20,6 +20,11 @@ pub enum Call {
         version: u32,
         reading: u32,
     },
+    Agreed {
+        slot: u32,
+        version: u32,
+        value: u32,
+    },
 }
 
 pub fn fill(
@@ -30,13 +35,15 @@ pub fn fill(
     holidays: &mut [u8],
     readings: &mut [u32],
     reads: &mut [u32],
+    agreed: &mut [u32],
+    agreed_versions: &mut [u32],
     call: Call,
 ) -> Filed
     ensures { λ r. ⌜
         (let cells =
-        lentCells (values .entry) (versions .entry) (statuses .entry) (holidays .entry) (readings .entry) (reads .entry) in
+        lentCells (values .entry) (versions .entry) (statuses .entry) (holidays .entry) (readings .entry) (reads .entry) (agreed .entry) («agreed_versions» .entry) in
         (filedMeant r ≡ answer head cells (callMeant call))
-        × (lentCells (values .exit) (versions .exit) (statuses .exit) (holidays .exit) (readings .exit) (reads .exit)
+        × (lentCells (values .exit) (versions .exit) (statuses .exit) (holidays .exit) (readings .exit) (reads .exit) (agreed .exit) («agreed_versions» .exit)
         ≡ after head cells (callMeant call)))
         ⌝ }
 {
@@ -62,5 +69,10 @@ pub fn fill(
             version,
             reading,
         } => crate::register(head, readings, reads, boundary, version, reading),
+        Call::Agreed {
+            slot,
+            version,
+            value,
+        } => crate::agree(head, agreed, agreed_versions, slot, version, value),
     }
 }

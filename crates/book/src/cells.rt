@@ -1,4 +1,4 @@
-// The cells that no calls could leave (01, Numbers of a refusal, 11).
+// The cells that no calls could leave (01, Numbers of a refusal, 11; 02, W1).
 ghost use mathlib.Core.Path.{_≡_};
 ghost use Rattle.book.specs.Cells.{slotFault, dayFault, readFault};
 
@@ -23,14 +23,15 @@ pub fn day_fault(cell: u8) -> bool
     1 < cell
 }
 
-pub fn read_fault(version: u32, reading: u32) -> bool
-    ensures { λ r. ⌜ r ≡ readFault version reading ⌝ }
+// a reading, or an agreed value
+pub fn number_fault(version: u32, number: u32) -> bool
+    ensures { λ r. ⌜ r ≡ readFault version number ⌝ }
 {
-    if 99999999 < reading {
+    if 99999999 < number {
         return true;
     }
     if version != 0 {
         return false;
     }
-    reading != 0
+    number != 0
 }

@@ -57,11 +57,12 @@ pub fn against_day(cell: u8) -> Filed
     Filed::Repeat
 }
 
-pub fn against_boundary(old_version: u32, old_reading: u32, version: u32, reading: u32) -> Filed
-    ensures { λ r. ⌜ filedMeant r ≡ againstBoundary «old_version» «old_reading» version reading ⌝ }
+// a reading, or an agreed value
+pub fn against_number(old_version: u32, old_number: u32, version: u32, number: u32) -> Filed
+    ensures { λ r. ⌜ filedMeant r ≡ againstBoundary «old_version» «old_number» version number ⌝ }
 {
-    if cells::read_fault(old_version, old_reading) {
+    if cells::number_fault(old_version, old_number) {
         return Filed::Refused(11);
     }
-    versions::by_version(old_version, version, old_reading == reading)
+    versions::by_version(old_version, version, old_number == number)
 }

@@ -39,7 +39,18 @@ pub fn reads_fit(head: Head, readings: usize, read_versions: usize) -> bool
     read_versions == n
 }
 
-// All six lists, in the order of an opening's arguments.
+pub fn agreed_fit(head: Head, agreed: usize, agreed_versions: usize) -> bool
+    requires { ⌜ headOk head ≡ true ⌝ }
+    ensures { λ r. ⌜ r ≡ allLong (slotCount head) (agreed ∷ «agreed_versions» ∷ []) ⌝ }
+{
+    let n = opening::slot_count(head);
+    if agreed != n {
+        return false;
+    }
+    agreed_versions == n
+}
+
+// All eight lists, in the order of an opening's arguments.
 pub fn cells_fit(
     head: Head,
     values: usize,
@@ -48,6 +59,8 @@ pub fn cells_fit(
     holidays: usize,
     readings: usize,
     read_versions: usize,
+    agreed: usize,
+    agreed_versions: usize,
 ) -> bool
     requires { ⌜ headOk head ≡ true ⌝ }
     ensures { λ r. ⌜
@@ -55,6 +68,7 @@ pub fn cells_fit(
         (allLong (slotCount head) (values ∷ versions ∷ statuses ∷ [])
         ∷ allLong (head .days) (holidays ∷ [])
         ∷ allLong (suc (head .days)) (readings ∷ «read_versions» ∷ [])
+        ∷ allLong (slotCount head) (agreed ∷ «agreed_versions» ∷ [])
         ∷ [])
         ⌝ }
 {
@@ -64,5 +78,8 @@ pub fn cells_fit(
     if !days_fit(head, holidays) {
         return false;
     }
-    reads_fit(head, readings, read_versions)
+    if !reads_fit(head, readings, read_versions) {
+        return false;
+    }
+    agreed_fit(head, agreed, agreed_versions)
 }

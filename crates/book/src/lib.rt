@@ -1,8 +1,9 @@
-// The calls that open and fill a book (01, Opening; The three calls that fill it).
+// The calls that open and fill a book (01, Opening; The three calls that fill it; 02, W1).
 pub mod calls;
 pub mod cells;
 mod filing;
 pub mod lengths;
+mod numbers;
 pub mod sound;
 mod versions;
 mod zeros;
@@ -10,11 +11,11 @@ mod zeros;
 use rules::Head;
 use rules::opening;
 ghost use mathlib.Core.Path.{_≡_};
-ghost use Rattle.rules.specs.Inner.Lent.{lentSlots, lentCells};
+ghost use Rattle.rules.specs.Inner.Lent.{lentSlots, lentAgreed, lentCells};
 ghost use Rattle.book.specs.Answers.{openedMeant, filedMeant};
 ghost use Rattle.book.specs.Opening.{openAnswer, openAfter};
-ghost use Rattle.book.specs.Filling.{deliverAnswer, deliverAfter, holidayAnswer, holidayAfter, registerAnswer, registerAfter};
-ghost use Rattle.book.specs.Inner.Lent.{lentReads, HoldSlots, HoldCells};
+ghost use Rattle.book.specs.Filling.{deliverAnswer, deliverAfter, holidayAnswer, holidayAfter, registerAnswer, registerAfter, agreeAnswer, agreeAfter};
+ghost use Rattle.book.specs.Inner.Lent.{lentReads, HoldSlots, HoldAgreed, HoldCells};
 
 // What opening answers.
 pub enum Opened {
@@ -38,11 +39,15 @@ pub fn open(
     holidays: &mut [u8],
     readings: &mut [u32],
     read_versions: &mut [u32],
+    agreed: &mut [u32],
+    agreed_versions: &mut [u32],
 ) -> Opened
     ensures { λ r. ⌜
-        (let cells = lentCells (values .entry) (versions .entry) (statuses .entry) (holidays .entry) (readings .entry) («read_versions» .entry) in
+        (let cells =
+        lentCells (values .entry) (versions .entry) (statuses .entry) (holidays .entry) (readings .entry) («read_versions» .entry) (agreed .entry) («agreed_versions» .entry) in
         (openedMeant r ≡ openAnswer head cells)
-        × HoldCells (values .exit) (versions .exit) (statuses .exit) (holidays .exit) (readings .exit) («read_versions» .exit) (openAfter head cells))
+        × HoldCells (values .exit) (versions .exit) (statuses .exit) (holidays .exit) (readings .exit) («read_versions» .exit) (agreed .exit) («agreed_versions» .exit)
+        (openAfter head cells))
         ⌝ }
 {
     if !opening::head_ok(head) {
@@ -56,6 +61,8 @@ pub fn open(
         holidays.len(),
         readings.len(),
         read_versions.len(),
+        agreed.len(),
+        agreed_versions.len(),
     );
     if !fit {
         return Opened::Refused(2);
@@ -66,6 +73,8 @@ pub fn open(
     zeros::clear_bytes(holidays);
     zeros::clear_words(readings);
     zeros::clear_words(read_versions);
+    zeros::clear_words(agreed);
+    zeros::clear_words(agreed_versions);
     Opened::Done
 }
 
@@ -154,20 +163,28 @@ pub fn register(
     if !lengths::reads_fit(head, readings.len(), read_versions.len()) {
         return Filed::Refused(2);
     }
-    if head.days < boundary {
-        return Filed::Refused(3);
+    numbers::file_number(readings, read_versions, boundary, version, reading, 6)
+}
+
+pub fn agree(
+    head: Head,
+    agreed: &mut [u32],
+    agreed_versions: &mut [u32],
+    slot: u32,
+    version: u32,
+    value: u32,
+) -> Filed
+    ensures { λ r. ⌜
+        (let a = lentAgreed (agreed .entry) («agreed_versions» .entry) in
+        (filedMeant r ≡ agreeAnswer head a slot version value)
+        × HoldAgreed (agreed .exit) («agreed_versions» .exit) (agreeAfter head a slot version value))
+        ⌝ }
+{
+    if !opening::head_ok(head) {
+        return Filed::Refused(1);
     }
-    if version == 0 {
-        return Filed::Refused(4);
+    if !lengths::agreed_fit(head, agreed.len(), agreed_versions.len()) {
+        return Filed::Refused(2);
     }
-    if 99999999 < reading {
-        return Filed::Refused(6);
-    }
-    let at = boundary as usize;
-    let found = filing::against_boundary(read_versions[at], readings[at], version, reading);
-    if filing::is_stored(found) {
-        readings[at] = reading;
-        read_versions[at] = version;
-    }
-    found
+    numbers::file_number(agreed, agreed_versions, slot, version, value, 12)
 }

@@ -1,4 +1,4 @@
-// All cells of a book looked at for one that no calls could leave (01, Numbers of a refusal, 11).
+// All cells of a book looked at for one that no calls could leave (01, Numbers of a refusal, 11; 02, W1).
 use crate::cells;
 use rules::Head;
 ghost use mathlib.Core.Bool.{true};
@@ -36,13 +36,14 @@ fn bad_day(holidays: &[u8]) -> bool
     false
 }
 
-fn bad_read(readings: &[u32], reads: &[u32]) -> bool
-    requires { ⌜ length (now reads) ≡ length (now readings) ⌝ }
-    ensures { λ r. ⌜ r ≡ any (readFaultAt (lentReads (readings .entry) (reads .entry))) 0 (length (now (readings .entry))) ⌝ }
+// readings, or agreed values
+fn bad_number(numbers: &[u32], versions: &[u32]) -> bool
+    requires { ⌜ length (now versions) ≡ length (now numbers) ⌝ }
+    ensures { λ r. ⌜ r ≡ any (readFaultAt (lentReads (numbers .entry) (versions .entry))) 0 (length (now (numbers .entry))) ⌝ }
 {
     let mut i = 0;
-    while i < readings.len() {
-        if cells::read_fault(reads[i], readings[i]) {
+    while i < numbers.len() {
+        if cells::number_fault(versions[i], numbers[i]) {
             return true;
         }
         i += 1;
@@ -58,9 +59,14 @@ pub fn cells_ok(
     holidays: &[u8],
     readings: &[u32],
     reads: &[u32],
+    agreed: &[u32],
+    agreed_versions: &[u32],
 ) -> bool
-    requires { ⌜ cellsFit head (lentCells values versions statuses holidays readings reads) ≡ true ⌝ }
-    ensures { λ r. ⌜ r ≡ cellsOk head (lentCells (values .entry) (versions .entry) (statuses .entry) (holidays .entry) (readings .entry) (reads .entry)) ⌝ }
+    requires { ⌜ cellsFit head (lentCells values versions statuses holidays readings reads agreed «agreed_versions») ≡ true ⌝ }
+    ensures { λ r. ⌜
+        r ≡ cellsOk head
+        (lentCells (values .entry) (versions .entry) (statuses .entry) (holidays .entry) (readings .entry) (reads .entry) (agreed .entry) («agreed_versions» .entry))
+        ⌝ }
 {
     if bad_slot(values, versions, statuses) {
         return false;
@@ -68,5 +74,8 @@ pub fn cells_ok(
     if bad_day(holidays) {
         return false;
     }
-    !bad_read(readings, reads)
+    if bad_number(readings, reads) {
+        return false;
+    }
+    !bad_number(agreed, agreed_versions)
 }

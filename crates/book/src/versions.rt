@@ -1,4 +1,4 @@
-// The version rule of deliveries and register reads (01, The three calls that fill it).
+// The version rule of deliveries, register reads and agreed calls (01, The three calls that fill it; 02, W1).
 use crate::Filed;
 ghost use mathlib.Core.Path.{_≡_};
 ghost use Rattle.book.specs.Answers.{filedMeant, byVersion};

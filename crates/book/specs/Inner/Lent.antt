@@ -3,7 +3,7 @@ use mathlib.Core.List.{List}
 use mathlib.Core.Path.{_≡_}
 use Prim.Native.Nat.{ℕ}
 use denote.Ref.{RefT, now}
-use Rattle.rules.specs.Opening.{Slots, Cells}
+use Rattle.rules.specs.Opening.{Slots, Agreed, Cells}
 use Rattle.book.specs.Cells.{Reads}
 
 abbrev pub lentReads : RefT (List ℕ) → RefT (List ℕ) → Reads
@@ -14,7 +14,11 @@ abbrev pub HoldSlots : RefT (List ℕ) → RefT (List ℕ) → RefT (List ℕ) �
 HoldSlots values versions statuses s =
     (now values ≡ s .values) × (now versions ≡ s .versions) × (now statuses ≡ s .statuses)
 
-abbrev pub HoldCells : RefT (List ℕ) → RefT (List ℕ) → RefT (List ℕ) → RefT (List ℕ) → RefT (List ℕ) → RefT (List ℕ) → Cells → Type 0
-HoldCells values versions statuses holidays readings readVersions b =
+abbrev pub HoldAgreed : RefT (List ℕ) → RefT (List ℕ) → Agreed → Type 0
+HoldAgreed agreed agreedVersions a = (now agreed ≡ a .values) × (now agreedVersions ≡ a .versions)
+
+abbrev pub HoldCells : RefT (List ℕ) → RefT (List ℕ) → RefT (List ℕ) → RefT (List ℕ) → RefT (List ℕ) → RefT (List ℕ) → RefT (List ℕ) → RefT (List ℕ) → Cells → Type 0
+HoldCells values versions statuses holidays readings readVersions agreed agreedVersions b =
     (now values ≡ b .slots .values) × (now versions ≡ b .slots .versions) × (now statuses ≡ b .slots .statuses)
     × (now holidays ≡ b .holidays) × (now readings ≡ b .readings) × (now readVersions ≡ b .readVersions)
+    × (now agreed ≡ b .agreed .values) × (now agreedVersions ≡ b .agreed .versions)

@@ -1,5 +1,5 @@
 -- `calls::fill`: the call of each kind is lent its own lists, and the others stay.
-use Rattle.book.proofs.EachCall.{delivered, named, registered}
+use Rattle.book.proofs.EachCall.{delivered, named, registered, settled}
 use borrow.Author.Needs.{needs}
 use Rattle.book.proofs.calls.fill.Statement.{statement}
 use Rattle.book.proofs.calls.fill.Tie as tie
@@ -21,6 +21,12 @@ enum-known-call-3 c = search needs
 
 register-requires : tie.Need-register-requires
 register-requires c κs = search needs
+
+enum-known-call-4 : tie.Need-enum-known-call-4
+enum-known-call-4 c = search needs
+
+agree-requires : tie.Need-agree-requires
+agree-requires c κs = search needs
 
 same-length : tie.Need-same-length
 same-length c = search needs
@@ -51,6 +57,16 @@ returns-3 : tie.Need-returns-3
 returns-3 c = let e = c .before .before .before .before .register .ensures in
     registered _ _ _ _ _ _ _ _ _ (c .before .before .before .before .before .before .before .before .call3 .given .1) (e .0) (e .1) (e .2)
 
+same-length-7 : tie.Need-same-length-7
+same-length-7 c = search needs
+
+same-length-8 : tie.Need-same-length-8
+same-length-8 c = search needs
+
+returns-4 : tie.Need-returns-4
+returns-4 c = let e = c .before .before .before .before .agree .ensures in
+    settled _ _ _ _ _ _ _ _ _ (c .before .before .before .before .before .before .before .before .call4 .given .1) (e .0) (e .1 .0) (e .1 .1)
+
 pub fill-spec : {M : Type 1} → statement M
 fill-spec =
     tie.close
@@ -61,6 +77,8 @@ fill-spec =
     holiday-requires
     enum-known-call-3
     register-requires
+    enum-known-call-4
+    agree-requires
     same-length
     same-length-2
     same-length-3
@@ -69,4 +87,7 @@ fill-spec =
     returns-2
     same-length-5
     same-length-6
-    returns-3)
+    returns-3
+    same-length-7
+    same-length-8
+    returns-4)

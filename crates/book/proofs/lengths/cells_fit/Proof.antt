@@ -1,4 +1,4 @@
--- `lengths::cells_fit` asks for all three kinds of lists.
+-- `lengths::cells_fit` asks for all four kinds of lists.
 use mathlib.Core.Path.{sym, _∙_}
 use mathlib.Core.Bool.{and-true}
 use borrow.Author.Tests.{not-true, not-false}
@@ -29,13 +29,34 @@ returns-3 : tie.Need-returns-3
 returns-3 c =
     let b = c .before .before .before .before in
     rw (
-      sym (b .slots-fit .ensures) ∙ not-false _ (c .before .before .before .if1 .left),
-      sym (c .before .before .days-fit .ensures) ∙ not-false _ (c .before .if2 .left),
+      sym (b .before .slots-fit .ensures) ∙ not-false _ (b .if1 .left),
+      sym (c .before .before .before .days-fit .ensures) ∙ not-false _ (c .before .before .if2 .left),
+      sym (c .before .reads-fit .ensures) ∙ not-true _ (c .if3 .taken),
+    )
+
+agreed-fit-requires : tie.Need-agreed-fit-requires
+agreed-fit-requires c κs = search needs
+
+returns-4 : tie.Need-returns-4
+returns-4 c =
+    let b = c .before .before .before .before in
+    rw (
+      sym (b .before .before .slots-fit .ensures) ∙ not-false _ (b .before .if1 .left),
+      sym (b .days-fit .ensures) ∙ not-false _ (c .before .before .before .if2 .left),
+      sym (c .before .before .reads-fit .ensures) ∙ not-false _ (c .before .if3 .left),
       and-true,
     )
-    (c .reads-fit .ensures)
+    (c .agreed-fit .ensures)
 
 pub cells-fit-spec : {M : Type 1} → statement M
 cells-fit-spec =
     tie.close
-    (tie.spec slots-fit-requires returns days-fit-requires returns-2 reads-fit-requires returns-3)
+    (tie.spec
+    slots-fit-requires
+    returns
+    days-fit-requires
+    returns-2
+    reads-fit-requires
+    returns-3
+    agreed-fit-requires
+    returns-4)

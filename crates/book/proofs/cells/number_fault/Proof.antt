@@ -1,8 +1,8 @@
--- `cells::read_fault` is `readFault`, one test a return.
+-- `cells::number_fault` is `readFault`, one test a return.
 use borrow.Author.Tests.{lt-ltb, le-ltb, eq-eqb, ne-eqb}
 use Rattle.book.specs.Cells.{readFault}
-use Rattle.book.proofs.cells.read_fault.Statement.{statement}
-use Rattle.book.proofs.cells.read_fault.Tie as tie
+use Rattle.book.proofs.cells.number_fault.Statement.{statement}
+use Rattle.book.proofs.cells.number_fault.Tie as tie
 
 returns : tie.Need-returns
 unfolding readFault
@@ -16,5 +16,5 @@ returns-3 : tie.Need-returns-3
 unfolding readFault
 returns-3 c = simp (le-ltb _ _ (c .before .if1 .left), eq-eqb _ _ (c .if2 .left))
 
-pub read-fault-spec : {M : Type 1} → statement M
-read-fault-spec = tie.close (tie.spec returns returns-2 returns-3)
+pub number-fault-spec : {M : Type 1} → statement M
+number-fault-spec = tie.close (tie.spec returns returns-2 returns-3)
