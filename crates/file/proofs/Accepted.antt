@@ -1,5 +1,5 @@
 -- The file of a well-formed content is accepted, with the content's figures and tables.
-use mathlib.Core.Path.{_≡_, refl, sym, ap, _∙_}
+use mathlib.Core.Path.{_≡_, refl, sym, ap, ap₂, _∙_}
 use mathlib.Core.Bool.{Bool, true, false, cond}
 use Prim.Native.Nat.{ℕ, _+_, _-_, _*_, _/_, _^_, _≤_, _<_}
 use native.Mathlib.Nat.{zero-add}
@@ -10,9 +10,9 @@ use lib.ListN.{length, length-append}
 use lib.Seq.{take-at}
 use Rattle.rules.specs.declared.Outcome.{Outcome}
 use Rattle.rules.specs.declared.Quality.{Quality}
-use Rattle.rules.specs.declared.Quality.the-variants.{A, S, N}
+use Rattle.rules.specs.declared.Quality.the-variants.{A, S, F, N}
 use Rattle.rules.specs.Lists.{sum}
-use Rattle.rules.specs.Spans.{isA, isS, isN}
+use Rattle.rules.specs.Spans.{isA, isS, isF, isN}
 use Rattle.rules.proofs.Sums.{sum-cong}
 use Rattle.file.specs.declared.Verdict.the-variants.{Accepted}
 use Rattle.file.specs.Layout.{Content, letter, total, one, row, trailerRow, figuresOf, tablesOf, fileOf}
@@ -21,6 +21,7 @@ use Rattle.file.specs.Contents.{Fitting, WellFormed, slot, noSlot, recor
 use Rattle.file.proofs.Rows.{length-row}
 use Rattle.file.proofs.Lists.{upTo-list, total-sum, total-le}
 use Rattle.file.proofs.Head.{slots-le}
+use Rattle.file.proofs.Layouts.{layout-known, layout-same}
 use Rattle.file.proofs.Fitting.{fitting}
 use Rattle.file.proofs.Content.{slot-back, span-back, first-back, days-back, interval-back, layout-back, spans-back, distance-back, trailer-field, length-file}
 use Rattle.file.proofs.Agree.{Agree, count-agree, sum-agree, tables-agree}
@@ -45,6 +46,7 @@ testsA = record { same = go }
     go : (r : Quality) → eqb (letter r) 65 ≡ isA r
     go A = refl
     go S = refl
+    go F = refl
     go N = refl
 
 pub testsS : Tests S isS
@@ -53,6 +55,16 @@ testsS = record { same = go }
     go : (r : Quality) → eqb (letter r) 83 ≡ isS r
     go A = refl
     go S = refl
+    go F = refl
+    go N = refl
+
+pub testsF : Tests F isF
+testsF = record { same = go }
+  where
+    go : (r : Quality) → eqb (letter r) 70 ≡ isF r
+    go A = refl
+    go S = refl
+    go F = refl
     go N = refl
 
 pub testsN : Tests N isN
@@ -61,6 +73,7 @@ testsN = record { same = go }
     go : (r : Quality) → eqb (letter r) 78 ≡ isN r
     go A = refl
     go S = refl
+    go F = refl
     go N = refl
 
 -- the counts and the sum of a content's own records
@@ -80,8 +93,14 @@ module _ (f : Content) (w : WellFormed f) where
   few : length (f .slots) ≤ 115200
   few = rw (w .slots) (slots-le (f .first) (f .days) (f .interval) (w .head))
 
+  count-le : (p : Quality → Bool) → total (one p) (f .slots) ≤ 115200
+  count-le p = omega (arith, few, total-le (one p) 1 noSlot (f .slots) (λ i l. one-le (p (slot f i .quality))))
+
   count-lt : (p : Quality → Bool) → total (one p) (f .slots) < 256 ^ 4
-  count-lt p = omega (arith, few, total-le (one p) 1 noSlot (f .slots) (λ i l. one-le (p (slot f i .quality))))
+  count-lt p = omega (arith, count-le p)
+
+  filled-lt : total (one isS) (f .slots) + total (one isF) (f .slots) < 256 ^ 4
+  filled-lt = omega (arith, count-le isS, count-le isF)
 
   sum-lt : total (λ o. o .value) (f .slots) < 256 ^ 8
   sum-lt = omega (arith, few, total-le (λ o. o .value) (2 ^ 32) noSlot (f .slots) (λ i l. omega (arith, w .values i l)))
@@ -95,9 +114,10 @@ module _ (f : Content) (w : WellFormed f) where
         interval = interval-back f fits k;
         spans = spans-back f fits k;
         actual = trailer-field f 5 (lit< tt) (count-lt isA) k;
-        substituted = trailer-field f 6 (lit< tt) (count-lt isS) k;
+        substituted = trailer-field f 6 (lit< tt) filled-lt k;
         none = trailer-field f 7 (lit< tt) (count-lt isN) k;
         sum = trailer-field f 8 (lit< tt) sum-lt k;
+        layout = layout-back f fits k;
       }
 
   base : 6 * slotCount (figuresOf f) ≡ 6 * length (f .slots)
@@ -120,7 +140,7 @@ module _ (f : Content) (w : WellFormed f) where
       let long : leb 32 (length (fileOf f)) ≡ true = le-leb 32 (length (fileOf f)) (omega (arith, length-file f)) in
       let whole : eqb (length (fileOf f)) (6 * (1440 / f .interval * f .days) + 10 * length (f .spans) + 32) ≡ true =
       eq-eqb (length (fileOf f)) (6 * (1440 / f .interval * f .days) + 10 * length (f .spans) + 32) (omega (arith, length-file f, base)) in
-      rw (long, w .head, eq-eqb _ _ (layout-back f fits), eq-eqb _ _ (distance-back f fits), whole)
+      rw (long, w .head, layout-known (f .slots), eq-eqb _ _ (distance-back f fits), whole)
 
   tables-right : tablesOk (fileOf f) (figuresOf f) ≡ true
   unfolding tablesOk
@@ -130,11 +150,13 @@ module _ (f : Content) (w : WellFormed f) where
   unfolding figuresOk figuresOf
   figures-right =
       let own = count-agree (tablesAt (fileOf f) (figuresOf f)) (recordsOf f) agree in
+      let agreed = own F ∙ count-own f (w .slots) F isF testsF in
       rw (
         eq-eqb _ _ (own A ∙ count-own f (w .slots) A isA testsA),
-        eq-eqb _ _ (own S ∙ count-own f (w .slots) S isS testsS),
+        eq-eqb _ _ (ap₂ (λ (x y : ℕ). x + y) (own S ∙ count-own f (w .slots) S isS testsS) agreed),
         eq-eqb _ _ (own N ∙ count-own f (w .slots) N isN testsN),
         eq-eqb _ _ (sum-agree (tablesAt (fileOf f) (figuresOf f)) (recordsOf f) agree ∙ sum-own f (w .slots)),
+        layout-same (f .slots) _ agreed,
       )
 
   -- with the content's figures

@@ -1,5 +1,6 @@
 -- Bytes that the reader accepts are the file of the content that their figures and tables hold.
 use mathlib.Core.Path.{_≡_, refl, sym, ap, ap₂, _∙_}
+use mathlib.Core.Bool.{true}
 use mathlib.Core.List.{List, [], _∷_, _++_}
 use mathlib.Core.Logic.{_↔_}
 use Prim.Native.Nat.{ℕ, _+_, _*_, _≤_, _<_}
@@ -9,24 +10,25 @@ use borrow.Author.Tests.{eqb-true}
 use lib.ListN.{length, take, drop, take-append-drop, length-drop}
 use lib.Seq.{take-add, take-all}
 use Rattle.rules.specs.declared.Quality.{Quality}
-use Rattle.rules.specs.declared.Quality.the-variants.{A, S, N}
+use Rattle.rules.specs.declared.Quality.the-variants.{A, S, F, N}
 use Rattle.rules.specs.Lists.{sum}
-use Rattle.rules.specs.Spans.{isA, isS, isN, noSpan, upTo}
+use Rattle.rules.specs.Spans.{isA, isS, isF, isN, noSpan, upTo}
 use Rattle.rules.proofs.Logic.{passed}
 use Rattle.file.specs.declared.Figures.{Figures}
 use Rattle.file.specs.declared.Verdict.{Verdict}
 use Rattle.file.specs.declared.Verdict.the-variants.{Accepted}
-use Rattle.file.specs.Layout.{Content, letter, total, one, row, table, slotRow, spanRow, trailerRow, figuresOf, tablesOf, fileOf}
-use Rattle.file.specs.Reader.{num, byte, slotAt, spanAt, trailerAt, figures, slotCount, tablesAt, countOf, trailerTests, tableTests, figureTests, spanTests, spanOk, trailerOk, tablesOk, figuresOk, readFile, partOf, tablesPart}
+use Rattle.file.specs.Layout.{Content, letter, total, one, row, table, slotRow, spanRow, trailerRow, layoutOf, figuresOf, tablesOf, fileOf}
+use Rattle.file.specs.Reader.{num, byte, slotAt, spanAt, trailerAt, figures, layoutOk, slotCount, tablesAt, countOf, trailerTests, tableTests, figureTests, spanTests, spanOk, trailerOk, tablesOk, figuresOk, readFile, partOf, tablesPart}
 use Rattle.file.specs.Contents.{Bytes, WellFormed, slot, span, noSlot, slotRecord, spanRecord, recordsOf, qualityOf, outcomeOf, spanOf, contentOf}
 use Rattle.file.proofs.Numbers.{num-one, num-lt, num-take, byte-take}
 use Rattle.file.proofs.Rows.{reads, row-reads, table-reads}
 use Rattle.file.proofs.Lists.{length-upTo, getD-upTo, upTo-cong}
 use Rattle.file.proofs.Stretches.{all-at}
 use Rattle.file.proofs.Records.{record-tells}
+use Rattle.file.proofs.Layouts.{layout-told}
 use Rattle.file.proofs.Agree.{Agree, count-agree, sum-agree, tables-agree}
 use Rattle.file.proofs.Answers.{Passed, ready, tests-passed}
-use Rattle.file.proofs.Accepted.{Tests, testsA, testsS, testsN, count-own, sum-own, accepted}
+use Rattle.file.proofs.Accepted.{Tests, testsA, testsS, testsF, testsN, count-own, sum-own, accepted}
 
 module _ (bs : List ℕ) (b : Bytes bs) (p : Passed bs (figures bs)) where
   abbrev g : Figures
@@ -84,15 +86,22 @@ module _ (bs : List ℕ) (b : Bytes bs) (p : Passed bs (figures bs)) where
   unfolding contentOf
   count-right q h s = sym (count-own f (length-upTo _ 0 n) q h s) ∙ count-agree (recordsOf f) (tablesAt bs g) agree q
 
+  known : layoutOk (g .layout) ≡ true
+  unfolding trailerOk
+  known = passed (trailerTests bs g) (p .trailer) 2
+
   figures-right : figuresOf f ≡ g
   unfolding figuresOf figuresOk contentOf
   figures-right =
       let test = passed (figureTests (tablesAt bs g) g) (p .figures) in
       let actual : total (one isA) (f .slots) ≡ g .actual = count-right A isA testsA ∙ eqb-true _ _ (test 0) in
-      let substituted : total (one isS) (f .slots) ≡ g .substituted = count-right S isS testsS ∙ eqb-true _ _ (test 1) in
+      let agreed = count-right F isF testsF in
+      let substituted : total (one isS) (f .slots) + total (one isF) (f .slots) ≡ g .substituted =
+      ap₂ (λ (x y : ℕ). x + y) (count-right S isS testsS) agreed ∙ eqb-true _ _ (test 1) in
       let none : total (one isN) (f .slots) ≡ g .none = count-right N isN testsN ∙ eqb-true _ _ (test 2) in
       let value : total (λ o. o .value) (f .slots) ≡ g .sum =
-      sym (sum-own f (length-upTo _ 0 n)) ∙ sum-agree (recordsOf f) (tablesAt bs g) agree ∙ eqb-true _ _ (test 3) in
+      sym (sum-own f (length-upTo _ 0 n)) ∙ sum-agree (recordsOf f) (tablesAt bs g) agree ∙ eqb-true _ _ (test 4) in
+      let layout : layoutOf (f .slots) ≡ g .layout = layout-told (f .slots) _ (sym agreed) (g .layout) known (test 3) in
       λ k. record {
         first = g .first;
         days = g .days;
@@ -102,6 +111,7 @@ module _ (bs : List ℕ) (b : Bytes bs) (p : Passed bs (figures bs)) where
         substituted = substituted k;
         none = none k;
         sum = value k;
+        layout = layout k;
       }
 
   -- the three parts of the file
@@ -138,7 +148,7 @@ module _ (bs : List ℕ) (b : Bytes bs) (p : Passed bs (figures bs)) where
   trailer-row =
       let test = passed (trailerTests bs g) (p .trailer) in
       let p2 : byte bs (t + 4) ≡ num 1 bs (t + 2 + 2) = sym (num-one bs (t + 4)) ∙ ap (num 1 bs) (omega arith) in
-      let p3 : 1 ≡ num 1 bs (t + 2 + 2 + 1) = sym (eqb-true _ _ (test 2)) ∙ sym (num-one bs (t + 5)) ∙ ap (num 1 bs) (omega arith) in
+      let p3 : byte bs (t + 5) ≡ num 1 bs (t + 2 + 2 + 1) = sym (num-one bs (t + 5)) ∙ ap (num 1 bs) (omega arith) in
       let p4 : num 2 bs (t + 6) ≡ num 2 bs (t + 2 + 2 + 1 + 1) = ap (num 2 bs) (omega arith) in
       let p5 : num 4 bs (t + 8) ≡ num 4 bs (t + 2 + 2 + 1 + 1 + 2) = ap (num 4 bs) (omega arith) in
       let p6 : num 4 bs (t + 12) ≡ num 4 bs (t + 2 + 2 + 1 + 1 + 2 + 4) = ap (num 4 bs) (omega arith) in

@@ -7,14 +7,15 @@ use native.Mathlib.Omega.{arith}
 use lib.Dec.{lit<}
 use lib.ListN.{length, length-append}
 use Rattle.rules.specs.declared.Quality.{Quality}
-use Rattle.rules.specs.declared.Quality.the-variants.{A, S, N}
+use Rattle.rules.specs.declared.Quality.the-variants.{A, S, F, N}
 use Rattle.rules.specs.Spans.{noSpan, upTo}
-use Rattle.file.specs.Layout.{Content, row, table, letter, slotRow, spanRow, trailerRow, figuresOf, tablesOf, fileOf}
-use Rattle.file.specs.Reader.{num, byte, slotAt, spanAt, trailerAt, figures, layout, distance, slotCount}
+use Rattle.file.specs.Layout.{Content, row, table, letter, slotRow, spanRow, trailerRow, layoutOf, figuresOf, tablesOf, fileOf}
+use Rattle.file.specs.Reader.{num, byte, slotAt, spanAt, trailerAt, figures, distance, slotCount}
 use Rattle.file.specs.Contents.{Fitting, slot, span, noSlot, slotRecord, spanRecord, qualityOf, outcomeOf, spanOf, contentOf}
 use Rattle.file.proofs.Numbers.{num-skip, num-one}
 use Rattle.file.proofs.Rows.{before, field, field-at, length-row, length-table, table-field}
 use Rattle.file.proofs.Lists.{upTo-list}
+use Rattle.file.proofs.Layouts.{layout-lt}
 
 module _ (f : Content) where
   abbrev trailer : List (ℕ × ℕ)
@@ -80,12 +81,14 @@ module _ (f : Content) where
 quality-back : (q : Quality) → qualityOf (letter q) ≡ q
 quality-back A = refl
 quality-back S = refl
+quality-back F = refl
 quality-back N = refl
 
 -- a letter is a byte
 letter-lt : (q : Quality) → letter q < 256
 letter-lt A = lit< tt
 letter-lt S = lit< tt
+letter-lt F = lit< tt
 letter-lt N = lit< tt
 
 module _ (f : Content) (h : Fitting f) where
@@ -130,8 +133,9 @@ module _ (f : Content) (h : Fitting f) where
   unfolding figuresOf
   interval-back = sym (num-one (fileOf f) (trailerAt (fileOf f) + 4)) ∙ trailer-field f 2 (lit< tt) (h .interval)
 
-  pub layout-back : layout (fileOf f) ≡ 1
-  layout-back = sym (num-one (fileOf f) (trailerAt (fileOf f) + 5)) ∙ trailer-field f 3 (lit< tt) (lit< tt)
+  pub layout-back : byte (fileOf f) (trailerAt (fileOf f) + 5) ≡ layoutOf (f .slots)
+  unfolding figuresOf
+  layout-back = sym (num-one (fileOf f) (trailerAt (fileOf f) + 5)) ∙ trailer-field f 3 (lit< tt) (layout-lt (f .slots))
 
   pub spans-back : num 2 (fileOf f) (trailerAt (fileOf f) + 6) ≡ length (f .spans)
   unfolding figuresOf

@@ -5,6 +5,7 @@ pub mod Numbers
 pub mod Rows
 pub mod Written
 pub mod Records
+pub mod Layouts
 pub mod Head
 pub mod Inside
 pub mod States

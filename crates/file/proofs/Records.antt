@@ -1,13 +1,13 @@
 -- The forms of a slot record, by its letter.
 use mathlib.Core.Path.{_≡_, refl, sym, ap, _∙_}
-use mathlib.Core.Bool.{true, false, _&&_, _||_}
+use mathlib.Core.Bool.{Bool, true, false, _&&_, _||_}
 use Prim.Native.Nat.{ℕ, _<_}
 use native.Mathlib.Omega.{arith}
 use borrow.Author.Tests.{eqb-true, ne-eqb}
-use lib.Dec.{lit<, eqb}
+use lib.Dec.{lit<, eqb, leb}
 use Rattle.rules.specs.Spans.{isScaled}
 use Rattle.rules.specs.declared.Quality.{Quality}
-use Rattle.rules.specs.declared.Quality.the-variants.{A, S, N}
+use Rattle.rules.specs.declared.Quality.the-variants.{A, S, F, N}
 use Rattle.rules.proofs.Logic.{and-parts}
 use Rattle.file.specs.declared.slots.SlotRecord.{SlotRecord}
 use Rattle.file.specs.Layout.{letter}
@@ -29,9 +29,13 @@ pub form-N : (r : SlotRecord) → r .letter ≡ 78 → recordOk r ≡ (eqb (r .m
 unfolding recordOk
 form-N r e = rw (e, or-false)
 
-pub form-none : (r : SlotRecord) → (r .letter ≡ 65 → ⊥) → (r .letter ≡ 83 → ⊥) → (r .letter ≡ 78 → ⊥) → recordOk r ≡ false
+pub form-F : (r : SlotRecord) → r .letter ≡ 70 → recordOk r ≡ (eqb (r .method) 5 && leb (r .value) 99999999)
 unfolding recordOk
-form-none r a s n = rw (ne-eqb _ _ a, ne-eqb _ _ s, ne-eqb _ _ n)
+form-F r e = rw (e, or-false)
+
+pub form-none : (r : SlotRecord) → (r .letter ≡ 65 → ⊥) → (r .letter ≡ 83 → ⊥) → (r .letter ≡ 78 → ⊥) → (r .letter ≡ 70 → ⊥) → recordOk r ≡ false
+unfolding recordOk
+form-none r a s n f = rw (ne-eqb _ _ a, ne-eqb _ _ s, ne-eqb _ _ n, ne-eqb _ _ f)
 
 -- ---- What a record that passes has
 
@@ -43,6 +47,7 @@ module _ (r : SlotRecord) where
   quality-back : (q : Quality) → letter (qualityOf (letter q)) ≡ letter q
   quality-back A = refl
   quality-back S = refl
+  quality-back F = refl
   quality-back N = refl
 
   form-tells : (q : Quality) (m : ℕ) → m < 256 → isForm q m r ≡ true → Told
@@ -52,8 +57,9 @@ module _ (r : SlotRecord) where
       let so : r .method ≡ m = eqb-true _ _ (p .1) in
       (ap (λ (x : ℕ). letter (qualityOf x)) is ∙ quality-back q ∙ sym is, omega arith)
 
-  zero-tells : (q : Quality) (m : ℕ) → m < 256 → (isForm q m r && eqb (r .value) 0) ≡ true → Told
-  zero-tells q m l e = form-tells q m l (and-parts (isForm q m r) (eqb (r .value) 0) e .0)
+  -- a form whose value is tested
+  valued-tells : (q : Quality) (m : ℕ) (test : Bool) → m < 256 → (isForm q m r && test) ≡ true → Told
+  valued-tells q m test l e = form-tells q m l (and-parts (isForm q m r) test e .0)
 
   pub record-tells : recordOk r ≡ true → Told
   unfolding recordOk
@@ -68,7 +74,10 @@ module _ (r : SlotRecord) where
               form-tells S 18 (lit< tt),
               (
                 form-tells S 19 (lit< tt),
-                (zero-tells A 1 (lit< tt), (zero-tells N 0 (lit< tt), tt)),
+                (
+                  valued-tells A 1 (eqb (r .value) 0) (lit< tt),
+                  (valued-tells N 0 (eqb (r .value) 0) (lit< tt), (valued-tells F 5 (leb (r .value) 99999999) (lit< tt), tt)),
+                ),
               ),
             ),
           ),

@@ -7,7 +7,7 @@ use lib.Dec.{eqb}
 use lib.ListN.{length, getD}
 use Rattle.rules.specs.declared.Outcome.{Outcome}
 use Rattle.rules.specs.declared.Quality.{Quality}
-use Rattle.rules.specs.declared.Quality.the-variants.{A, S, N}
+use Rattle.rules.specs.declared.Quality.the-variants.{A, S, F, N}
 use Rattle.rules.specs.declared.Span.{Span}
 use Rattle.rules.specs.Lists.{every}
 use Rattle.rules.specs.Spans.{noSpan, upTo}
@@ -81,7 +81,7 @@ pub record WellFormed (f : Content) : Type 0 where
 -- ---- What figures and tables hold
 
 abbrev pub qualityOf : ℕ → Quality
-qualityOf l = cond (eqb l (letter A)) A (cond (eqb l (letter S)) S N)
+qualityOf l = cond (eqb l (letter A)) A (cond (eqb l (letter S)) S (cond (eqb l (letter F)) F N))
 
 abbrev pub outcomeOf : SlotRecord → Outcome
 outcomeOf r = record { value = r .value; quality = qualityOf (r .letter); method = r .method }

@@ -2,12 +2,13 @@
 use mathlib.Core.Bool.{Bool, cond}
 use mathlib.Core.List.{List, [], _∷_, _++_}
 use Prim.Native.Nat.{ℕ, zero, suc, _+_, _*_, _/_, _%_}
+use lib.Dec.{ltb}
 use lib.ListN.{length}
 use Rattle.rules.specs.declared.Outcome.{Outcome}
 use Rattle.rules.specs.declared.Quality.{Quality}
-use Rattle.rules.specs.declared.Quality.the-variants.{A, S, N}
+use Rattle.rules.specs.declared.Quality.the-variants.{A, S, F, N}
 use Rattle.rules.specs.declared.Span.{Span}
-use Rattle.rules.specs.Spans.{isA, isS, isN}
+use Rattle.rules.specs.Spans.{isA, isS, isF, isN}
 use Rattle.file.specs.declared.Figures.{Figures}
 
 -- k bytes of n, low byte first
@@ -29,6 +30,7 @@ table r (x ∷ xs) = row (r x) ++ table r xs
 abbrev pub letter : Quality → ℕ
 letter A = 65
 letter S = 83
+letter F = 70
 letter N = 78
 
 -- value (4), quality letter (1), method (1)
@@ -39,10 +41,10 @@ slotRow o = (4, o .value) ∷ (1, letter (o .quality)) ∷ (1, o .method) ∷ []
 abbrev pub spanRow : Span → List (ℕ × ℕ)
 spanRow s = (2, s .first) ∷ (2, s .last) ∷ (4, s .advance) ∷ (1, s .state) ∷ (1, 0) ∷ []
 
--- first day number (2), D (2), L (1), layout 1 (1), M (2), counts of A, S and N slots (4 each), sum of all slot values (8), distance 10 × M (4)
+-- first day number (2), D (2), L (1), layout (1), M (2), counts of A, of S and F, and of N slots (4 each), sum of all slot values (8), distance 10 × M (4)
 abbrev pub trailerRow : Figures → List (ℕ × ℕ)
 trailerRow g =
-    (2, g .first) ∷ (2, g .days) ∷ (1, g .interval) ∷ (1, 1) ∷ (2, g .spans)
+    (2, g .first) ∷ (2, g .days) ∷ (1, g .interval) ∷ (1, g .layout) ∷ (2, g .spans)
     ∷ (4, g .actual) ∷ (4, g .substituted) ∷ (4, g .none) ∷ (8, g .sum) ∷ (4, 10 * g .spans) ∷ []
 
 -- what a file holds: the first day's number, D, L, a slot's outcome and a span's for each in order
@@ -62,7 +64,11 @@ total g (o ∷ os) = g o + total g os
 abbrev pub one : (Quality → Bool) → Outcome → ℕ
 one q o = cond (q (o .quality)) 1 0
 
--- what the trailer says of a content
+-- a file with an F slot carries layout 2, any other layout 1 (02, W1)
+unfoldable pub layoutOf : List Outcome → ℕ
+layoutOf os = cond (ltb 0 (total (one isF) os)) 2 1
+
+-- what the trailer says of a content; F counts with S (02, W1)
 unfoldable pub figuresOf : Content → Figures
 figuresOf f = record {
   first = f .first;
@@ -70,9 +76,10 @@ figuresOf f = record {
   interval = f .interval;
   spans = length (f .spans);
   actual = total (one isA) (f .slots);
-  substituted = total (one isS) (f .slots);
+  substituted = total (one isS) (f .slots) + total (one isF) (f .slots);
   none = total (one isN) (f .slots);
   sum = total (λ o. o .value) (f .slots);
+  layout = layoutOf (f .slots);
 }
 
 -- the slot table and the span table

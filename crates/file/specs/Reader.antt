@@ -1,11 +1,11 @@
 -- What the reader answers (01, The published file: 'It accepts exactly'; Numbers of a refusal, 8 and 9).
-use mathlib.Core.Bool.{Bool, true, false, not, _&&_}
+use mathlib.Core.Bool.{Bool, true, false, not, _&&_, _||_}
 use mathlib.Core.List.{List, [], _∷_}
 use Prim.Native.Nat.{ℕ, zero, suc, _+_, _-_, _*_, _/_}
 use lib.Dec.{leb, ltb, eqb}
 use lib.ListN.{length, getD, take}
 use Rattle.rules.specs.declared.Quality.{Quality}
-use Rattle.rules.specs.declared.Quality.the-variants.{A, S, N}
+use Rattle.rules.specs.declared.Quality.the-variants.{A, S, F, N}
 use Rattle.rules.specs.Lists.{sum, any, every}
 use Rattle.rules.specs.Opening.{intervalOk}
 use Rattle.rules.specs.Spans.{isScaled}
@@ -57,10 +57,8 @@ figures bs =
       substituted = num 4 bs (t + 12);
       none = num 4 bs (t + 16);
       sum = num 8 bs (t + 20);
+      layout = byte bs (t + 5);
     }
-
-abbrev pub layout : List ℕ → ℕ
-layout bs = byte bs (trailerAt bs + 5)
 
 abbrev pub distance : List ℕ → ℕ
 distance bs = num 4 bs (trailerAt bs + 28)
@@ -80,11 +78,15 @@ headTests first days interval =
     ∷ leb (first + days) 36525
     ∷ []
 
+-- the reader knows layouts 1 and 2 (02, W1)
+unfoldable pub layoutOk : ℕ → Bool
+layoutOk layout = eqb layout 1 || eqb layout 2
+
 abbrev pub trailerTests : List ℕ → Figures → List Bool
 trailerTests bs g =
     leb 32 (length bs)
     ∷ every (headTests (g .first) (g .days) (g .interval))
-    ∷ eqb (layout bs) 1
+    ∷ layoutOk (g .layout)
     ∷ eqb (distance bs) (10 * g .spans)
     ∷ eqb (length bs) (6 * slotCount g + 10 * g .spans + 32)
     ∷ []
@@ -105,11 +107,12 @@ ofQuality q r = eqb (r .letter) (letter q)
 abbrev pub isForm : Quality → ℕ → SlotRecord → Bool
 isForm q method r = ofQuality q r && eqb (r .method) method
 
--- (A,0), (S,2), (S,3), (S,18), (S,19) with any value, or (A,1), (N,0) with value 0
+-- (A,0), (S,2), (S,3), (S,18), (S,19) with any value, or (A,1), (N,0) with value 0, or (F,5) with a value up to 99,999,999
 abbrev pub forms : SlotRecord → List Bool
 forms r =
     isForm A 0 r ∷ isForm S 2 r ∷ isForm S 3 r ∷ isForm S 18 r ∷ isForm S 19 r
-    ∷ (isForm A 1 r && eqb (r .value) 0) ∷ (isForm N 0 r && eqb (r .value) 0) ∷ []
+    ∷ (isForm A 1 r && eqb (r .value) 0) ∷ (isForm N 0 r && eqb (r .value) 0)
+    ∷ (isForm F 5 r && leb (r .value) 99999999) ∷ []
 
 unfoldable pub recordOk : SlotRecord → Bool
 recordOk r = some (forms r)
@@ -186,12 +189,13 @@ module _ (t : Tables) where
   abbrev pub countOf : Quality → ℕ
   countOf q = count (λ i. ofQuality q (t .slot i)) 0 (t .perDay * t .days)
 
-  -- right counts and sum
+  -- right counts, F with S; an F exactly in layout 2; right sum
   abbrev pub figureTests : Figures → List Bool
   figureTests g =
       eqb (countOf A) (g .actual)
-      ∷ eqb (countOf S) (g .substituted)
+      ∷ eqb (countOf S + countOf F) (g .substituted)
       ∷ eqb (countOf N) (g .none)
+      ∷ same (eqb (g .layout) 2) (ltb 0 (countOf F))
       ∷ eqb (sum (λ i. t .slot i .value) 0 (t .perDay * t .days)) (g .sum)
       ∷ []
 

@@ -6,10 +6,12 @@ mod trailer;
 pub mod writer;
 
 ghost use mathlib.Core.Path.{_≡_};
+ghost use lib.Dec.{eqb, ltb};
+ghost use Rattle.file.specs.Lists.{same};
 ghost use Rattle.file.specs.Reader.{tablesOk, figuresOk, readFile, tablesPart};
 ghost use Rattle.file.specs.Inner.Reading.{Ready};
 
-// The figures of a file's trailer: first day number, D, L, M, counts of A, S and N slots, sum.
+// The figures of a file's trailer: first day number, D, L, M, counts of A, of S and F, and of N slots, sum, layout.
 pub struct Figures {
     pub first: u32,
     pub days: u32,
@@ -19,6 +21,7 @@ pub struct Figures {
     pub substituted: u32,
     pub none: u32,
     pub sum: u64,
+    pub layout: u32,
 }
 
 // What the reader answers: the trailer's figures, or the refusal's number.
@@ -44,7 +47,17 @@ fn tables_ok(file: &[u8], g: Figures) -> bool
     spans::outside_ok(file, g)
 }
 
-// The counts and the sum are those of the slots.
+// An F is there exactly in layout 2.
+fn layout_fits(layout: u32, agreed: usize) -> bool
+    ensures { λ r. ⌜ r ≡ same (eqb layout 2) (ltb 0 agreed) ⌝ }
+{
+    if layout == 2 {
+        return 0 < agreed;
+    }
+    agreed == 0
+}
+
+// The counts, the layout and the sum are those of the slots.
 fn figures_ok(file: &[u8], g: Figures) -> bool
     requires { ⌜ Ready (now file) g ⌝ }
     ensures { λ r. ⌜ r ≡ figuresOk (now (file .entry)) g ⌝ }
@@ -60,6 +73,9 @@ fn figures_ok(file: &[u8], g: Figures) -> bool
     }
     let none = g.none as usize;
     if found.none != none {
+        return false;
+    }
+    if !layout_fits(g.layout, found.agreed) {
         return false;
     }
     let sum = g.sum;

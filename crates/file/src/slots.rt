@@ -8,7 +8,7 @@ ghost use Rattle.rules.specs.Lists.{sum, any};
 ghost use Rattle.rules.specs.Spans.{isScaled};
 ghost use Rattle.file.specs.Lists.{all, count};
 ghost use Rattle.file.specs.Reader.{slotAt, recordOk};
-ghost use Rattle.file.specs.declared.slots.Kind.the-variants.{Actual, Substituted, None, Scaled, Unscaled};
+ghost use Rattle.file.specs.declared.slots.Kind.the-variants.{Actual, Substituted, Agreed, None, Scaled, Unscaled};
 ghost use Rattle.file.specs.Inner.Reading.{isKind, kindAt};
 
 // A record of the slot table.
@@ -22,6 +22,7 @@ pub struct SlotRecord {
 pub enum Kind {
     Actual,
     Substituted,
+    Agreed,
     None,
     Scaled,
     Unscaled,
@@ -45,7 +46,7 @@ fn is_scaled(method: u8) -> bool
     method == 18 || method == 19
 }
 
-// The record is one of 01's.
+// The record is one of 01's or 02's.
 fn record_ok(slot: SlotRecord) -> bool
     ensures { λ r. ⌜ r ≡ recordOk slot ⌝ }
 {
@@ -65,6 +66,9 @@ fn record_ok(slot: SlotRecord) -> bool
     if slot.letter == b'N' {
         return method == 0 && slot.value == 0;
     }
+    if slot.letter == b'F' {
+        return method == 5 && slot.value <= 99_999_999;
+    }
     false
 }
 
@@ -74,13 +78,14 @@ fn is_kind(kind: Kind, slot: SlotRecord) -> bool
     match kind {
         Kind::Actual => slot.letter == b'A',
         Kind::Substituted => slot.letter == b'S',
+        Kind::Agreed => slot.letter == b'F',
         Kind::None => slot.letter == b'N',
         Kind::Scaled => is_scaled(slot.method),
         Kind::Unscaled => slot.letter == b'S' && !is_scaled(slot.method),
     }
 }
 
-// Each of the first `k` records is one of 01's.
+// Each of the first `k` records is one of these.
 pub fn records_ok(file: &[u8], k: usize) -> bool
     requires { ⌜ 6 * k ≤ length (now file) ⌝ }
     ensures { λ r. ⌜ r ≡ all (λ i. recordOk (slotAt (now (file .entry)) i)) 0 k ⌝ }
@@ -158,10 +163,11 @@ pub fn tally_of(file: &[u8], a: usize, k: usize) -> Tally
     }
 }
 
-// The counts of A, S and N slots, and the sum of all values.
+// The counts of A, of S and F, of F alone, and of N slots, and the sum of all values.
 pub struct Counted {
     pub actual: usize,
     pub substituted: usize,
+    pub agreed: usize,
     pub none: usize,
     pub sum: u64,
 }
@@ -179,10 +185,11 @@ fn one(kind: Kind, slot: SlotRecord) -> usize
 // The totals of the first `k` slots.
 pub fn totals(file: &[u8], k: usize) -> Counted
     requires { ⌜ (6 * k ≤ length (now file)) × (k ≤ 115200) ⌝ }
-    ensures { λ r. ⌜ (r .actual ≡ count (kindAt (now (file .entry)) Actual) 0 k) × (r .substituted ≡ count (kindAt (now (file .entry)) Substituted) 0 k) × (r .none ≡ count (kindAt (now (file .entry)) None) 0 k) × (r .sum ≡ sum (λ i. slotAt (now (file .entry)) i .value) 0 k) ⌝ }
+    ensures { λ r. ⌜ (r .actual ≡ count (kindAt (now (file .entry)) Actual) 0 k) × (r .substituted ≡ count (kindAt (now (file .entry)) Substituted) 0 k + count (kindAt (now (file .entry)) Agreed) 0 k) × (r .agreed ≡ count (kindAt (now (file .entry)) Agreed) 0 k) × (r .none ≡ count (kindAt (now (file .entry)) None) 0 k) × (r .sum ≡ sum (λ i. slotAt (now (file .entry)) i .value) 0 k) ⌝ }
 {
     let mut actual: usize = 0;
     let mut substituted: usize = 0;
+    let mut agreed: usize = 0;
     let mut none: usize = 0;
     let mut energy: u64 = 0;
     let mut i = 0;
@@ -190,13 +197,16 @@ pub fn totals(file: &[u8], k: usize) -> Counted
         let slot = slot_at(file, i);
         actual += one(Kind::Actual, slot);
         substituted += one(Kind::Substituted, slot);
+        agreed += one(Kind::Agreed, slot);
         none += one(Kind::None, slot);
         energy += slot.value as u64;
         i += 1;
     }
+    let filled = substituted + agreed;
     Counted {
         actual: actual,
-        substituted: substituted,
+        substituted: filled,
+        agreed: agreed,
         none: none,
         sum: energy,
     }

@@ -7,7 +7,7 @@ ghost use mathlib.Core.Bool.{true};
 ghost use Prim.Native.Nat.{_/_, _≤_};
 ghost use lib.ListN.{length};
 ghost use Rattle.rules.specs.Lists.{every};
-ghost use Rattle.file.specs.Reader.{figures, headTests, slotCount, trailerOk};
+ghost use Rattle.file.specs.Reader.{figures, headTests, layoutOk, slotCount, trailerOk};
 
 // L, D and the first day are as under Opening.
 fn head_ok(g: Figures) -> bool
@@ -23,6 +23,12 @@ fn head_ok(g: Figures) -> bool
         return false;
     }
     g.first as u64 + g.days as u64 <= 36525
+}
+
+fn is_layout(layout: u32) -> bool
+    ensures { λ r. ⌜ r ≡ layoutOk layout ⌝ }
+{
+    layout == 1 || layout == 2
 }
 
 // n, the slots of a day.
@@ -56,6 +62,7 @@ pub fn figures_at(file: &[u8]) -> Figures
         substituted: fields::number(file, t + 12, 4) as u32,
         none: fields::number(file, t + 16, 4) as u32,
         sum: fields::number(file, t + 20, 8),
+        layout: file[t + 5] as u32,
     }
 }
 
@@ -68,7 +75,7 @@ pub fn trailer_ok(file: &[u8], g: Figures) -> bool
     if !head_ok(g) {
         return false;
     }
-    if file[t + 5] != 1 {
+    if !is_layout(g.layout) {
         return false;
     }
     let m = g.spans as u64;

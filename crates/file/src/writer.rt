@@ -17,6 +17,7 @@ fn letter_of(quality: Quality) -> u8
     match quality {
         Quality::A => b'A',
         Quality::S => b'S',
+        Quality::F => b'F',
         Quality::N => b'N',
     }
 }
@@ -44,15 +45,23 @@ pub fn put_span(buf: &mut [u8], at: usize, span: Span)
     fields::put(buf, at + 9, 1, 0);
 }
 
-// Writes the trailer's head fields at `at`: first day, D, L, layout, M.
-fn put_head(buf: &mut [u8], at: usize, g: Figures)
-    requires { ⌜ at + 8 ≤ length (now buf) ⌝ }
-    ensures { λ _. ⌜ now (buf .exit) ≡ written (now (buf .entry)) at (row ((2, g .first) ∷ (2, g .days) ∷ (1, g .interval) ∷ (1, 1) ∷ (2, g .spans) ∷ [])) ⌝ }
+// Writes the trailer's first day, D and L at `at`.
+fn put_days(buf: &mut [u8], at: usize, g: Figures)
+    requires { ⌜ at + 5 ≤ length (now buf) ⌝ }
+    ensures { λ _. ⌜ now (buf .exit) ≡ written (now (buf .entry)) at (row ((2, g .first) ∷ (2, g .days) ∷ (1, g .interval) ∷ [])) ⌝ }
 {
     fields::put(buf, at, 2, g.first as u64);
     fields::put(buf, at + 2, 2, g.days as u64);
     fields::put(buf, at + 4, 1, g.interval as u64);
-    fields::put(buf, at + 5, 1, 1);
+}
+
+// Writes the trailer's head fields at `at`: first day, D, L, layout, M.
+fn put_head(buf: &mut [u8], at: usize, g: Figures)
+    requires { ⌜ at + 8 ≤ length (now buf) ⌝ }
+    ensures { λ _. ⌜ now (buf .exit) ≡ written (now (buf .entry)) at (row ((2, g .first) ∷ (2, g .days) ∷ (1, g .interval) ∷ (1, g .layout) ∷ (2, g .spans) ∷ [])) ⌝ }
+{
+    put_days(buf, at, g);
+    fields::put(buf, at + 5, 1, g.layout as u64);
     fields::put(buf, at + 6, 2, g.spans as u64);
 }
 

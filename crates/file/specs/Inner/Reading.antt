@@ -4,11 +4,11 @@ use mathlib.Core.Bool.{Bool, true}
 use mathlib.Core.List.{List}
 use Prim.Native.Nat.{ℕ, _+_, _*_}
 use lib.ListN.{length}
-use Rattle.rules.specs.declared.Quality.the-variants.{A, S, N}
+use Rattle.rules.specs.declared.Quality.the-variants.{A, S, F, N}
 use Rattle.rules.specs.Lists.{every}
 use Rattle.file.specs.declared.Figures.{Figures}
 use Rattle.file.specs.declared.slots.Kind.{Kind}
-use Rattle.file.specs.declared.slots.Kind.the-variants.{Actual, Substituted, None, Scaled, Unscaled}
+use Rattle.file.specs.declared.slots.Kind.the-variants.{Actual, Substituted, Agreed, None, Scaled, Unscaled}
 use Rattle.file.specs.declared.slots.SlotRecord.{SlotRecord}
 use Rattle.file.specs.Reader.{slotAt, headTests, slotCount, ofQuality, scaled, unscaled}
 
@@ -16,6 +16,7 @@ use Rattle.file.specs.Reader.{slotAt, headTests, slotCount, ofQuality, s
 abbrev pub isKind : Kind → SlotRecord → Bool
 isKind Actual r = ofQuality A r
 isKind Substituted r = ofQuality S r
+isKind Agreed r = ofQuality F r
 isKind None r = ofQuality N r
 isKind Scaled r = scaled r
 isKind Unscaled r = unscaled r

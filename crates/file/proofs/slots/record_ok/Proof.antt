@@ -2,7 +2,7 @@
 use mathlib.Core.Path.{sym, _∙_}
 use borrow.Author.Tests.{eq-eqb, ne-eqb}
 use borrow.Author.Needs.{needs}
-use Rattle.file.proofs.Records.{form-A, form-S, form-N, form-none}
+use Rattle.file.proofs.Records.{form-A, form-S, form-N, form-F, form-none}
 use Rattle.file.proofs.slots.record_ok.Statement.{statement}
 use Rattle.file.proofs.slots.record_ok.Tie as tie
 
@@ -37,7 +37,13 @@ returns-8 : tie.Need-returns-8
 returns-8 c = sym (form-N _ (c .before .if7 .taken) ∙ rw (ne-eqb _ _ (c .if8 .left)))
 
 returns-9 : tie.Need-returns-9
-returns-9 c = sym (form-none _ (c .before .before .before .before .if1 .left) (c .before .before .if4 .left) (c .if7 .left))
+returns-9 c = sym (form-F _ (c .before .before .if9 .taken) ∙ rw (eq-eqb _ _ (c .before .if10 .taken)))
+
+returns-10 : tie.Need-returns-10
+returns-10 c = sym (form-F _ (c .before .if9 .taken) ∙ rw (ne-eqb _ _ (c .if10 .left)))
+
+returns-11 : tie.Need-returns-11
+returns-11 c = sym (form-none _ (c .before .before .before .before .before .before .if1 .left) (c .before .before .before .before .if4 .left) (c .before .before .if7 .left) (c .if9 .left))
 
 pub record-ok-spec : {M : Type 1} → statement M
 record-ok-spec =
@@ -52,4 +58,6 @@ record-ok-spec =
     returns-6
     returns-7
     returns-8
-    returns-9)
+    returns-9
+    returns-10
+    returns-11)

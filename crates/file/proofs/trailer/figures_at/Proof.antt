@@ -76,22 +76,31 @@ add-number-6 c = search needs
 number-requires-7 : tie.Need-number-requires-7
 number-requires-7 c κs = search needs
 
+add-t26 : tie.Need-add-t26
+add-t26 c = search needs
+
+shared-slice-read-t28 : tie.Need-shared-slice-read-t28
+shared-slice-read-t28 c = search needs
+
+cast-t29 : tie.Need-cast-t29
+cast-t29 c = omega (arith, c .shared-slice-known3 .given (length (c .before .before .before .before .before .before .before .before .before .before .args .file .now) - 32 + 5))
+
 returns : tie.Need-returns
 unfolding figures
 returns c =
-    let number = c .before .before .before .before .before .before .before .number in
-    let number2 = c .before .before .before .before .before .before .number2 in
-    let number3 = c .before .before .before .before .number3 in
-    let number4 = c .before .before .before .number4 in
-    let number5 = c .before .before .number5 in
+    let number = c .before .before .before .before .before .before .before .before .number in
+    let number2 = c .before .before .before .before .before .before .before .number2 in
+    let number3 = c .before .before .before .before .before .number3 in
+    let number4 = c .before .before .before .before .number4 in
+    let number5 = c .before .before .before .number5 in
     rw (
       number .ensures .0,
       number2 .ensures .0,
       number3 .ensures .0,
       number4 .ensures .0,
       number5 .ensures .0,
-      c .before .number6 .ensures .0,
-      c .number7 .ensures .0,
+      c .before .before .number6 .ensures .0,
+      c .before .number7 .ensures .0,
     )
 
 pub figures-at-spec : {M : Type 1} → statement M
@@ -121,4 +130,7 @@ figures-at-spec =
     cast-t23
     add-number-6
     number-requires-7
+    add-t26
+    shared-slice-read-t28
+    cast-t29
     returns)

@@ -1,6 +1,6 @@
 -- `file::trailer::trailer_ok` meets its contract.
 use mathlib.Core.Path.{sym, _∙_}
-use borrow.Author.Tests.{eq-eqb, ne-eqb, le-leb, not-true, not-false}
+use borrow.Author.Tests.{le-leb, not-true, not-false}
 use borrow.Author.Needs.{needs}
 use Rattle.file.specs.Reader.{trailerOk}
 use Rattle.file.proofs.Logic.{tests-true, tests-false, and-true}
@@ -17,11 +17,8 @@ returns : tie.Need-returns
 unfolding trailerOk
 returns c = simp (le-leb _ _ ((c .before .before .before) .pre), sym (c .before .head-ok .ensures) ∙ not-true _ (c .if1 .taken))
 
-add-if2 : tie.Need-add-if2
-add-if2 c = search needs
-
-shared-slice-read-if2 : tie.Need-shared-slice-read-if2
-shared-slice-read-if2 c = search needs
+is-layout-requires : tie.Need-is-layout-requires
+is-layout-requires c κs = search needs
 
 returns-2 : tie.Need-returns-2
 unfolding trailerOk
@@ -29,7 +26,11 @@ returns-2 c =
     let before = c .before .before .before .before .before in
     let head-ok = c .before .before .before .head-ok in
     let if1 = c .before .before .if1 in
-    simp (le-leb _ _ (before .pre), sym (head-ok .ensures) ∙ not-false _ (if1 .left), ne-eqb _ _ (c .if2 .taken))
+    simp (
+      le-leb _ _ (before .pre),
+      sym (head-ok .ensures) ∙ not-false _ (if1 .left),
+      sym (c .before .is-layout .ensures) ∙ not-true _ (c .if2 .taken),
+    )
 
 cast-m : tie.Need-cast-m
 cast-m c = search needs
@@ -49,9 +50,11 @@ returns-3 c =
     let before = c .before .before .before .before .before .before .before .before in
     let head-ok = c .before .before .before .before .before .before .head-ok in
     let if1 = c .before .before .before .before .before .if1 in
+    let is-layout = c .before .before .before .before .is-layout in
     let if2 = c .before .before .before .if2 in
     let head = sym (head-ok .ensures) ∙ not-false _ (if1 .left) in
-    simp (le-leb _ _ (before .pre), head, eq-eqb _ _ (if2 .left), tests-false (c .before .number .ensures .0) (c .if3 .taken))
+    let known = sym (is-layout .ensures) ∙ not-false _ (if2 .left) in
+    simp (le-leb _ _ (before .pre), head, known, tests-false (c .before .number .ensures .0) (c .if3 .taken))
 
 slot-count-requires : tie.Need-slot-count-requires
 slot-count-requires c κs =
@@ -77,13 +80,15 @@ returns-4 c =
     let before = c .before .before .before .before .before .before .before .before .before in
     let head-ok = c .before .before .before .before .before .before .before .head-ok in
     let if1 = c .before .before .before .before .before .before .if1 in
+    let is-layout = c .before .before .before .before .before .is-layout in
     let if2 = c .before .before .before .before .if2 in
     let number = c .before .before .number in
     let head = sym (head-ok .ensures) ∙ not-false _ (if1 .left) in
+    let known = sym (is-layout .ensures) ∙ not-false _ (if2 .left) in
     simp (
       le-leb _ _ (before .pre),
       head,
-      eq-eqb _ _ (if2 .left),
+      known,
       tests-true
           (number .ensures .0) (c .before .if3 .left),
       c .slot-count .ensures .0,
@@ -97,8 +102,7 @@ trailer-ok-spec =
     sub-t
     head-ok-requires
     returns
-    add-if2
-    shared-slice-read-if2
+    is-layout-requires
     returns-2
     cast-m
     add-number

@@ -1,8 +1,17 @@
 -- `file::writer::put_head` meets its contract.
+use mathlib.Core.List.{List, [], _∷_, _++_}
+use Prim.Native.Nat.{ℕ, _+_}
+use native.Mathlib.Omega.{arith}
 use borrow.Author.Needs.{needs}
-use Rattle.file.proofs.Written.{row-five}
+use Rattle.file.proofs.Written.{row-next}
 use Rattle.file.proofs.writer.put_head.Statement.{statement}
 use Rattle.file.proofs.writer.put_head.Tie as tie
+
+put-days-requires : tie.Need-put-days-requires
+put-days-requires c κs = search needs
+
+add-put : tie.Need-add-put
+add-put c = search needs
 
 cast-put : tie.Need-cast-put
 cast-put c = search needs
@@ -10,8 +19,8 @@ cast-put c = search needs
 put-requires : tie.Need-put-requires
 put-requires c κs = search needs
 
-add-put : tie.Need-add-put
-add-put c = search needs
+add-put-2 : tie.Need-add-put-2
+add-put-2 c = search needs
 
 cast-put-2 : tie.Need-cast-put-2
 cast-put-2 c = search needs
@@ -19,67 +28,30 @@ cast-put-2 c = search needs
 put-requires-2 : tie.Need-put-requires-2
 put-requires-2 c κs = search needs
 
-add-put-2 : tie.Need-add-put-2
-add-put-2 c = search needs
-
-cast-put-3 : tie.Need-cast-put-3
-cast-put-3 c = search needs
-
-put-requires-3 : tie.Need-put-requires-3
-put-requires-3 c κs = search needs
-
-add-put-3 : tie.Need-add-put-3
-add-put-3 c = search needs
-
-put-requires-4 : tie.Need-put-requires-4
-put-requires-4 c κs = search needs
-
-add-put-4 : tie.Need-add-put-4
-add-put-4 c = search needs
-
-cast-put-4 : tie.Need-cast-put-4
-cast-put-4 c = search needs
-
-put-requires-5 : tie.Need-put-requires-5
-put-requires-5 c κs = search needs
-
 same-length : tie.Need-same-length
 same-length c = search needs
 
 returns : tie.Need-returns
 returns c =
-    let before = c .before .before .before .before .before .before .before .before .before .before .before .before .before .before .before .before .before .before .before .before .before .before .before .before .before in
-    let put = c .before .before .before .before .before .before .before .before .before .before .before .before .before .before .before .before .before .before .before .before .before .put in
-    let put2 = c .before .before .before .before .before .before .before .before .before .before .before .before .before .before .before .before .put2 in
-    let put3 = c .before .before .before .before .before .before .before .before .before .before .before .put3 in
-    let put4 = c .before .before .before .before .before .before .before .put4 in
-    let put5 = c .before .before .put5 in
-    let s = before in
-    let a = s .args in
-    row-five (a .buf .now) _ _ _ _ _ (a .at) 2 2 1 1 2 (a .g .first) (a .g .days) (a .g .interval) 1 (a .g .spans)
-    (put .ensures)
-    (put2 .ensures)
-    (put3 .ensures)
-    (put4 .ensures)
-    (put5 .ensures)
-    (s .pre)
+    let a = c .before .before .before .before .before .before .before .before .before .before .before .before .before .before .before .args in
+    let put-days = c .before .before .before .before .before .before .before .before .before .before .before .before .put-days in
+    let put = c .before .before .before .before .before .before .before .put in
+    let put2 = c .before .before .put2 in
+    let f3 : List (ℕ × ℕ) = (2, a .g .first) ∷ (2, a .g .days) ∷ (1, a .g .interval) ∷ [] in
+    let f4 : List (ℕ × ℕ) = f3 ++ ((1, a .g .layout) ∷ []) in
+    let r4 = row-next (a .buf .now) _ _ (a .at) (a .at + 5) 1 (a .g .layout) f3 (put-days .ensures) (put .ensures) (omega arith) (omega arith) in
+    row-next (a .buf .now) _ _ (a .at) (a .at + 6) 2 (a .g .spans) f4 r4 (put2 .ensures) (omega arith) (omega arith)
 
 pub put-head-spec : {M : Type 1} → statement M
 put-head-spec =
     tie.close
     (tie.spec
+    put-days-requires
+    add-put
     cast-put
     put-requires
-    add-put
+    add-put-2
     cast-put-2
     put-requires-2
-    add-put-2
-    cast-put-3
-    put-requires-3
-    add-put-3
-    put-requires-4
-    add-put-4
-    cast-put-4
-    put-requires-5
     same-length
     returns)

@@ -27,7 +27,7 @@ returns c =
     let put-counts = c .before .before .put-counts in
     let a = before .args in
     let g = a .g in
-    let front : List (ℕ × ℕ) = (2, g .first) ∷ (2, g .days) ∷ (1, g .interval) ∷ (1, 1) ∷ (2, g .spans) ∷ [] in
+    let front : List (ℕ × ℕ) = (2, g .first) ∷ (2, g .days) ∷ (1, g .interval) ∷ (1, g .layout) ∷ (2, g .spans) ∷ [] in
     let back : List (ℕ × ℕ) = (4, g .actual) ∷ (4, g .substituted) ∷ (4, g .none) ∷ (8, g .sum) ∷ (4, 10 * g .spans) ∷ [] in
     put-counts .ensures ∙ rows (a .buf .now) (put-head .last .0) (a .at) (a .at + 8) front back (put-head .ensures) (omega arith) (search needs)
 
