@@ -14,9 +14,10 @@ use Rattle.rules.specs.declared.Span.{Span}
 use Rattle.rules.specs.Lists.{sum, any, every}
 use Rattle.rules.specs.Opening.{Cells, slotsPerDay}
 use Rattle.rules.specs.Spans.{isS, isN, isScaled, start, slotsIn, spanOf, noSpan, outcomeAt, spans}
+use Rattle.rules.specs.Inner.Lent.{AgreedLow}
 use Rattle.rules.proofs.Bounds.{Bounded}
 use Rattle.rules.proofs.Forms.{Form}
-use Rattle.rules.proofs.Forms.Filled.{delivered, outage, linear, sameDay, nothing}
+use Rattle.rules.proofs.Forms.Filled.{delivered, agreed, outage, linear, sameDay, nothing}
 use Rattle.rules.proofs.Forms.Form.{unscaled, scaledLinear, scaledSameDay}
 use Rattle.rules.proofs.Neighbours.{Neighbours, each-span, side-by-side}
 use Rattle.rules.proofs.Outcomes.{advance-low, outcome-form, scaled-inside}
@@ -32,11 +33,12 @@ use Rattle.file.proofs.Stretches.{at-all}
 -- every form of an outcome is one that the reader takes
 form-ok : {o : Outcome} → Form o → recordOk (slotRecord o) ≡ true
 unfolding recordOk
-form-ok (unscaled (delivered v)) = refl
-form-ok (unscaled outage) = refl
-form-ok (unscaled (linear v)) = refl
-form-ok (unscaled (sameDay v)) = refl
-form-ok (unscaled nothing) = refl
+form-ok (unscaled (delivered v) l) = refl
+form-ok (unscaled (agreed v) l) = rw (le-leb v 99999999 l)
+form-ok (unscaled outage l) = refl
+form-ok (unscaled (linear v) l) = refl
+form-ok (unscaled (sameDay v) l) = refl
+form-ok (unscaled nothing l) = refl
 form-ok (scaledLinear v) = refl
 form-ok (scaledSameDay v) = refl
 
@@ -138,10 +140,10 @@ module _ (h : Head) (bounds : Bounded h) (b : Cells) where
       let (j, l, p, q) = scaled-inside h bounds b i e in
       record { by = j; short = l; from = p; to = q })
 
-  pub book-ok : every (tableTests t) ≡ true
-  book-ok =
+  pub book-ok : AgreedLow (b .agreed) → every (tableTests t) ≡ true
+  book-ok low =
       rw (
-        at-all (λ i. recordOk (slotRecord (outcomeAt h b i))) (slotsPerDay h * h .days) (λ i _. form-ok (outcome-form h bounds b i)),
+        at-all (λ i. recordOk (slotRecord (outcomeAt h b i))) (slotsPerDay h * h .days) (λ i _. form-ok (outcome-form h bounds b low i)),
         spans-ok,
         at-all (stateOk t) (length (spans h b)) state-ok,
         at-all (outsideOk t) (slotsPerDay h * h .days) (λ i _. outside-ok i),

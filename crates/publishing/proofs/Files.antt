@@ -18,12 +18,14 @@ use Rattle.file.specs.Layout.{figuresOf, tablesOf, fileOf}
 use Rattle.file.specs.Reader.{headTests as trailerHead, readFile, tablesPart}
 use Rattle.file.specs.Contents.{Fitting, WellFormed, noSlot, slot, slotRecord, recordsOf}
 use Rattle.publishing.specs.Publishing.{published}
+use Rattle.publishing.specs.Inner.Publishing.{Sound}
 use Rattle.rules.proofs.Lists.{length-upTo, getD-upTo}
 use Rattle.file.proofs.Content.{injective}
 use Rattle.file.proofs.Agree.{Agree, tables-agree}
 use Rattle.file.proofs.Fitting.{fitting}
 use Rattle.file.proofs.Accepted.{accepted, tables-back}
 use Rattle.publishing.proofs.Booked.{bookTables, book-ok}
+use Rattle.publishing.proofs.Publishing.{agreed-low}
 
 module _ (h : Head) (b : Cells) where
   slots-own : length (published h b .slots) ≡ slotCount h
@@ -38,7 +40,10 @@ module _ (h : Head) (b : Cells) where
   unfolding published slotCount slotsPerDay
   agree = record { perDay = refl; days = refl; spans = refl; slot = λ i l. ap slotRecord (slot-own i l); span = λ j l. refl }
 
-  module _ (ok : headOk h ≡ true) where
+  module _ (s : Sound h b) where
+    ok : headOk h ≡ true
+    ok = s .head
+
     head-own : every (trailerHead (firstDay h) (h .days) (h .interval)) ≡ true
     unfolding headOk
     head-own =
@@ -50,8 +55,8 @@ module _ (h : Head) (b : Cells) where
     well-formed = record {
       head = head-own;
       slots = slots-own;
-      values = λ i l. rw (slot-own i (rw slots-own at l)) (omega (arith, outcome-fits h (bounded h ok) b i));
-      tables = tables-agree (recordsOf (published h b)) (bookTables h b) agree (book-ok h (bounded h ok) b);
+      values = λ i l. rw (slot-own i (rw slots-own at l)) (omega (arith, outcome-fits h (bounded h ok) b (agreed-low h b s) i));
+      tables = tables-agree (recordsOf (published h b)) (bookTables h b) agree (book-ok h (bounded h ok) b (agreed-low h b s));
     }
 
     pub published-fits : Fitting (published h b)
@@ -61,5 +66,5 @@ module _ (h : Head) (b : Cells) where
     pub published-accepted : (readFile (fileOf (published h b)) ≡ Accepted (figuresOf (published h b))) × (tablesPart (fileOf (published h b)) ≡ tablesOf (published h b))
     published-accepted = (accepted (published h b) well-formed, tables-back (published h b) well-formed)
 
-pub files-equal : (h g : Head) (b c : Cells) → headOk h ≡ true → headOk g ≡ true → (fileOf (published h b) ≡ fileOf (published g c)) ↔ (published h b ≡ published g c)
+pub files-equal : (h g : Head) (b c : Cells) → Sound h b → Sound g c → (fileOf (published h b) ≡ fileOf (published g c)) ↔ (published h b ≡ published g c)
 files-equal h g b c p q = (injective (published h b) (published g c) (published-fits h b p) (published-fits g c q), ap fileOf)

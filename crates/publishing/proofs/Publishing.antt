@@ -1,5 +1,5 @@
 -- What publishing knows once it refuses nothing.
-use mathlib.Core.Bool.{true, false, not, false≢true}
+use mathlib.Core.Bool.{Bool, true, false, not, false≢true}
 use mathlib.Core.Logic.{⊎-elim}
 use mathlib.Core.List.{List, [], _∷_, _++_}
 use mathlib.Core.Path.{_≡_, refl, sym, _∙_}
@@ -13,14 +13,14 @@ use Rattle.rules.specs.declared.Head.{Head}
 use Rattle.rules.specs.Lists.{any}
 use Rattle.rules.specs.Opening.{Cells, headOk, slotCount}
 use Rattle.rules.specs.Spans.{outcomeAt, outcomes, spans}
-use Rattle.rules.specs.Inner.Lent.{Whole}
+use Rattle.rules.specs.Inner.Lent.{AgreedLow, Whole}
 use Rattle.rules.specs.Inner.Stretches.{readCount}
 use Rattle.rules.proofs.Bounds.{bounded}
 use Rattle.rules.proofs.Counts.{span-count}
 use Rattle.rules.proofs.Logic.{passed, either}
 use Rattle.rules.proofs.Neighbours.{spans-few}
 use Rattle.rules.proofs.Sums.{any-some}
-use Rattle.book.specs.Cells.{slotFaultAt, dayFaultAt, readFault, readFaultAt, readsOf, cellsFit, cellsOk}
+use Rattle.book.specs.Cells.{slotFaultAt, dayFaultAt, readFault, readFaultAt, agreedFaultAt, readsOf, cellsFit, cellsOk}
 use Rattle.book.proofs.Fits.{lengths-of}
 use Rattle.publishing.specs.Publishing.{published, fileLength, publishAnswer, publishAfter}
 use Rattle.publishing.specs.declared.Published.the-variants.{Length, Refused}
@@ -28,36 +28,53 @@ use Rattle.file.specs.Layout.{fileOf}
 use Rattle.publishing.specs.Inner.Publishing.{Sound, Left}
 use Rattle.rules.proofs.Lists.{length-upTo}
 
-module _ (h : Head) (b : Cells) (s : Sound h b) where
-  -- a reading that is no fault is one of an eight-digit dial
-  reading-low : (version reading : ℕ) → readFault version reading ≡ false → reading < 100000000
+module _ (version number : ℕ) where
+  -- a reading or an agreed value that is no fault has eight digits
+  number-low : readFault version number ≡ false → number < 100000000
   unfolding readFault
-  reading-low version reading e = ⊎-elim (λ t. absurd (false≢true (sym e ∙ (rw t)))) (λ t. omega (arith, ltb-false 99999999 reading t)) (either (ltb 99999999 reading))
+  number-low e = ⊎-elim (λ t. absurd (false≢true (sym e ∙ (rw t)))) (λ t. omega (arith, ltb-false 99999999 number t)) (either (ltb 99999999 number))
 
-  sound-reading : (d : ℕ) → d < suc (h .days) → getD (b .readings) d 0 < 100000000
-  unfolding cellsOk
-  sound-reading d l = ⊎-elim bad (reading-low _ _) (either (readFaultAt (readsOf b) d))
+-- such numbers at the first n places of a list are such at every place, where it is n long
+module _ (versions numbers : List ℕ) (n : ℕ) (long : length numbers ≡ n) where
+  abbrev faultAt : ℕ → Bool
+  faultAt i = readFault (getD versions i 0) (getD numbers i 0)
+
+  all-low : any faultAt 0 n ≡ false → (i : ℕ) → getD numbers i 0 < 100000000
+  all-low none i =
+      ⊎-elim inside
+      (λ t. rw (List·getD-eq-default numbers 0 {n = i} (omega (arith, long, ltb-false i n t))) (omega arith))
+      (either (ltb i n))
     where
-      bad : readFaultAt (readsOf b) d ≡ true → getD (b .readings) d 0 < 100000000
-      bad t =
-          let p = passed (not (any (slotFaultAt (b .slots)) 0 (slotCount h)) ∷ not (any (dayFaultAt (b .holidays)) 0 (h .days)) ∷ not (any (readFaultAt (readsOf b)) 0 (suc (h .days))) ∷ []) (s .cells) 2 in
-          absurd (false≢true (sym (not-true _ p) ∙ any-some (readFaultAt (readsOf b)) 0 (suc (h .days)) d zero-le (rw zero-add l) t))
+      inside : ltb i n ≡ true → getD numbers i 0 < 100000000
+      inside t =
+          ⊎-elim (λ bad. absurd (false≢true (sym none ∙ any-some faultAt 0 n i zero-le (rw zero-add (ltb-true i n t)) bad)))
+          (number-low (getD versions i 0) (getD numbers i 0)) (either (faultAt i))
+
+module _ (h : Head) (b : Cells) (s : Sound h b) where
+  abbrev cellTests : List Bool
+  cellTests =
+      not (any (slotFaultAt (b .slots)) 0 (slotCount h)) ∷ not (any (dayFaultAt (b .holidays)) 0 (h .days))
+      ∷ not (any (readFaultAt (readsOf b)) 0 (suc (h .days))) ∷ not (any (agreedFaultAt (b .agreed)) 0 (slotCount h)) ∷ []
+
+  readings-low : (d : ℕ) → getD (b .readings) d 0 < 100000000
+  unfolding cellsOk
+  readings-low =
+      all-low (b .readVersions) (b .readings) (suc (h .days)) (lengths-of h b (s .fit) .readings) (not-true _ (passed cellTests (s .cells) 2))
+
+  pub agreed-low : AgreedLow (b .agreed)
+  unfolding cellsOk
+  agreed-low =
+      all-low (b .agreed .versions) (b .agreed .values) (slotCount h) (lengths-of h b (s .fit) .agreed) (not-true _ (passed cellTests (s .cells) 3))
 
   pub whole-of : Whole h b
   whole-of =
       let l = lengths-of h b (s .fit) in
       record {
         lent = record { fitted = record { head = s .head; values = l .values; versions = l .versions; statuses = l .statuses }; holidays = l .holidays };
-        dialled = record { length = l .readings; low = low };
+        dialled = record { length = l .readings; low = readings-low };
         readVersions = l .readVersions;
+        settled = record { values = l .agreed; versions = l .agreedVersions; low = agreed-low };
       }
-    where
-      low : (d : ℕ) → getD (b .readings) d 0 < 100000000
-      low d =
-          let n = lengths-of h b (s .fit) .readings in
-          ⊎-elim (λ t. sound-reading d (ltb-true d (suc (h .days)) t))
-          (λ t. rw (List·getD-eq-default (b .readings) 0 {n = d} (omega (arith, ltb-false d (suc (h .days)) t))) (omega arith))
-          (either (ltb d (suc (h .days))))
 
   -- the spans and the length as publishing computes them
   module _ (m : ℕ) (e : m ≡ readCount (b .readVersions) (length (b .readVersions)) - 1) where

@@ -9,21 +9,23 @@ use native.Mathlib.Omega.{arith}
 use Rattle.rules.specs.declared.Head.{Head}
 use Rattle.rules.specs.declared.Outcome.{Outcome}
 use Rattle.rules.specs.declared.Quality.{Quality}
-use Rattle.rules.specs.declared.Quality.the-variants.{A, S, N}
+use Rattle.rules.specs.declared.Quality.the-variants.{A, S, F, N}
+use lib.Dec.{ltb}
 use lib.ListN.{length, length-append}
 use Rattle.rules.specs.declared.pass.Pass.{Pass}
 use Rattle.rules.specs.declared.stretch.Begins.{Begins}
 use Rattle.rules.specs.Lists.{sum}
 use Rattle.rules.specs.Opening.{Cells, firstDay, slotCount}
-use Rattle.rules.specs.Spans.{isA, isS, isN, outcomeAt, upTo, outcomes, spans}
+use Rattle.rules.specs.Spans.{isA, isS, isF, isN, outcomeAt, upTo, outcomes, spans}
+use Rattle.rules.specs.Inner.Lent.{AgreedLow}
 use Rattle.rules.specs.Inner.Fills.{fillsAt}
 use Rattle.rules.specs.Inner.Stretches.{beginsAt}
 use Rattle.rules.specs.Inner.Passes.{passAt, listOf, begunBefore}
-use Rattle.rules.proofs.Bounds.{Bounded}
+use Rattle.rules.proofs.Bounds.{Bounded, count-high}
 use Rattle.rules.proofs.Outcomes.{outcome-fits}
 use Rattle.rules.proofs.Summaries.{sum-small}
 use Rattle.publishing.specs.declared.tables.Totals.{Totals}
-use Rattle.file.specs.Layout.{one, total, row, table, slotRow, spanRow, figuresOf}
+use Rattle.file.specs.Layout.{one, total, row, table, slotRow, spanRow, layoutOf, figuresOf}
 use Rattle.publishing.specs.Publishing.{published}
 use Rattle.publishing.specs.declared.tables.Progress.{Progress}
 use Rattle.file.specs.Inner.Writing.{written}
@@ -52,6 +54,7 @@ module _ (h : Head) (b : Cells) (i : ℕ) where
   totals-next = rw slots-next (λ t. record {
     actual = total-snoc (one isA) (firstSlots h b i) (outcomeAt h b i) t;
     substituted = total-snoc (one isS) (firstSlots h b i) (outcomeAt h b i) t;
+    agreed = total-snoc (one isF) (firstSlots h b i) (outcomeAt h b i) t;
     none = total-snoc (one isN) (firstSlots h b i) (outcomeAt h b i) t;
     sum = total-snoc (λ o. o .value) (firstSlots h b i) (outcomeAt h b i) t;
   })
@@ -66,10 +69,10 @@ module _ (h : Head) (b : Cells) (i : ℕ) where
   pub count-low : (q : Quality → Bool) → total (one q) (firstSlots h b i) ≤ i * 1
   count-low q = rw (total-sum (one q) (outcomeAt h b) 0 i) (sum-small (λ j. one q (outcomeAt h b j)) 1 (λ j. one-low q (outcomeAt h b j)) 0 i)
 
-  pub sum-low : Bounded h → total (λ o. o .value) (firstSlots h b i) ≤ i * 100000000
-  sum-low w =
+  pub sum-low : Bounded h → AgreedLow (b .agreed) → total (λ o. o .value) (firstSlots h b i) ≤ i * 100000000
+  sum-low w low =
       rw (total-sum (λ o. o .value) (outcomeAt h b) 0 i)
-      (sum-small (λ j. outcomeAt h b j .value) 100000000 (λ j. omega (arith, outcome-fits h w b j)) 0 i)
+      (sum-small (λ j. outcomeAt h b j .value) 100000000 (λ j. omega (arith, outcome-fits h w b low j)) 0 i)
 
 -- `publish::add` goes by the slot's quality
 module _ (t : Totals) (o : Outcome) where
@@ -80,15 +83,19 @@ module _ (t : Totals) (o : Outcome) where
   unfolding with
   added q e = ap (λ (x : Quality). addedTo t (with x)) (sym e)
 
-  pub added-actual : o .quality ≡ A → record { actual = t .actual + 1; substituted = t .substituted; none = t .none; sum = t .sum + o .value } ≡ addedTo t o
+  pub added-actual : o .quality ≡ A → record { actual = t .actual + 1; substituted = t .substituted; agreed = t .agreed; none = t .none; sum = t .sum + o .value } ≡ addedTo t o
   unfolding addedTo with
   added-actual e = simp add-zero refl ∙ added A e
 
-  pub added-substituted : o .quality ≡ S → record { actual = t .actual; substituted = t .substituted + 1; none = t .none; sum = t .sum + o .value } ≡ addedTo t o
+  pub added-substituted : o .quality ≡ S → record { actual = t .actual; substituted = t .substituted + 1; agreed = t .agreed; none = t .none; sum = t .sum + o .value } ≡ addedTo t o
   unfolding addedTo with
   added-substituted e = simp add-zero refl ∙ added S e
 
-  pub added-none : o .quality ≡ N → record { actual = t .actual; substituted = t .substituted; none = t .none + 1; sum = t .sum + o .value } ≡ addedTo t o
+  pub added-agreed : o .quality ≡ F → record { actual = t .actual; substituted = t .substituted; agreed = t .agreed + 1; none = t .none; sum = t .sum + o .value } ≡ addedTo t o
+  unfolding addedTo with
+  added-agreed e = simp add-zero refl ∙ added F e
+
+  pub added-none : o .quality ≡ N → record { actual = t .actual; substituted = t .substituted; agreed = t .agreed; none = t .none + 1; sum = t .sum + o .value } ≡ addedTo t o
   unfolding addedTo with
   added-none e = simp add-zero refl ∙ added N e
 
@@ -125,12 +132,21 @@ module _ (h : Head) (b : Cells) (i : ℕ) where
     progress-here = e ∙ ap (progressAt h b) (sym progress-place)
 
 -- before slot 0
-pub progress-first : (h : Head) (b : Cells) (p : Pass) → p ≡ passAt h b 0 → record { pass = p; spans = 0; totals = record { actual = 0; substituted = 0; none = 0; sum = 0 } } ≡ progressAt h b 0
+pub progress-first : (h : Head) (b : Cells) (p : Pass) → p ≡ passAt h b 0 → record { pass = p; spans = 0; totals = record { actual = 0; substituted = 0; agreed = 0; none = 0; sum = 0 } } ≡ progressAt h b 0
 unfolding progressAt begunBefore totalsOf total upTo
 progress-first h b p e = rw e
 
--- the trailer's figures of what a book publishes
-pub figures-found : (h : Head) (b : Cells) (first spans₀ : ℕ) (t : Totals) → first ≡ firstDay h → spans₀ ≡ length (spans h b) → t ≡ totalsOf (outcomes h b)
-    → record { first = first; days = h .days; interval = h .interval; spans = spans₀; actual = t .actual; substituted = t .substituted; none = t .none; sum = t .sum } ≡ figuresOf (published h b)
-unfolding figuresOf published totalsOf
-figures-found h b first spans₀ t x y z = rw (x, y, z)
+-- the totals of all slots
+module _ (h : Head) (b : Cells) (t : Totals) (e : t ≡ totalsOf (outcomes h b)) where
+  pub filled-low : Bounded h → t .substituted + t .agreed ≤ 230400
+  unfolding totalsOf outcomes
+  filled-low w =
+      let s : t .substituted ≡ total (one isS) (firstSlots h b (slotCount h)) = ap (λ (x : Totals). x .substituted) e in
+      let f : t .agreed ≡ total (one isF) (firstSlots h b (slotCount h)) = ap (λ (x : Totals). x .agreed) e in
+      omega (arith, count-high h w, count-low h b (slotCount h) isS, count-low h b (slotCount h) isF)
+
+  -- the trailer's figures of what a book publishes
+  pub figures-found : (first spans₀ layout : ℕ) → first ≡ firstDay h → spans₀ ≡ length (spans h b) → layout ≡ cond (ltb 0 (t .agreed)) 2 1
+      → record { first = first; days = h .days; interval = h .interval; spans = spans₀; actual = t .actual; substituted = t .substituted + t .agreed; none = t .none; sum = t .sum; layout = layout } ≡ figuresOf (published h b)
+  unfolding layoutOf figuresOf published totalsOf
+  figures-found first spans₀ layout x y z = rw (x, y, z, e)

@@ -8,10 +8,11 @@ use file::writer;
 use rules::Head;
 use rules::opening;
 use rules::readings;
-ghost use mathlib.Core.Bool.{true};
+ghost use mathlib.Core.Bool.{true, cond};
 ghost use mathlib.Core.List.{_++_};
 ghost use mathlib.Core.Path.{_≡_};
 ghost use Prim.Native.Nat.{_+_, _*_, _≤_};
+ghost use lib.Dec.{ltb};
 ghost use lib.ListN.{length, drop};
 ghost use Rattle.rules.specs.Opening.{headOk, slotCount};
 ghost use Rattle.rules.specs.Spans.{spans as spansOf};
@@ -27,6 +28,16 @@ pub enum Published {
     Refused(u8),
 }
 
+// 2 where a slot is F, else 1 (02, W1).
+fn layout_of(agreed: u32) -> u32
+    ensures { λ r. ⌜ r ≡ cond (ltb 0 agreed) 2 1 ⌝ }
+{
+    if 0 < agreed {
+        return 2;
+    }
+    1
+}
+
 // The whole file into the first bytes of `out`.
 fn put_file(
     head: Head,
@@ -36,11 +47,13 @@ fn put_file(
     holidays: &[u8],
     readings: &[u32],
     reads: &[u32],
+    agreed: &[u32],
+    agreed_versions: &[u32],
     out: &mut [u8],
     spans: usize,
 )
-    requires { ⌜ Roomy head (lentCells values versions statuses holidays readings reads) (now out) × (spans ≡ length (spansOf head (lentCells values versions statuses holidays readings reads))) ⌝ }
-    ensures { λ _. ⌜ now (out .exit) ≡ fileOf (published head (lentCells (values .entry) (versions .entry) (statuses .entry) (holidays .entry) (readings .entry) (reads .entry))) ++ drop (fileLength head (lentCells (values .entry) (versions .entry) (statuses .entry) (holidays .entry) (readings .entry) (reads .entry))) (now (out .entry)) ⌝ }
+    requires { ⌜ Roomy head (lentCells values versions statuses holidays readings reads agreed «agreed_versions») (now out) × (spans ≡ length (spansOf head (lentCells values versions statuses holidays readings reads agreed «agreed_versions»))) ⌝ }
+    ensures { λ _. ⌜ now (out .exit) ≡ fileOf (published head (lentCells (values .entry) (versions .entry) (statuses .entry) (holidays .entry) (readings .entry) (reads .entry) (agreed .entry) («agreed_versions» .entry))) ++ drop (fileLength head (lentCells (values .entry) (versions .entry) (statuses .entry) (holidays .entry) (readings .entry) (reads .entry) (agreed .entry) («agreed_versions» .entry))) (now (out .entry)) ⌝ }
 {
     let table = 6 * opening::slot_count(head);
     let found = tables::put_tables(
@@ -51,6 +64,8 @@ fn put_file(
         holidays,
         readings,
         reads,
+        agreed,
+        agreed_versions,
         out,
         table,
     );
@@ -60,9 +75,10 @@ fn put_file(
         interval: head.interval,
         spans: spans as u32,
         actual: found.actual,
-        substituted: found.substituted,
+        substituted: found.substituted + found.agreed,
         none: found.none,
         sum: found.sum,
+        layout: layout_of(found.agreed),
     };
     writer::put_trailer(out, table + 10 * spans, g);
 }
@@ -84,10 +100,12 @@ fn put_sound(
     holidays: &[u8],
     readings: &[u32],
     reads: &[u32],
+    agreed: &[u32],
+    agreed_versions: &[u32],
     out: &mut [u8],
 ) -> Published
-    requires { ⌜ Sound head (lentCells values versions statuses holidays readings reads) ⌝ }
-    ensures { λ r. ⌜ Left head (lentCells (values .entry) (versions .entry) (statuses .entry) (holidays .entry) (readings .entry) (reads .entry)) (now (out .entry)) r (now (out .exit)) ⌝ }
+    requires { ⌜ Sound head (lentCells values versions statuses holidays readings reads agreed «agreed_versions») ⌝ }
+    ensures { λ r. ⌜ Left head (lentCells (values .entry) (versions .entry) (statuses .entry) (holidays .entry) (readings .entry) (reads .entry) (agreed .entry) («agreed_versions» .entry)) (now (out .entry)) r (now (out .exit)) ⌝ }
 {
     let spans = readings::span_count(reads);
     let length = length_of(head, spans);
@@ -102,13 +120,15 @@ fn put_sound(
         holidays,
         readings,
         reads,
+        agreed,
+        agreed_versions,
         out,
         spans,
     );
     Published::Length(length)
 }
 
-// The six lists have the lengths that the head asks.
+// The eight lists have the lengths that the head asks.
 fn lists_fit(
     head: Head,
     values: &[u32],
@@ -117,9 +137,11 @@ fn lists_fit(
     holidays: &[u8],
     readings: &[u32],
     reads: &[u32],
+    agreed: &[u32],
+    agreed_versions: &[u32],
 ) -> bool
     requires { ⌜ headOk head ≡ true ⌝ }
-    ensures { λ r. ⌜ r ≡ cellsFit head (lentCells (values .entry) (versions .entry) (statuses .entry) (holidays .entry) (readings .entry) (reads .entry)) ⌝ }
+    ensures { λ r. ⌜ r ≡ cellsFit head (lentCells (values .entry) (versions .entry) (statuses .entry) (holidays .entry) (readings .entry) (reads .entry) (agreed .entry) («agreed_versions» .entry)) ⌝ }
 {
     lengths::cells_fit(
         head,
@@ -129,6 +151,51 @@ fn lists_fit(
         holidays.len(),
         readings.len(),
         reads.len(),
+        agreed.len(),
+        agreed_versions.len(),
+    )
+}
+
+// Writes the file of a book whose lists fit.
+fn put_fitted(
+    head: Head,
+    values: &[u32],
+    versions: &[u32],
+    statuses: &[u8],
+    holidays: &[u8],
+    readings: &[u32],
+    reads: &[u32],
+    agreed: &[u32],
+    agreed_versions: &[u32],
+    out: &mut [u8],
+) -> Published
+    requires { ⌜ (headOk head ≡ true) × (cellsFit head (lentCells values versions statuses holidays readings reads agreed «agreed_versions») ≡ true) ⌝ }
+    ensures { λ r. ⌜ Left head (lentCells (values .entry) (versions .entry) (statuses .entry) (holidays .entry) (readings .entry) (reads .entry) (agreed .entry) («agreed_versions» .entry)) (now (out .entry)) r (now (out .exit)) ⌝ }
+{
+    if !sound::cells_ok(
+        head,
+        values,
+        versions,
+        statuses,
+        holidays,
+        readings,
+        reads,
+        agreed,
+        agreed_versions,
+    ) {
+        return Published::Refused(11);
+    }
+    put_sound(
+        head,
+        values,
+        versions,
+        statuses,
+        holidays,
+        readings,
+        reads,
+        agreed,
+        agreed_versions,
+        out,
     )
 }
 
@@ -141,11 +208,13 @@ pub fn publish(
     holidays: &[u8],
     readings: &[u32],
     reads: &[u32],
+    agreed: &[u32],
+    agreed_versions: &[u32],
     out: &mut [u8],
 ) -> Published
     ensures { λ r. ⌜
         (let cells =
-        lentCells (values .entry) (versions .entry) (statuses .entry) (holidays .entry) (readings .entry) (reads .entry) in
+        lentCells (values .entry) (versions .entry) (statuses .entry) (holidays .entry) (readings .entry) (reads .entry) (agreed .entry) («agreed_versions» .entry) in
         (r ≡ publishAnswer head cells (now (out .entry)))
         × (now (out .exit) ≡ publishAfter head cells (now (out .entry))))
         ⌝ }
@@ -153,13 +222,7 @@ pub fn publish(
     if !opening::head_ok(head) {
         return Published::Refused(1);
     }
-    if !lists_fit(head, values, versions, statuses, holidays, readings, reads) {
-        return Published::Refused(2);
-    }
-    if !sound::cells_ok(head, values, versions, statuses, holidays, readings, reads) {
-        return Published::Refused(11);
-    }
-    put_sound(
+    if !lists_fit(
         head,
         values,
         versions,
@@ -167,6 +230,21 @@ pub fn publish(
         holidays,
         readings,
         reads,
+        agreed,
+        agreed_versions,
+    ) {
+        return Published::Refused(2);
+    }
+    put_fitted(
+        head,
+        values,
+        versions,
+        statuses,
+        holidays,
+        readings,
+        reads,
+        agreed,
+        agreed_versions,
         out,
     )
 }

@@ -19,10 +19,11 @@ ghost use Rattle.file.specs.Layout.{table, spanRow};
 ghost use Rattle.file.specs.Inner.Writing.{written};
 ghost use Rattle.publishing.specs.Inner.Publishing.{totalsOf, addedTo, progressAt, bufferAt, Roomy, Next, PutNext};
 
-// The trailer's counts and sum of the slots so far.
+// The counts of each quality and the sum of the slots so far.
 pub struct Totals {
     pub actual: u32,
     pub substituted: u32,
+    pub agreed: u32,
     pub none: u32,
     pub sum: u64,
 }
@@ -41,6 +42,7 @@ fn begin() -> Progress
     let totals = Totals {
         actual: 0,
         substituted: 0,
+        agreed: 0,
         none: 0,
         sum: 0,
     };
@@ -52,7 +54,7 @@ fn begin() -> Progress
 }
 
 fn add(totals: Totals, slot: Outcome) -> Totals
-    requires { ⌜ (totals .actual ≤ 115200) × (totals .substituted ≤ 115200) × (totals .none ≤ 115200) × (totals .sum ≤ 11520000000000) ⌝ }
+    requires { ⌜ (totals .actual ≤ 115200) × (totals .substituted ≤ 115200) × (totals .agreed ≤ 115200) × (totals .none ≤ 115200) × (totals .sum ≤ 11520000000000) ⌝ }
     ensures { λ r. ⌜ r ≡ addedTo totals slot ⌝ }
 {
     let sum = totals.sum + (slot.value as u64);
@@ -61,18 +63,28 @@ fn add(totals: Totals, slot: Outcome) -> Totals
         Quality::A => Totals {
             actual: totals.actual + 1,
             substituted: totals.substituted,
+            agreed: totals.agreed,
             none: totals.none,
             sum: sum,
         },
         Quality::S => Totals {
             actual: totals.actual,
             substituted: totals.substituted + 1,
+            agreed: totals.agreed,
+            none: totals.none,
+            sum: sum,
+        },
+        Quality::F => Totals {
+            actual: totals.actual,
+            substituted: totals.substituted,
+            agreed: totals.agreed + 1,
             none: totals.none,
             sum: sum,
         },
         Quality::N => Totals {
             actual: totals.actual,
             substituted: totals.substituted,
+            agreed: totals.agreed,
             none: totals.none + 1,
             sum: sum,
         },
@@ -102,12 +114,14 @@ fn put_next(
     holidays: &[u8],
     readings: &[u32],
     reads: &[u32],
+    agreed: &[u32],
+    agreed_versions: &[u32],
     out: &mut [u8],
     table: usize,
     here: Progress,
 ) -> Progress
-    requires { ⌜ Next head (lentCells values versions statuses holidays readings reads) (now out) table here ⌝ }
-    ensures { λ r. ⌜ PutNext head (lentCells (values .entry) (versions .entry) (statuses .entry) (holidays .entry) (readings .entry) (reads .entry)) (now (out .entry)) (now (out .exit)) here r ⌝ }
+    requires { ⌜ Next head (lentCells values versions statuses holidays readings reads agreed «agreed_versions») (now out) table here ⌝ }
+    ensures { λ r. ⌜ PutNext head (lentCells (values .entry) (versions .entry) (statuses .entry) (holidays .entry) (readings .entry) (reads .entry) (agreed .entry) («agreed_versions» .entry)) (now (out .entry)) (now (out .exit)) here r ⌝ }
 {
     let pass = here.pass;
     let at = pass.fills.at;
@@ -119,6 +133,8 @@ fn put_next(
         holidays,
         readings,
         reads,
+        agreed,
+        agreed_versions,
         pass,
     );
     let slot = stepped.outcome;
@@ -143,11 +159,13 @@ pub fn put_tables(
     holidays: &[u8],
     readings: &[u32],
     reads: &[u32],
+    agreed: &[u32],
+    agreed_versions: &[u32],
     out: &mut [u8],
     table: usize,
 ) -> Totals
-    requires { ⌜ Roomy head (lentCells values versions statuses holidays readings reads) (now out) × (table ≡ 6 * slotCount head) ⌝ }
-    ensures { λ r. ⌜ (r ≡ totalsOf (outcomes head (lentCells (values .entry) (versions .entry) (statuses .entry) (holidays .entry) (readings .entry) (reads .entry)))) × (now (out .exit) ≡ bufferAt head (lentCells (values .entry) (versions .entry) (statuses .entry) (holidays .entry) (readings .entry) (reads .entry)) (now (out .entry)) (slotCount head)) ⌝ }
+    requires { ⌜ Roomy head (lentCells values versions statuses holidays readings reads agreed «agreed_versions») (now out) × (table ≡ 6 * slotCount head) ⌝ }
+    ensures { λ r. ⌜ (r ≡ totalsOf (outcomes head (lentCells (values .entry) (versions .entry) (statuses .entry) (holidays .entry) (readings .entry) (reads .entry) (agreed .entry) («agreed_versions» .entry)))) × (now (out .exit) ≡ bufferAt head (lentCells (values .entry) (versions .entry) (statuses .entry) (holidays .entry) (readings .entry) (reads .entry) (agreed .entry) («agreed_versions» .entry)) (now (out .entry)) (slotCount head)) ⌝ }
 {
     let n = opening::slot_count(head);
     let mut here = begin();
@@ -161,6 +179,8 @@ pub fn put_tables(
             holidays,
             readings,
             reads,
+            agreed,
+            agreed_versions,
             out,
             table,
             here,

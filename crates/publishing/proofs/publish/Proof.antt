@@ -7,10 +7,9 @@ use Rattle.rules.specs.Opening.{Cells, headOk}
 use Rattle.rules.specs.Inner.Lent.{lentCells}
 use Rattle.rules.proofs.opening.head_ok.Reads as head-ok-reads
 use Rattle.book.specs.Cells.{cellsFit}
-use Rattle.publishing.proofs.Publishing.{refused-1, refused-2, refused-11}
-use Rattle.book.proofs.sound.cells_ok.Reads as cells-ok-reads
+use Rattle.publishing.proofs.Publishing.{refused-1, refused-2}
 use Rattle.publishing.proofs.lists_fit.Reads as lists-fit-reads
-use Rattle.publishing.proofs.put_sound.Reads as put-sound-reads
+use Rattle.publishing.proofs.put_fitted.Reads as put-fitted-reads
 use Rattle.publishing.proofs.publish.Reads as reads
 use Rattle.publishing.proofs.publish.Lts as lts
 use Rattle.publishing.proofs.publish.Statement.{statement}
@@ -22,17 +21,15 @@ claims = (
   head-ok-reads.Learnt,
   lists-fit-reads.Asked,
   lists-fit-reads.Learnt,
-  cells-ok-reads.Asked,
-  cells-ok-reads.Learnt,
-  put-sound-reads.Asked,
-  put-sound-reads.Learnt,
+  put-fitted-reads.Asked,
+  put-fitted-reads.Learnt,
 )
 
 abbrev Start : Type 0
 Start = lts.Start claims reads.Pre reads.Post
 
 abbrev lent : Start → Cells
-lent c = lentCells (c .args .values) (c .args .versions) (c .args .statuses) (c .args .holidays) (c .args .readings) (c .args .reads)
+lent c = lentCells (c .args .values) (c .args .versions) (c .args .statuses) (c .args .holidays) (c .args .readings) (c .args .reads) (c .args .agreed) (c .args .agreed-versions)
 
 -- ---- The tests that were passed
 
@@ -43,7 +40,7 @@ abbrev Past2 : Type 0
 Past2 = lts.Else2 claims reads.Pre reads.Post
 
 abbrev from1 : Past1 → Start
-from1 c = c .before .before .before .before .before .before .before .before .before
+from1 c = c .before .before .before .before .before .before .before .before .before .before .before
 
 abbrev from2 : Past2 → Start
 from2 c = from1 (c .before .before)
@@ -61,7 +58,7 @@ head-ok-requires c κs = search needs
 
 returns : tie.Need-returns
 returns c =
-    let start = c .before .before .before .before .before .before .before .before .before in
+    let start = c .before .before .before .before .before .before .before .before .before .before .before in
     refused-1 (start .args .head) (lent start) (start .args .out .now) (sym (c .before .head-ok .ensures) ∙ not-true _ (c .if1 .taken))
 
 lists-fit-requires : tie.Need-lists-fit-requires
@@ -73,27 +70,14 @@ returns-2 c =
     refused-2 (start .args .head) (lent start) (start .args .out .now) (head-passed (c .before .before))
     (sym (c .before .lists-fit .ensures) ∙ not-true _ (c .if2 .taken))
 
-cells-ok-requires : tie.Need-cells-ok-requires
-cells-ok-requires c κs = lists-passed c
-
-returns-3 : tie.Need-returns-3
-returns-3 c =
-    let start = from2 (c .before .before) in
-    refused-11 (start .args .head) (lent start) (start .args .out .now) (head-passed (c .before .before .before .before))
-    (lists-passed (c .before .before)) (sym (c .before .cells-ok .ensures) ∙ not-true _ (c .if3 .taken))
-
-put-sound-requires : tie.Need-put-sound-requires
-put-sound-requires c κs = record {
-  head = head-passed (c .before .before .before .before .before);
-  fit = lists-passed (c .before .before .before);
-  cells = sym (c .before .before .cells-ok .ensures) ∙ not-false _ (c .before .if3 .left);
-}
+put-fitted-requires : tie.Need-put-fitted-requires
+put-fitted-requires c κs = (head-passed (c .before .before .before), lists-passed (c .before))
 
 same-length : tie.Need-same-length
 same-length c = search needs
 
-returns-4 : tie.Need-returns-4
-returns-4 c = c .before .before .put-sound .ensures
+returns-3 : tie.Need-returns-3
+returns-3 c = c .before .before .put-fitted .ensures
 
 pub publish-spec : {M : Type 1} → statement M
 publish-spec =
@@ -103,8 +87,6 @@ publish-spec =
     returns
     lists-fit-requires
     returns-2
-    cells-ok-requires
-    returns-3
-    put-sound-requires
+    put-fitted-requires
     same-length
-    returns-4)
+    returns-3)

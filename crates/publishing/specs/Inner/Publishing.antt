@@ -7,7 +7,7 @@ use lib.ListN.{length}
 use Rattle.rules.specs.declared.Head.{Head}
 use Rattle.rules.specs.declared.Outcome.{Outcome}
 use Rattle.rules.specs.Opening.{Cells, headOk, slotCount}
-use Rattle.rules.specs.Spans.{isA, isS, isN, outcomeAt, upTo, spans}
+use Rattle.rules.specs.Spans.{isA, isS, isF, isN, outcomeAt, upTo, spans}
 use Rattle.rules.specs.Inner.Lent.{Whole}
 use Rattle.rules.specs.Inner.Stretches.{beginsAt}
 use Rattle.rules.specs.Inner.Passes.{passAt, listOf, begunBefore}
@@ -19,11 +19,12 @@ use Rattle.file.specs.Layout.{one, total, row, table, slotRow, spanRow}
 use Rattle.publishing.specs.Publishing.{publishAnswer, publishAfter}
 use Rattle.file.specs.Inner.Writing.{written}
 
--- the trailer's counts and sum of a list of outcomes
+-- the counts of each quality and the sum of a list of outcomes
 unfoldable pub totalsOf : List Outcome → Totals
 totalsOf os = record {
   actual = total (one isA) os;
   substituted = total (one isS) os;
+  agreed = total (one isF) os;
   none = total (one isN) os;
   sum = total (λ o. o .value) os;
 }
@@ -33,6 +34,7 @@ unfoldable pub addedTo : Totals → Outcome → Totals
 addedTo t o = record {
   actual = t .actual + one isA o;
   substituted = t .substituted + one isS o;
+  agreed = t .agreed + one isF o;
   none = t .none + one isN o;
   sum = t .sum + o .value;
 }

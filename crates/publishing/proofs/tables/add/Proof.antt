@@ -1,5 +1,5 @@
 -- `tables::add` goes by the slot's quality.
-use Rattle.publishing.proofs.Totals.{added-actual, added-substituted, added-none}
+use Rattle.publishing.proofs.Totals.{added-actual, added-substituted, added-agreed, added-none}
 use borrow.Author.Needs.{needs}
 use Rattle.publishing.proofs.tables.add.Statement.{statement}
 use Rattle.publishing.proofs.tables.add.Tie as tie
@@ -28,6 +28,12 @@ enum-told-3 c = search needs
 add-t9 : tie.Need-add-t9
 add-t9 c = search needs
 
+enum-told-4 : tie.Need-enum-told-4
+enum-told-4 c = search needs
+
+add-t10 : tie.Need-add-t10
+add-t10 c = search needs
+
 returns : tie.Need-returns
 returns c = added-actual _ _ (c .before .enum-told .given .1)
 
@@ -35,7 +41,10 @@ returns-2 : tie.Need-returns-2
 returns-2 c = added-substituted _ _ (c .before .enum-told2 .given .1)
 
 returns-3 : tie.Need-returns-3
-returns-3 c = added-none _ _ (c .before .enum-told3 .given .1)
+returns-3 c = added-agreed _ _ (c .before .enum-told3 .given .1)
+
+returns-4 : tie.Need-returns-4
+returns-4 c = added-none _ _ (c .before .enum-told4 .given .1)
 
 pub add-spec : {M : Type 1} → statement M
 add-spec =
@@ -49,6 +58,9 @@ add-spec =
     add-t8
     enum-told-3
     add-t9
+    enum-told-4
+    add-t10
     returns
     returns-2
-    returns-3)
+    returns-3
+    returns-4)
