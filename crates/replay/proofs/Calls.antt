@@ -3,7 +3,7 @@ use mathlib.Core.Bool.{true}
 use mathlib.Core.Path.{_≡_}
 use Prim.Native.Nat.{_≤_}
 use borrow.Author.Tests.{eq-eqb, ne-eqb, leb-true}
-use Rattle.book.specs.Arguments.Call.{delivery, holiday, register}
+use Rattle.book.specs.Arguments.Call.{delivery, agreed, holiday, register}
 use Rattle.replay.specs.declared.packing.Packed.{Packed}
 use Rattle.replay.specs.Packing.{callOk, callOf}
 
@@ -20,6 +20,11 @@ module _ (p : Packed) where
   unfolding callOf
   is-holiday n k = rw (ne-eqb _ _ n, eq-eqb _ _ k)
 
-  pub is-register : (p .kind ≡ 1 → ⊥) → (p .kind ≡ 2 → ⊥) → register (p .place) (p .version) (p .content) ≡ callOf p
-  unfolding callOf
-  is-register n m = rw (ne-eqb _ _ n, ne-eqb _ _ m)
+  module _ (n : p .kind ≡ 1 → ⊥) (m : p .kind ≡ 2 → ⊥) where
+    pub is-agreed : p .kind ≡ 4 → agreed (p .place) (p .version) (p .content) ≡ callOf p
+    unfolding callOf
+    is-agreed k = rw (ne-eqb _ _ n, ne-eqb _ _ m, eq-eqb _ _ k)
+
+    pub is-register : (p .kind ≡ 4 → ⊥) → register (p .place) (p .version) (p .content) ≡ callOf p
+    unfolding callOf
+    is-register k = rw (ne-eqb _ _ n, ne-eqb _ _ m, ne-eqb _ _ k)

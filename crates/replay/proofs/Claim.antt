@@ -37,16 +37,17 @@ refused-tests true true n rules m e = let z : _≡_ {A = ℕ} 0 1 = cc in absurd
 refused-tests true false n rules m e = ((cc), refl)
 refused-tests false y n rules m e = ((cc), refl)
 
--- cells are equal where their six lists are
+-- cells are equal where their eight lists are
 pub same-cells : {b b' : Cells} → b .slots .values ≡ b' .slots .values → b .slots .versions ≡ b' .slots .versions
     → b .slots .statuses ≡ b' .slots .statuses → b .holidays ≡ b' .holidays → b .readings ≡ b' .readings
-    → b .readVersions ≡ b' .readVersions → b ≡ b'
-same-cells values versions statuses holidays readings reads =
+    → b .readVersions ≡ b' .readVersions → b .agreed .values ≡ b' .agreed .values → b .agreed .versions ≡ b' .agreed .versions → b ≡ b'
+same-cells values versions statuses holidays readings reads agreed agreed-versions =
     λ t. record {
       slots = record { values = values t; versions = versions t; statuses = statuses t };
       holidays = holidays t;
       readings = readings t;
       readVersions = reads t;
+      agreed = record { values = agreed t; versions = agreed-versions t };
     }
 
 -- what the contract says
@@ -58,7 +59,7 @@ pub record Meant (h : Head) (calls answers : List ℕ) (b : Cells) (out : List �
   pub bytes : out' ≡ outAfter h calls answers b out
 
 module _ {h : Head} {calls answers : List ℕ} {b : Cells} {out : List ℕ} where
-  -- the six lists one by one, as the contract has them
+  -- the eight lists one by one, as the contract has them
   pub each : {r : Replayed} {answers' : List ℕ} {b' : Cells} {out' : List ℕ} → Meant h calls answers b out r answers' b' out'
       → (let after = cellsAfter h calls answers b in
       (r ≡ replayAnswer h calls answers b out)
@@ -68,7 +69,9 @@ module _ {h : Head} {calls answers : List ℕ} {b : Cells} {out : List ℕ} wher
       × (b' .slots .statuses ≡ after .slots .statuses)
       × (b' .holidays ≡ after .holidays)
       × (b' .readings ≡ after .readings)
-      × (b' .readVersions ≡ after .readVersions))
+      × (b' .readVersions ≡ after .readVersions)
+      × (b' .agreed .values ≡ after .agreed .values)
+      × (b' .agreed .versions ≡ after .agreed .versions))
       × (out' ≡ outAfter h calls answers b out))
   each m =
       let e = m .cells in (
@@ -81,6 +84,8 @@ module _ {h : Head} {calls answers : List ℕ} {b : Cells} {out : List ℕ} wher
           (λ t. e t .holidays),
           (λ t. e t .readings),
           (λ t. e t .readVersions),
+          (λ t. e t .agreed .values),
+          (λ t. e t .agreed .versions),
         ),
         m .bytes,
       )

@@ -24,6 +24,7 @@ use Rattle.publishing.specs.declared.Published.the-variants.{Length, Refused}
 use Rattle.file.specs.Contents.{noSlot}
 use Rattle.file.specs.Layout.{Content, fileOf}
 use Rattle.publishing.specs.Publishing.{published, fileLength, bytesAfter, publishAnswer, publishAfter}
+use Rattle.publishing.specs.Inner.Publishing.{Sound}
 use Rattle.file.proofs.Content.{length-file}
 use Rattle.rules.proofs.Lists.{length-upTo, getD-upTo, upTo-cong}
 use Rattle.publishing.proofs.Files.{files-equal}
@@ -105,9 +106,15 @@ module _ (h g : Head) (b c : Cells) where
         eachSpan = λ j l. ap (λ (ss : List Span). getD ss j noSpan) all;
       }
 
+-- publishing does not refuse the plain book
+sound : (h : Head) (cs : List Call) → headOk h ≡ true → Sound h (plainOf h cs)
+sound h cs good =
+    let s = rw (cells-agree h cs) at (cells-sound h cs) in
+    record { head = good; fit = s .0; cells = s .1 }
+
 pub claim : (h g : Head) (cs ds : List Call) → headOk h ≡ true → headOk g ≡ true → Claim h g cs ds
 claim h g cs ds p q =
-    let same = files-equal h g (plainOf h cs) (plainOf g ds) p q in
+    let same = files-equal h g (plainOf h cs) (plainOf g ds) (sound h cs p) (sound g ds q) in
     record {
       answers-plain = answers-agree h cs;
       publish-answers = answered h p cs;

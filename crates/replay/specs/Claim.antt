@@ -1,4 +1,4 @@
--- The claim about whole lists (01, demand 3): what is proved of every two lists of calls, each after an opening.
+-- The claim about whole lists (01, demand 3): what is proved of every two lists of calls of the four kinds, each after an opening.
 use mathlib.Core.Bool.{cond}
 use mathlib.Core.List.{List, [], _∷_, _++_, List·Memᴰ}
 use mathlib.Core.Logic.{_↔_}
@@ -17,7 +17,7 @@ use Rattle.publishing.specs.declared.Published.the-variants.{Length, Refused}
 use Rattle.file.specs.Layout.{fileOf}
 use Rattle.publishing.specs.Publishing.{published, publishAnswer, publishAfter}
 
--- what the calls leave in the six lists, and the plain book of the same calls
+-- what the calls leave in the eight lists, and the plain book of the same calls
 abbrev pub cellsOf : Head → List Call → Cells
 cellsOf h cs = afterAll h (opened h) cs
 

@@ -46,15 +46,17 @@ fn play_and_publish(
     holidays: &mut [u8],
     readings: &mut [u32],
     reads: &mut [u32],
+    agreed: &mut [u32],
+    agreed_versions: &mut [u32],
     out: &mut [u8],
 ) -> Replayed
     requires { ⌜ (packedOk (now calls) ≡ true) × (length (now calls) ≡ 5 * length (now answers)) ⌝ }
     ensures { λ r. ⌜
-        (let cells = lentCells (values .entry) (versions .entry) (statuses .entry) (holidays .entry) (readings .entry) (reads .entry) in
+        (let cells = lentCells (values .entry) (versions .entry) (statuses .entry) (holidays .entry) (readings .entry) (reads .entry) (agreed .entry) («agreed_versions» .entry) in
         let after = afterAll head cells (unpack (now (calls .entry))) in
         (r ≡ publishedMeant (publishAnswer head after (now (out .entry))))
         × (now (answers .exit) ≡ map answerCode (answersOf head cells (unpack (now (calls .entry)))))
-        × (lentCells (values .exit) (versions .exit) (statuses .exit) (holidays .exit) (readings .exit) (reads .exit) ≡ after)
+        × (lentCells (values .exit) (versions .exit) (statuses .exit) (holidays .exit) (readings .exit) (reads .exit) (agreed .exit) («agreed_versions» .exit) ≡ after)
         × (now (out .exit) ≡ publishAfter head after (now (out .entry))))
         ⌝ }
 {
@@ -68,6 +70,8 @@ fn play_and_publish(
         holidays,
         readings,
         reads,
+        agreed,
+        agreed_versions,
     );
     told(publishing::publish(
         head,
@@ -77,6 +81,8 @@ fn play_and_publish(
         holidays,
         readings,
         reads,
+        agreed,
+        agreed_versions,
         out,
     ))
 }
@@ -92,13 +98,15 @@ pub fn replay(
     holidays: &mut [u8],
     readings: &mut [u32],
     reads: &mut [u32],
+    agreed: &mut [u32],
+    agreed_versions: &mut [u32],
     out: &mut [u8],
 ) -> Replayed
     ensures { λ r. ⌜
-        (let cells = lentCells (values .entry) (versions .entry) (statuses .entry) (holidays .entry) (readings .entry) (reads .entry) in
+        (let cells = lentCells (values .entry) (versions .entry) (statuses .entry) (holidays .entry) (readings .entry) (reads .entry) (agreed .entry) («agreed_versions» .entry) in
         (r ≡ replayAnswer head (now (calls .entry)) (now (answers .entry)) cells (now (out .entry)))
         × (now (answers .exit) ≡ answersAfter head (now (calls .entry)) (now (answers .entry)) cells)
-        × HoldCells (values .exit) (versions .exit) (statuses .exit) (holidays .exit) (readings .exit) (reads .exit) (cellsAfter head (now (calls .entry)) (now (answers .entry)) cells)
+        × HoldCells (values .exit) (versions .exit) (statuses .exit) (holidays .exit) (readings .exit) (reads .exit) (agreed .exit) («agreed_versions» .exit) (cellsAfter head (now (calls .entry)) (now (answers .entry)) cells)
         × (now (out .exit) ≡ outAfter head (now (calls .entry)) (now (answers .entry)) cells (now (out .entry))))
         ⌝ }
 {
@@ -108,7 +116,17 @@ pub fn replay(
     if answers.len() != calls.len() / 5 {
         return Replayed::Malformed;
     }
-    let opened = book::open(head, values, versions, statuses, holidays, readings, reads);
+    let opened = book::open(
+        head,
+        values,
+        versions,
+        statuses,
+        holidays,
+        readings,
+        reads,
+        agreed,
+        agreed_versions,
+    );
     match opened {
         Opened::Done => play_and_publish(
             head,
@@ -120,6 +138,8 @@ pub fn replay(
             holidays,
             readings,
             reads,
+            agreed,
+            agreed_versions,
             out,
         ),
         Opened::Refused(n) => Replayed::Refused(n),

@@ -1,4 +1,4 @@
-// Calls packed into words, five a call: 1 slot version value status | 2 day 0 0 0 | 3 boundary version reading 0.
+// Calls packed into words, five a call: 1 slot version value status | 2 day 0 0 0 | 3 boundary version reading 0 | 4 slot version value 0.
 use book::calls::Call;
 ghost use mathlib.Core.Bool.{true};
 ghost use mathlib.Core.List.{_∷_};
@@ -45,7 +45,10 @@ fn call_ok(call: Packed) -> bool
         }
         return call.status == 0;
     }
-    if call.kind != 3 {
+    if call.kind < 3 {
+        return false;
+    }
+    if 4 < call.kind {
         return false;
     }
     call.status == 0
@@ -65,6 +68,13 @@ pub fn call_of(call: Packed) -> Call
     }
     if call.kind == 2 {
         return Call::Holiday(call.place);
+    }
+    if call.kind == 4 {
+        return Call::Agreed {
+            slot: call.place,
+            version: call.version,
+            value: call.content,
+        };
     }
     Call::Register {
         boundary: call.place,

@@ -34,13 +34,15 @@ fn play(
     holidays: &mut [u8],
     readings: &mut [u32],
     reads: &mut [u32],
+    agreed: &mut [u32],
+    agreed_versions: &mut [u32],
     call: Packed,
 ) -> u8
     requires { ⌜ callOk call ≡ true ⌝ }
     ensures { λ r. ⌜
-        (let cells = lentCells (values .entry) (versions .entry) (statuses .entry) (holidays .entry) (readings .entry) (reads .entry) in
+        (let cells = lentCells (values .entry) (versions .entry) (statuses .entry) (holidays .entry) (readings .entry) (reads .entry) (agreed .entry) («agreed_versions» .entry) in
         (r ≡ answerCode (answer head cells (callOf call)))
-        × (lentCells (values .exit) (versions .exit) (statuses .exit) (holidays .exit) (readings .exit) (reads .exit) ≡ after head cells (callOf call)))
+        × (lentCells (values .exit) (versions .exit) (statuses .exit) (holidays .exit) (readings .exit) (reads .exit) (agreed .exit) («agreed_versions» .exit) ≡ after head cells (callOf call)))
         ⌝ }
 {
     byte_of(calls::fill(
@@ -51,6 +53,8 @@ fn play(
         holidays,
         readings,
         reads,
+        agreed,
+        agreed_versions,
         packing::call_of(call),
     ))
 }
@@ -66,12 +70,14 @@ pub fn play_all(
     holidays: &mut [u8],
     readings: &mut [u32],
     reads: &mut [u32],
+    agreed: &mut [u32],
+    agreed_versions: &mut [u32],
 )
     requires { ⌜ (packedOk (now calls) ≡ true) × (length (now calls) ≡ 5 * length (now answers)) ⌝ }
     ensures { λ _. ⌜
-        (let cells = lentCells (values .entry) (versions .entry) (statuses .entry) (holidays .entry) (readings .entry) (reads .entry) in
+        (let cells = lentCells (values .entry) (versions .entry) (statuses .entry) (holidays .entry) (readings .entry) (reads .entry) (agreed .entry) («agreed_versions» .entry) in
         (now (answers .exit) ≡ map answerCode (answersOf head cells (unpack (now (calls .entry)))))
-        × (lentCells (values .exit) (versions .exit) (statuses .exit) (holidays .exit) (readings .exit) (reads .exit) ≡ afterAll head cells (unpack (now (calls .entry)))))
+        × (lentCells (values .exit) (versions .exit) (statuses .exit) (holidays .exit) (readings .exit) (reads .exit) (agreed .exit) («agreed_versions» .exit) ≡ afterAll head cells (unpack (now (calls .entry)))))
         ⌝ }
 {
     let mut i = 0;
@@ -85,6 +91,8 @@ pub fn play_all(
             holidays,
             readings,
             reads,
+            agreed,
+            agreed_versions,
             call,
         );
         answers[i] = byte;

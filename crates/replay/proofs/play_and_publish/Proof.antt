@@ -40,11 +40,17 @@ same-length-7 c = search needs
 same-length-8 : tie.Need-same-length-8
 same-length-8 c = search needs
 
+same-length-9 : tie.Need-same-length-9
+same-length-9 c = search needs
+
+same-length-10 : tie.Need-same-length-10
+same-length-10 c = search needs
+
 returns : tie.Need-returns
 returns c =
     let at-publish = c .before .before .before in
-    let at-play-all = at-publish .before .before .before .before .before .before .before .before .before .before .before .before .before .before .before .before .before .before .before .before .before .before in
-    let a = at-play-all .before .before .before .before .before .before .before .before .before .before .before .before .before .before .before .before .before .args in
+    let at-play-all = at-publish .before .before .before .before .before .before .before .before .before .before .before .before .before .before .before .before .before .before .before .before .before .before .before .before .before .before .before .before in
+    let a = at-play-all .before .before .before .before .before .before .before .before .before .before .before .before .before .before .before .before .before .before .before .before .before .args in
     let same = at-play-all .play-all .ensures .1 in (
       c .told .ensures ∙ ap publishedMeant (at-publish .publish .ensures .0 ∙ ap (λ (b : Cells). publishAnswer (a .head) b (a .out .now)) same),
       at-play-all .play-all .ensures .0,
@@ -67,4 +73,6 @@ play-and-publish-spec =
     same-length-6
     same-length-7
     same-length-8
+    same-length-9
+    same-length-10
     returns)
