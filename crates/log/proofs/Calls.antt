@@ -9,10 +9,10 @@ use lib.ListN.{length, getD, take, drop, List·getD-map}
 use lib.Seq.{getD-take, length-take-le, take-length}
 use Rattle.log.specs.declared.number.Date.the-variants as date
 use Rattle.log.specs.declared.line.Line.the-variants.{Passed, Open, Fill, NoCall}
-use Rattle.book.specs.declared.calls.Call.the-variants.{Delivery, Holiday, Register}
+use Rattle.book.specs.declared.calls.Call.the-variants.{Delivery, Agreed, Holiday, Register}
 use Rattle.log.specs.Numbers.{valueAfter, valueOf, isDate, dateOf, yearPart, monthPart, dayPart}
 use Rattle.log.specs.Words.{words, same, areNumbers}
-use Rattle.log.specs.Line.{openWord, deliveryWord, holidayWord, registerWord, openOf, deliveryOf, holidayOf, registerOf, callOf, withoutCr, isPassed, lineOf}
+use Rattle.log.specs.Line.{openWord, deliveryWord, holidayWord, registerWord, agreedWord, openOf, deliveryOf, holidayOf, registerOf, agreedOf, callOf, withoutCr, isPassed, lineOf}
 
 -- ---- Fields
 
@@ -33,6 +33,10 @@ pub no-register : (fields : List (List ℕ)) → areNumbers 3 fields ≡ false �
 unfolding registerOf
 no-register fields n = rw n
 
+pub no-agreed : (fields : List (List ℕ)) → areNumbers 3 fields ≡ false → NoCall ≡ agreedOf fields
+unfolding agreedOf
+no-agreed fields n = rw n
+
 module _ (fields : List (List ℕ)) (vs : List ℕ) where
   pub is-delivery : (status : ℕ) → status ≡ min (getD vs 3 0) 255 → areNumbers 4 fields ≡ true → take 4 vs ≡ map valueOf fields
       → Fill (Delivery (getD vs 0 0) (getD vs 1 0) (getD vs 2 0) status) ≡ deliveryOf fields
@@ -49,6 +53,12 @@ module _ (fields : List (List ℕ)) (vs : List ℕ) where
       → Fill (Register (getD vs 0 0) (getD vs 1 0) (getD vs 2 0)) ≡ registerOf fields
   unfolding registerOf
   is-register n e =
+      let at = value-at fields 3 vs e in rw (n, at 0 (omega arith), at 1 (omega arith), at 2 (omega arith))
+
+  pub is-agreed : areNumbers 3 fields ≡ true → take 3 vs ≡ map valueOf fields
+      → Fill (Agreed (getD vs 0 0) (getD vs 1 0) (getD vs 2 0)) ≡ agreedOf fields
+  unfolding agreedOf
+  is-agreed n e =
       let at = value-at fields 3 vs e in rw (n, at 0 (omega arith), at 1 (omega arith), at 2 (omega arith))
 
 -- ---- An opening's date
@@ -119,9 +129,14 @@ module _ (ws : List (List ℕ)) (word : List ℕ) (fields : List (List ℕ)) (e 
         unfolding callOf
         call-register t = rw (e, o, d, h, t)
 
-        pub call-none : same word registerWord ≡ false → NoCall ≡ callOf ws
-        unfolding callOf
-        call-none t = rw (e, o, d, h, t)
+        module _ (r : same word registerWord ≡ false) where
+          pub call-agreed : same word agreedWord ≡ true → agreedOf fields ≡ callOf ws
+          unfolding callOf
+          call-agreed t = rw (e, o, d, h, r, t)
+
+          pub call-none : same word agreedWord ≡ false → NoCall ≡ callOf ws
+          unfolding callOf
+          call-none t = rw (e, o, d, h, r, t)
 
 -- ---- The line's end, comments, and the longest line
 

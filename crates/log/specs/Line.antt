@@ -7,11 +7,11 @@ use lib.ListN.{length, getD, take}
 use Rattle.rules.specs.declared.Head.{Head}
 use Rattle.log.specs.declared.line.Line.{Line}
 use Rattle.log.specs.declared.line.Line.the-variants.{Passed, Open, Fill, NoCall}
-use Rattle.book.specs.declared.calls.Call.the-variants.{Delivery, Holiday, Register}
+use Rattle.book.specs.declared.calls.Call.the-variants.{Delivery, Agreed, Holiday, Register}
 use Rattle.log.specs.Numbers.{valueOf, isDate, yearPart, monthPart, dayPart}
 use Rattle.log.specs.Words.{words, same, areNumbers}
 
--- `open`, `delivery`, `holiday` and `register` in ASCII
+-- `open`, `delivery`, `holiday`, `register` and `agreed` in ASCII
 abbrev pub openWord : List ℕ
 openWord = 111 ∷ 112 ∷ 101 ∷ 110 ∷ []
 
@@ -23,6 +23,9 @@ holidayWord = 104 ∷ 111 ∷ 108 ∷ 105 ∷ 100 ∷ 97 ∷ 121 ∷ []
 
 abbrev pub registerWord : List ℕ
 registerWord = 114 ∷ 101 ∷ 103 ∷ 105 ∷ 115 ∷ 116 ∷ 101 ∷ 114 ∷ []
+
+abbrev pub agreedWord : List ℕ
+agreedWord = 97 ∷ 103 ∷ 114 ∷ 101 ∷ 101 ∷ 100 ∷ []
 
 -- the value of field i, where the first is 0
 abbrev pub value : List (List ℕ) → ℕ → ℕ
@@ -57,6 +60,10 @@ holidayOf fields = cond (areNumbers 1 fields) (Fill (Holiday (value fields 0))) 
 unfoldable pub registerOf : List (List ℕ) → Line
 registerOf fields = cond (areNumbers 3 fields) (Fill (Register (value fields 0) (value fields 1) (value fields 2))) NoCall
 
+-- slot, version, value in Wh (02, W1)
+unfoldable pub agreedOf : List (List ℕ) → Line
+agreedOf fields = cond (areNumbers 3 fields) (Fill (Agreed (value fields 0) (value fields 1) (value fields 2))) NoCall
+
 -- the keyword, then its fields; a line has at least one word
 unfoldable pub callOf : List (List ℕ) → Line
 callOf [] = NoCall
@@ -65,7 +72,8 @@ callOf (word ∷ fields) =
     (cond (same word deliveryWord) (deliveryOf fields)
     (cond (same word holidayWord) (holidayOf fields)
     (cond (same word registerWord) (registerOf fields)
-    NoCall)))
+    (cond (same word agreedWord) (agreedOf fields)
+    NoCall))))
 
 -- a line may end in CR LF
 unfoldable pub withoutCr : List ℕ → List ℕ

@@ -9,7 +9,7 @@ ghost use mathlib.Core.Path.{_≡_};
 ghost use Prim.Native.Nat.{_≤_, min};
 ghost use lib.ListN.{length};
 ghost use Rattle.log.specs.Words.{words as wordsOf};
-ghost use Rattle.log.specs.Line.{openOf, deliveryOf, holidayOf, registerOf, callOf, lineOf};
+ghost use Rattle.log.specs.Line.{openOf, deliveryOf, holidayOf, registerOf, agreedOf, callOf, lineOf};
 ghost use Rattle.log.specs.Inner.Parsing.{piecesAfter, cutAt};
 
 // What a line is.
@@ -96,6 +96,21 @@ fn register_after(line: &[u8], end: usize) -> Line
     })
 }
 
+fn agreed_after(line: &[u8], end: usize) -> Line
+    requires { ⌜ end ≤ length (now line) ⌝ }
+    ensures { λ r. ⌜ r ≡ agreedOf (piecesAfter 32 (now (line .entry)) end) ⌝ }
+{
+    let fields = words::values_after(line, end, 3);
+    if !fields.good {
+        return Line::NoCall;
+    }
+    Line::Fill(Call::Agreed {
+        slot: fields.values[0],
+        version: fields.values[1],
+        value: fields.values[2],
+    })
+}
+
 fn call_of(line: &[u8]) -> Line
     ensures { λ r. ⌜ r ≡ callOf (wordsOf (now (line .entry))) ⌝ }
 {
@@ -112,6 +127,9 @@ fn call_of(line: &[u8]) -> Line
     }
     if words::is_same(word, b"register") {
         return register_after(line, end);
+    }
+    if words::is_same(word, b"agreed") {
+        return agreed_after(line, end);
     }
     Line::NoCall
 }

@@ -187,20 +187,32 @@ fn play_closed(
     holidays: &mut [u8],
     readings: &mut [u32],
     reads: &mut [u32],
+    agreed: &mut [u32],
+    agreed_versions: &mut [u32],
     line: Line,
 ) -> Played
     ensures { λ r. ⌜
         (let cells =
-        lentCells (values .entry) (versions .entry) (statuses .entry) (holidays .entry) (readings .entry) (reads .entry) in
+        lentCells (values .entry) (versions .entry) (statuses .entry) (holidays .entry) (readings .entry) (reads .entry) (agreed .entry) («agreed_versions» .entry) in
         (r ≡ playedClosed run cells line)
-        × (lentCells (values .exit) (versions .exit) (statuses .exit) (holidays .exit) (readings .exit) (reads .exit)
+        × (lentCells (values .exit) (versions .exit) (statuses .exit) (holidays .exit) (readings .exit) (reads .exit) (agreed .exit) («agreed_versions» .exit)
         ≡ closedCells cells line))
         ⌝ }
 {
     match line {
         Line::Passed => quiet(run, Stage::Closed),
         Line::Open(head) => {
-            let opened = book::open(head, values, versions, statuses, holidays, readings, reads);
+            let opened = book::open(
+                head,
+                values,
+                versions,
+                statuses,
+                holidays,
+                readings,
+                reads,
+                agreed,
+                agreed_versions,
+            );
             after_opening(run, head, opened)
         }
         Line::Fill(_) => quiet(run, Stage::Unfit),
@@ -217,13 +229,15 @@ fn play_open(
     holidays: &mut [u8],
     readings: &mut [u32],
     reads: &mut [u32],
+    agreed: &mut [u32],
+    agreed_versions: &mut [u32],
     line: Line,
 ) -> Played
     ensures { λ r. ⌜
         (let cells =
-        lentCells (values .entry) (versions .entry) (statuses .entry) (holidays .entry) (readings .entry) (reads .entry) in
+        lentCells (values .entry) (versions .entry) (statuses .entry) (holidays .entry) (readings .entry) (reads .entry) (agreed .entry) («agreed_versions» .entry) in
         (r ≡ playedOpen run cells line)
-        × (lentCells (values .exit) (versions .exit) (statuses .exit) (holidays .exit) (readings .exit) (reads .exit)
+        × (lentCells (values .exit) (versions .exit) (statuses .exit) (holidays .exit) (readings .exit) (reads .exit) (agreed .exit) («agreed_versions» .exit)
         ≡ openCells run cells line))
         ⌝ }
 {
@@ -240,6 +254,8 @@ fn play_open(
                 holidays,
                 readings,
                 reads,
+                agreed,
+                agreed_versions,
                 call,
             );
             after_filling(run, filed)
@@ -257,13 +273,15 @@ pub fn play(
     holidays: &mut [u8],
     readings: &mut [u32],
     reads: &mut [u32],
+    agreed: &mut [u32],
+    agreed_versions: &mut [u32],
     line: Line,
 ) -> Played
     ensures { λ r. ⌜
         (let cells =
-        lentCells (values .entry) (versions .entry) (statuses .entry) (holidays .entry) (readings .entry) (reads .entry) in
+        lentCells (values .entry) (versions .entry) (statuses .entry) (holidays .entry) (readings .entry) (reads .entry) (agreed .entry) («agreed_versions» .entry) in
         (r ≡ played run cells line)
-        × (lentCells (values .exit) (versions .exit) (statuses .exit) (holidays .exit) (readings .exit) (reads .exit)
+        × (lentCells (values .exit) (versions .exit) (statuses .exit) (holidays .exit) (readings .exit) (reads .exit) (agreed .exit) («agreed_versions» .exit)
         ≡ playedCells run cells line))
         ⌝ }
 {
@@ -277,6 +295,8 @@ pub fn play(
             holidays,
             readings,
             reads,
+            agreed,
+            agreed_versions,
             line,
         ),
         Stage::Open => play_open(
@@ -287,6 +307,8 @@ pub fn play(
             holidays,
             readings,
             reads,
+            agreed,
+            agreed_versions,
             line,
         ),
         Stage::Unfit => Played {

@@ -130,6 +130,8 @@ pub fn play_log(
     holidays: &mut [u8],
     readings: &mut [u32],
     reads: &mut [u32],
+    agreed: &mut [u32],
+    agreed_versions: &mut [u32],
 ) -> Ended
     requires { ⌜ Held (lead .first .source) (length (now block)) (length (now part)) ⌝ }
 {
@@ -147,6 +149,8 @@ pub fn play_log(
             holidays,
             readings,
             reads,
+            agreed,
+            agreed_versions,
             line,
         );
         run = played.run;

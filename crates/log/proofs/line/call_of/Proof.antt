@@ -2,7 +2,7 @@
 use mathlib.Core.Path.{sym, _∙_}
 use lib.Seq.{length-take-le}
 use Rattle.log.proofs.Splitting.{pieces}
-use Rattle.log.proofs.Calls.{first-word, call-open, call-delivery, call-holiday, call-register, call-none}
+use Rattle.log.proofs.Calls.{first-word, call-open, call-delivery, call-holiday, call-register, call-agreed, call-none}
 use borrow.Author.Needs.{needs}
 use Rattle.log.proofs.line.call_of.Statement.{statement}
 use Rattle.log.proofs.line.call_of.Tie as tie
@@ -61,8 +61,20 @@ register-after-requires c κs = search needs
 returns-4 : tie.Need-returns-4
 returns-4 c = c .register-after .ensures ∙ call-register _ _ _ (first-word _ (c .before .before .before .before .before .before .before .before .before .before .before .before .before .before .end-of .result) _ (pieces 32 _ _ (c .before .before .before .before .before .before .before .before .before .before .before .before .before .before .end-of .result) (c .before .before .before .before .before .before .before .before .before .before .before .before .before .before .end-of .ensures .2))) (sym (c .before .before .before .before .before .before .before .before .before .before .before .is-same .ensures) ∙ c .before .before .before .before .before .before .before .before .before .before .if1 .left) (sym (c .before .before .before .before .before .before .before .before .is-same2 .ensures) ∙ c .before .before .before .before .before .before .before .if2 .left) (sym (c .before .before .before .before .before .is-same3 .ensures) ∙ c .before .before .before .before .if3 .left) (sym (c .before .before .is-same4 .ensures) ∙ c .before .if4 .taken)
 
+slice-aggregate-is-same-5 : tie.Need-slice-aggregate-is-same-5
+slice-aggregate-is-same-5 c = search needs
+
+is-same-requires-5 : tie.Need-is-same-requires-5
+is-same-requires-5 c κs = search needs
+
+agreed-after-requires : tie.Need-agreed-after-requires
+agreed-after-requires c κs = search needs
+
 returns-5 : tie.Need-returns-5
-returns-5 c = call-none _ _ _ (first-word _ (c .before .before .before .before .before .before .before .before .before .before .before .before .before .end-of .result) _ (pieces 32 _ _ (c .before .before .before .before .before .before .before .before .before .before .before .before .before .end-of .result) (c .before .before .before .before .before .before .before .before .before .before .before .before .before .end-of .ensures .2))) (sym (c .before .before .before .before .before .before .before .before .before .before .is-same .ensures) ∙ c .before .before .before .before .before .before .before .before .before .if1 .left) (sym (c .before .before .before .before .before .before .before .is-same2 .ensures) ∙ c .before .before .before .before .before .before .if2 .left) (sym (c .before .before .before .before .is-same3 .ensures) ∙ c .before .before .before .if3 .left) (sym (c .before .is-same4 .ensures) ∙ c .if4 .left)
+returns-5 c = c .agreed-after .ensures ∙ call-agreed _ _ _ (first-word _ (c .before .before .before .before .before .before .before .before .before .before .before .before .before .before .before .before .before .end-of .result) _ (pieces 32 _ _ (c .before .before .before .before .before .before .before .before .before .before .before .before .before .before .before .before .before .end-of .result) (c .before .before .before .before .before .before .before .before .before .before .before .before .before .before .before .before .before .end-of .ensures .2))) (sym (c .before .before .before .before .before .before .before .before .before .before .before .before .before .before .is-same .ensures) ∙ c .before .before .before .before .before .before .before .before .before .before .before .before .before .if1 .left) (sym (c .before .before .before .before .before .before .before .before .before .before .before .is-same2 .ensures) ∙ c .before .before .before .before .before .before .before .before .before .before .if2 .left) (sym (c .before .before .before .before .before .before .before .before .is-same3 .ensures) ∙ c .before .before .before .before .before .before .before .if3 .left) (sym (c .before .before .before .before .before .is-same4 .ensures) ∙ c .before .before .before .before .if4 .left) (sym (c .before .before .is-same5 .ensures) ∙ c .before .if5 .taken)
+
+returns-6 : tie.Need-returns-6
+returns-6 c = call-none _ _ _ (first-word _ (c .before .before .before .before .before .before .before .before .before .before .before .before .before .before .before .before .end-of .result) _ (pieces 32 _ _ (c .before .before .before .before .before .before .before .before .before .before .before .before .before .before .before .before .end-of .result) (c .before .before .before .before .before .before .before .before .before .before .before .before .before .before .before .before .end-of .ensures .2))) (sym (c .before .before .before .before .before .before .before .before .before .before .before .before .before .is-same .ensures) ∙ c .before .before .before .before .before .before .before .before .before .before .before .before .if1 .left) (sym (c .before .before .before .before .before .before .before .before .before .before .is-same2 .ensures) ∙ c .before .before .before .before .before .before .before .before .before .if2 .left) (sym (c .before .before .before .before .before .before .before .is-same3 .ensures) ∙ c .before .before .before .before .before .before .if3 .left) (sym (c .before .before .before .before .is-same4 .ensures) ∙ c .before .before .before .if4 .left) (sym (c .before .is-same5 .ensures) ∙ c .if5 .left)
 
 pub call-of-spec : {M : Type 1} → statement M
 call-of-spec =
@@ -86,4 +98,8 @@ call-of-spec =
     is-same-requires-4
     register-after-requires
     returns-4
-    returns-5)
+    slice-aggregate-is-same-5
+    is-same-requires-5
+    agreed-after-requires
+    returns-5
+    returns-6)

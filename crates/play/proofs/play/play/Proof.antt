@@ -41,14 +41,14 @@ same-length-5 c = search needs
 same-length-6 : tie.Need-same-length-6
 same-length-6 c = search needs
 
-returns : tie.Need-returns
-returns c = stage-as _ _ _ _ _ _ (c .before .before .before .before .before .before .before .before .before .before .before .before .before .before .before .before .before .before .before .enum-told .given .1) (c .before .before .before .before .before .before .before .before .before .before .before .before .play-closed .ensures .0) (c .before .before .before .before .before .before .before .before .before .before .before .before .play-closed .ensures .1)
-
 same-length-7 : tie.Need-same-length-7
 same-length-7 c = search needs
 
 same-length-8 : tie.Need-same-length-8
 same-length-8 c = search needs
+
+returns : tie.Need-returns
+returns c = stage-as _ _ _ _ _ _ (c .before .before .before .before .before .before .before .before .before .before .before .before .before .before .before .before .before .before .before .before .before .before .before .before .before .enum-told .given .1) (c .before .before .before .before .before .before .before .before .before .before .before .before .before .before .before .before .play-closed .ensures .0) (c .before .before .before .before .before .before .before .before .before .before .before .before .before .before .before .before .play-closed .ensures .1)
 
 same-length-9 : tie.Need-same-length-9
 same-length-9 c = search needs
@@ -62,8 +62,20 @@ same-length-11 c = search needs
 same-length-12 : tie.Need-same-length-12
 same-length-12 c = search needs
 
+same-length-13 : tie.Need-same-length-13
+same-length-13 c = search needs
+
+same-length-14 : tie.Need-same-length-14
+same-length-14 c = search needs
+
+same-length-15 : tie.Need-same-length-15
+same-length-15 c = search needs
+
+same-length-16 : tie.Need-same-length-16
+same-length-16 c = search needs
+
 returns-2 : tie.Need-returns-2
-returns-2 c = stage-as _ _ _ _ _ _ (c .before .before .before .before .before .before .before .before .before .before .before .before .before .before .before .before .before .before .before .enum-told2 .given .1) (c .before .before .before .before .before .before .before .before .before .before .before .before .play-open .ensures .0) (c .before .before .before .before .before .before .before .before .before .before .before .before .play-open .ensures .1)
+returns-2 c = stage-as _ _ _ _ _ _ (c .before .before .before .before .before .before .before .before .before .before .before .before .before .before .before .before .before .before .before .before .before .before .before .before .before .enum-told2 .given .1) (c .before .before .before .before .before .before .before .before .before .before .before .before .before .before .before .before .play-open .ensures .0) (c .before .before .before .before .before .before .before .before .before .before .before .before .before .before .before .before .play-open .ensures .1)
 
 returns-3 : tie.Need-returns-3
 returns-3 c = stage-as _ _ _ _ _ _ (c .enum-told3 .given .1) refl refl
@@ -87,13 +99,17 @@ play-spec =
     same-length-4
     same-length-5
     same-length-6
-    returns
     same-length-7
     same-length-8
+    returns
     same-length-9
     same-length-10
     same-length-11
     same-length-12
+    same-length-13
+    same-length-14
+    same-length-15
+    same-length-16
     returns-2
     returns-3
     returns-4)

@@ -56,11 +56,17 @@ same-length-5 c = search needs
 same-length-6 : tie.Need-same-length-6
 same-length-6 c = search needs
 
+same-length-7 : tie.Need-same-length-7
+same-length-7 c = search needs
+
+same-length-8 : tie.Need-same-length-8
+same-length-8 c = search needs
+
 returns-2 : tie.Need-returns-2
 unfolding playedClosed closedCells
-returns-2 c = let e = c .before .before .before .before .before .before .before .before .before .before .before .before .before .«open» .ensures in
-    opening-as _ _ _ _ _ _ _ (c .before .before .before .before .before .before .before .before .before .before .before .before .before .before .before .before .before .before .before .before .before .line .given .1) (c .after-opening .ensures) (e .0)
-    (λ t. record { slots = record { values = e .1 .0 t; versions = e .1 .1 t; statuses = e .1 .2 t }; holidays = e .1 .3 t; readings = e .1 .4 t; readVersions = e .1 .5 t })
+returns-2 c = let e = c .before .before .before .before .before .before .before .before .before .before .before .before .before .before .before .before .before .«open» .ensures in
+    opening-as _ _ _ _ _ _ _ (c .before .before .before .before .before .before .before .before .before .before .before .before .before .before .before .before .before .before .before .before .before .before .before .before .before .before .before .line .given .1) (c .after-opening .ensures) (e .0)
+    (λ t. record { slots = record { values = e .1 .0 t; versions = e .1 .1 t; statuses = e .1 .2 t }; holidays = e .1 .3 t; readings = e .1 .4 t; readVersions = e .1 .5 t; agreed = record { values = e .1 .6 t; versions = e .1 .7 t } })
 
 returns-3 : tie.Need-returns-3
 unfolding playedClosed closedCells
@@ -90,6 +96,8 @@ play-closed-spec =
     same-length-4
     same-length-5
     same-length-6
+    same-length-7
+    same-length-8
     returns-2
     returns-3
     returns-4)

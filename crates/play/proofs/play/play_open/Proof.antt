@@ -59,9 +59,15 @@ same-length-5 c = search needs
 same-length-6 : tie.Need-same-length-6
 same-length-6 c = search needs
 
+same-length-7 : tie.Need-same-length-7
+same-length-7 c = search needs
+
+same-length-8 : tie.Need-same-length-8
+same-length-8 c = search needs
+
 returns-3 : tie.Need-returns-3
 unfolding playedOpen openCells
-returns-3 c = open-as _ _ _ _ _ _ (c .before .before .before .before .before .before .before .before .before .before .before .before .before .before .before .before .before .before .before .before .before .before .line .given .1) (c .after-filling .ensures ∙ ap (afterFilling (c .before .before .before .before .before .before .before .before .before .before .before .before .before .before .before .before .before .before .before .before .before .before .before .before .before .before .before .before .before .before .args .run)) (c .before .before .before .before .before .before .before .before .before .before .before .before .before .fill .ensures .0)) (c .before .before .before .before .before .before .before .before .before .before .before .before .before .fill .ensures .1)
+returns-3 c = open-as _ _ _ _ _ _ (c .before .before .before .before .before .before .before .before .before .before .before .before .before .before .before .before .before .before .before .before .before .before .before .before .before .before .before .before .line .given .1) (c .after-filling .ensures ∙ ap (afterFilling (c .before .before .before .before .before .before .before .before .before .before .before .before .before .before .before .before .before .before .before .before .before .before .before .before .before .before .before .before .before .before .before .before .before .before .before .before .before .before .args .run)) (c .before .before .before .before .before .before .before .before .before .before .before .before .before .before .before .before .before .fill .ensures .0)) (c .before .before .before .before .before .before .before .before .before .before .before .before .before .before .before .before .before .fill .ensures .1)
 
 returns-4 : tie.Need-returns-4
 unfolding playedOpen openCells
@@ -88,5 +94,7 @@ play-open-spec =
     same-length-4
     same-length-5
     same-length-6
+    same-length-7
+    same-length-8
     returns-3
     returns-4)
