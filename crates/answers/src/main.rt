@@ -78,6 +78,8 @@ fn answer_log(
     holidays: &mut [u8],
     readings: &mut [u32],
     reads: &mut [u32],
+    agreed: &mut [u32],
+    agreed_versions: &mut [u32],
 )
     requires { ⌜ Held (lead .first .source) (length (now block)) (length (now part)) ⌝ }
 {
@@ -96,6 +98,8 @@ fn answer_log(
         holidays,
         readings,
         reads,
+        agreed,
+        agreed_versions,
     );
     if !program::is_done(end) {
         return;
@@ -114,6 +118,8 @@ fn main() {
     let mut holidays = [0u8; 400];
     let mut readings = [0u32; 401];
     let mut reads = [0u32; 401];
+    let mut agreed = [0u32; 115200];
+    let mut agreed_versions = [0u32; 115200];
     let mut block = io::large_buffer();
     let mut part = [0u8; 257];
     // Standard input is read before the temporary file is made, which would take its place where it is closed.
@@ -137,5 +143,7 @@ fn main() {
         &mut holidays[..days],
         &mut readings[..boundaries],
         &mut reads[..boundaries],
+        &mut agreed[..slots],
+        &mut agreed_versions[..slots],
     );
 }

@@ -24,6 +24,8 @@ fn write_file(
     holidays: &[u8],
     readings: &[u32],
     reads: &[u32],
+    agreed: &[u32],
+    agreed_versions: &[u32],
 ) {
     let mut out = file_buffer();
     match publishing::publish(
@@ -34,6 +36,8 @@ fn write_file(
         holidays,
         readings,
         reads,
+        agreed,
+        agreed_versions,
         &mut out,
     ) {
         Published::Length(n) => {
@@ -68,6 +72,8 @@ fn publish_log(
     holidays: &mut [u8],
     readings: &mut [u32],
     reads: &mut [u32],
+    agreed: &mut [u32],
+    agreed_versions: &mut [u32],
 )
     requires { ⌜ Held (lead .first .source) (length (now block)) (length (now part)) ⌝ }
 {
@@ -82,6 +88,8 @@ fn publish_log(
         holidays,
         readings,
         reads,
+        agreed,
+        agreed_versions,
     );
     if !program::is_done(end) {
         return;
@@ -95,6 +103,8 @@ fn publish_log(
         holidays,
         readings,
         reads,
+        agreed,
+        agreed_versions,
     );
     tell_refused(run.refused);
 }
@@ -106,6 +116,8 @@ fn main() {
     let mut holidays = [0u8; 400];
     let mut readings = [0u32; 401];
     let mut reads = [0u32; 401];
+    let mut agreed = [0u32; 115200];
+    let mut agreed_versions = [0u32; 115200];
     let mut block = io::large_buffer();
     let mut part = [0u8; 257];
     let lead = program::read_lead(&mut block, &mut part);
@@ -125,5 +137,7 @@ fn main() {
         &mut holidays[..days],
         &mut readings[..boundaries],
         &mut reads[..boundaries],
+        &mut agreed[..slots],
+        &mut agreed_versions[..slots],
     );
 }

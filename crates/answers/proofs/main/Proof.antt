@@ -65,6 +65,18 @@ array-borrow-prefix-reads c = search needs
 slice-aggregate-answer-log-8 : tie.Need-slice-aggregate-answer-log-8
 slice-aggregate-answer-log-8 c = sym (length-take-le _ _ (array-borrow-prefix-reads (c .before)))
 
+array-borrow-prefix-agreed : tie.Need-array-borrow-prefix-agreed
+array-borrow-prefix-agreed c = search needs
+
+slice-aggregate-answer-log-9 : tie.Need-slice-aggregate-answer-log-9
+slice-aggregate-answer-log-9 c = sym (length-take-le _ _ (array-borrow-prefix-agreed (c .before)))
+
+array-borrow-prefix-agreed-versions : tie.Need-array-borrow-prefix-agreed-versions
+array-borrow-prefix-agreed-versions c = search needs
+
+slice-aggregate-answer-log-10 : tie.Need-slice-aggregate-answer-log-10
+slice-aggregate-answer-log-10 c = sym (length-take-le _ _ (array-borrow-prefix-agreed-versions (c .before)))
+
 answer-log-requires : tie.Need-answer-log-requires
 answer-log-requires c κs = search needs
 
@@ -95,5 +107,9 @@ main-spec =
     slice-aggregate-answer-log-7
     array-borrow-prefix-reads
     slice-aggregate-answer-log-8
+    array-borrow-prefix-agreed
+    slice-aggregate-answer-log-9
+    array-borrow-prefix-agreed-versions
+    slice-aggregate-answer-log-10
     answer-log-requires
     returns-2)

@@ -62,6 +62,18 @@ array-borrow-prefix-reads c = search needs
 slice-aggregate-publish-log-8 : tie.Need-slice-aggregate-publish-log-8
 slice-aggregate-publish-log-8 c = sym (length-take-le _ _ (array-borrow-prefix-reads (c .before)))
 
+array-borrow-prefix-agreed : tie.Need-array-borrow-prefix-agreed
+array-borrow-prefix-agreed c = search needs
+
+slice-aggregate-publish-log-9 : tie.Need-slice-aggregate-publish-log-9
+slice-aggregate-publish-log-9 c = sym (length-take-le _ _ (array-borrow-prefix-agreed (c .before)))
+
+array-borrow-prefix-agreed-versions : tie.Need-array-borrow-prefix-agreed-versions
+array-borrow-prefix-agreed-versions c = search needs
+
+slice-aggregate-publish-log-10 : tie.Need-slice-aggregate-publish-log-10
+slice-aggregate-publish-log-10 c = sym (length-take-le _ _ (array-borrow-prefix-agreed-versions (c .before)))
+
 publish-log-requires : tie.Need-publish-log-requires
 publish-log-requires c κs = search needs
 
@@ -91,5 +103,9 @@ main-spec =
     slice-aggregate-publish-log-7
     array-borrow-prefix-reads
     slice-aggregate-publish-log-8
+    array-borrow-prefix-agreed
+    slice-aggregate-publish-log-9
+    array-borrow-prefix-agreed-versions
+    slice-aggregate-publish-log-10
     publish-log-requires
     returns)
