@@ -11,7 +11,7 @@
 #define HEAD 2024, 5, 1, DAYS, 30, 1, 0
 #define LENGTH (6 * SLOTS + 10 + 32)
 
-static uint32_t values[SLOTS], versions[SLOTS], readings[DAYS + 1], reads[DAYS + 1];
+static uint32_t values[SLOTS], versions[SLOTS], readings[DAYS + 1], reads[DAYS + 1], agreed[SLOTS], agreed_versions[SLOTS];
 static uint8_t statuses[SLOTS], holidays[DAYS], file[LENGTH];
 static uint64_t figures[SAWMAUVE_FIGURES];
 
@@ -37,7 +37,8 @@ int main(void)
 
     EXPECT(
         sawmauve_open(
-            HEAD, values, SLOTS, versions, SLOTS, statuses, SLOTS, holidays, DAYS, readings, DAYS + 1, reads, DAYS + 1)
+            HEAD, values, SLOTS, versions, SLOTS, statuses, SLOTS, holidays, DAYS, readings, DAYS + 1, reads, DAYS + 1, agreed,
+            SLOTS, agreed_versions, SLOTS)
         == SAWMAUVE_DONE);
     for (uint32_t slot = 0; slot < SLOTS; slot++)
         EXPECT(
@@ -61,8 +62,8 @@ int main(void)
 
     EXPECT(
         sawmauve_publish(
-            HEAD, values, SLOTS, versions, SLOTS, statuses, SLOTS, holidays, DAYS, readings, DAYS + 1, reads, DAYS + 1, file,
-            LENGTH)
+            HEAD, values, SLOTS, versions, SLOTS, statuses, SLOTS, holidays, DAYS, readings, DAYS + 1, reads, DAYS + 1, agreed,
+            SLOTS, agreed_versions, SLOTS, file, LENGTH)
         == LENGTH);
     EXPECT(sawmauve_read(file, LENGTH, figures, SAWMAUVE_FIGURES) == SAWMAUVE_DONE);
 

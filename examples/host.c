@@ -1,4 +1,4 @@
-/* The case 'Whole' from C: a day of half hours from 2024-05-01, every slot but 10 delivered as 100. */
+/* The case 'Whole' from C: a day of half hours from 2024-05-01, every slot but 10 delivered as 100. Then slot 10 is agreed. */
 #include <inttypes.h>
 #include <stdio.h>
 #include <string.h>
@@ -11,7 +11,7 @@
 #define HEAD 2024, 5, 1, DAYS, 30, 1, 0
 #define LENGTH (6 * SLOTS + 32)
 
-static uint32_t values[SLOTS], versions[SLOTS], readings[DAYS + 1], reads[DAYS + 1];
+static uint32_t values[SLOTS], versions[SLOTS], readings[DAYS + 1], reads[DAYS + 1], agreed[SLOTS], agreed_versions[SLOTS];
 static uint8_t statuses[SLOTS], holidays[DAYS], out[LENGTH + 1];
 static uint64_t figures[SAWMAUVE_FIGURES];
 
@@ -20,10 +20,16 @@ static uint32_t deliver(uint32_t slot, uint32_t version, uint32_t value)
     return sawmauve_deliver(HEAD, values, SLOTS, versions, SLOTS, statuses, SLOTS, slot, version, value, 0);
 }
 
+static uint32_t agree(uint32_t slot, uint32_t version, uint32_t value)
+{
+    return sawmauve_agree(HEAD, agreed, SLOTS, agreed_versions, SLOTS, slot, version, value);
+}
+
 static uint64_t publish(size_t room)
 {
     return sawmauve_publish(
-        HEAD, values, SLOTS, versions, SLOTS, statuses, SLOTS, holidays, DAYS, readings, DAYS + 1, reads, DAYS + 1, out, room);
+        HEAD, values, SLOTS, versions, SLOTS, statuses, SLOTS, holidays, DAYS, readings, DAYS + 1, reads, DAYS + 1, agreed, SLOTS,
+        agreed_versions, SLOTS, out, room);
 }
 
 int main(void)
@@ -36,9 +42,11 @@ int main(void)
     memset(values, 0xFF, sizeof values);
     memset(reads, 0xFF, sizeof reads);
     memset(statuses, 0xFF, sizeof statuses);
+    memset(agreed, 0xFF, sizeof agreed);
     EXPECT(
         sawmauve_open(
-            HEAD, values, SLOTS, versions, SLOTS, statuses, SLOTS, holidays, DAYS, readings, DAYS + 1, reads, DAYS + 1)
+            HEAD, values, SLOTS, versions, SLOTS, statuses, SLOTS, holidays, DAYS, readings, DAYS + 1, reads, DAYS + 1, agreed,
+            SLOTS, agreed_versions, SLOTS)
         == SAWMAUVE_DONE);
     for (uint32_t slot = 0; slot < SLOTS; slot++)
         if (slot != 10)
@@ -72,5 +80,18 @@ int main(void)
         figures[SAWMAUVE_SUBSTITUTED], figures[SAWMAUVE_NONE], figures[SAWMAUVE_SUM]);
     puts(line);
     EXPECT(strcmp(line, "8887 1 30 47 1 0 4800") == 0);
+    EXPECT(figures[SAWMAUVE_LAYOUT] == 1);
+
+    /* Slot 10 is settled with the skipper; a good slot keeps what was delivered. The file has layout 2. */
+    EXPECT(agree(10, 1, 100000000) == 12);
+    EXPECT(agree(10, 2, 600) == SAWMAUVE_STORED);
+    EXPECT(agree(10, 1, 700) == SAWMAUVE_LATE);
+    EXPECT(agree(10, 2, 600) == SAWMAUVE_REPEAT);
+    EXPECT(agree(10, 2, 700) == 10);
+    EXPECT(agree(11, 1, 700) == SAWMAUVE_STORED);
+    EXPECT(publish(sizeof out) == LENGTH);
+    EXPECT(sawmauve_read(out, LENGTH, figures, SAWMAUVE_FIGURES) == SAWMAUVE_DONE);
+    EXPECT(figures[SAWMAUVE_LAYOUT] == 2 && figures[SAWMAUVE_SUBSTITUTED] == 1 && figures[SAWMAUVE_SUM] == 5300);
+    EXPECT(out[64] == 'F' && out[65] == 5);
     return 0;
 }

@@ -1,4 +1,4 @@
-/* The berth meter book for C: the twelve exports of the crate host.
+/* The berth meter book for C: the thirteen exports of the crate host.
  *
  * A list is a pointer and its number of elements. The lists of one call must not overlap, and no other thread may write
  * them meanwhile: the proofs rest on it. A refused call changes no list.
@@ -15,6 +15,7 @@
  *    9  reader: anything else in the file broken
  *   10  conflict: equal version, other content
  *   11  a cell that no calls could leave
+ *   12  agreed value over 99,999,999
  *   16  a half byte above 9
  *   18  more than 64 pairs, a pair list of odd length, or another number of totals than of pairs
  *   19  a pair whose first day is not below its second, or whose second exceeds D
@@ -49,17 +50,18 @@ extern "C" {
 #define SAWMAUVE_INTERVAL 2    /* L */
 #define SAWMAUVE_SPANS 3       /* M */
 #define SAWMAUVE_ACTUAL 4      /* count of A slots */
-#define SAWMAUVE_SUBSTITUTED 5 /* count of S slots */
+#define SAWMAUVE_SUBSTITUTED 5 /* count of S and F slots */
 #define SAWMAUVE_NONE 6        /* count of N slots */
 #define SAWMAUVE_SUM 7         /* sum of all slot values, in Wh */
-#define SAWMAUVE_FIGURES 8     /* how many there are */
+#define SAWMAUVE_LAYOUT 8      /* 2 where a slot is F, else 1 */
+#define SAWMAUVE_FIGURES 9     /* how many there are */
 
 /* The head, which every call of a book is given: first day, D (1 to 400), L (5, 15 or 30), kind (1 or 2), tolerance in Wh. */
 #define SAWMAUVE_HEAD \
     uint32_t year, uint32_t month, uint32_t day, uint32_t days, uint32_t interval, uint32_t kind, uint32_t tolerance
 
-/* Opens a book: sets all cells to 0. values, versions and statuses are N = 1440 / L * D long, holidays D, readings and
- * reads (the register versions) D + 1. 0, or 1 or 2. */
+/* Opens a book: sets all cells to 0. values, versions, statuses, agreed and agreed_versions are N = 1440 / L * D long,
+ * holidays D, readings and reads (the register versions) D + 1. 0, or 1 or 2. */
 uint32_t sawmauve_open(
     SAWMAUVE_HEAD,
     uint32_t *values, size_t values_len,
@@ -67,7 +69,9 @@ uint32_t sawmauve_open(
     uint8_t *statuses, size_t statuses_len,
     uint8_t *holidays, size_t holidays_len,
     uint32_t *readings, size_t readings_len,
-    uint32_t *reads, size_t reads_len);
+    uint32_t *reads, size_t reads_len,
+    uint32_t *agreed, size_t agreed_len,
+    uint32_t *agreed_versions, size_t agreed_versions_len);
 
 /* A delivery for a slot. Status bits: 0 time change, 1 power outage, 2 partial interval. 0, 100 or 101, or 1 to 5, 10, 11. */
 uint32_t sawmauve_deliver(
@@ -76,6 +80,14 @@ uint32_t sawmauve_deliver(
     uint32_t *versions, size_t versions_len,
     uint8_t *statuses, size_t statuses_len,
     uint32_t slot, uint32_t version, uint32_t value, uint8_t status);
+
+/* A value agreed with the skipper for a slot, up to 99,999,999 Wh, by the version rule of a delivery. It is published where the
+ * slot has a cause. 0, 100 or 101, or 1 to 4, 10, 11, 12. */
+uint32_t sawmauve_agree(
+    SAWMAUVE_HEAD,
+    uint32_t *agreed, size_t agreed_len,
+    uint32_t *agreed_versions, size_t agreed_versions_len,
+    uint32_t slot, uint32_t version, uint32_t value);
 
 /* A holiday: day `at` of the book, from 0. 0 or 101, or 1, 2, 3, 11. */
 uint32_t sawmauve_holiday(
@@ -99,9 +111,11 @@ uint64_t sawmauve_publish(
     const uint8_t *holidays, size_t holidays_len,
     const uint32_t *readings, size_t readings_len,
     const uint32_t *reads, size_t reads_len,
+    const uint32_t *agreed, size_t agreed_len,
+    const uint32_t *agreed_versions, size_t agreed_versions_len,
     uint8_t *out, size_t out_len);
 
-/* Reads a file: 0 and the figures; or 8 or 9, or 2 where figures_len is not 8, and the figures stay as they were. */
+/* Reads a file: 0 and the figures; or 8 or 9, or 2 where figures_len is not 9, and the figures stay as they were. */
 uint32_t sawmauve_read(
     const uint8_t *bytes, size_t bytes_len,
     uint64_t *figures, size_t figures_len);

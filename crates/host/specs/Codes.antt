@@ -36,16 +36,16 @@ readCode (verdict.Refused n) = n
 -- in the order of the trailer
 abbrev pub figuresList : Figures → List ℕ
 figuresList g =
-    g .first ∷ g .days ∷ g .interval ∷ g .spans ∷ g .actual ∷ g .substituted ∷ g .none ∷ g .sum ∷ []
+    g .first ∷ g .days ∷ g .interval ∷ g .spans ∷ g .actual ∷ g .substituted ∷ g .none ∷ g .sum ∷ g .layout ∷ []
 
--- what a list of eight places holds after a verdict
+-- what a list of nine places holds after a verdict
 abbrev pub figuresIn : Verdict → List ℕ → List ℕ
 figuresIn (verdict.Accepted g) held = figuresList g
 figuresIn (verdict.Refused n) held = held
 
--- 2, as for any list of a wrong length, where there are not eight places for the figures
+-- 2, as for any list of a wrong length, where there are not nine places for the figures
 unfoldable pub readAnswer : List ℕ → List ℕ → ℕ
-readAnswer bytes held = cond (eqb (length held) 8) (readCode (readFile bytes)) 2
+readAnswer bytes held = cond (eqb (length held) 9) (readCode (readFile bytes)) 2
 
 unfoldable pub figuresAfter : List ℕ → List ℕ → List ℕ
-figuresAfter bytes held = cond (eqb (length held) 8) (figuresIn (readFile bytes) held) held
+figuresAfter bytes held = cond (eqb (length held) 9) (figuresIn (readFile bytes) held) held

@@ -32,10 +32,16 @@ same-length-5 c = search needs
 same-length-6 : tie.Need-same-length-6
 same-length-6 c = search needs
 
+same-length-7 : tie.Need-same-length-7
+same-length-7 c = search needs
+
+same-length-8 : tie.Need-same-length-8
+same-length-8 c = search needs
+
 returns : tie.Need-returns
 returns c =
-    let o = c .before .before .before .before .before .before .before .before .before .before .before .before .before in
-    let h = rw (o .before .before .before .before .before .before .before .head-of .ensures) at (o .«open» .ensures) in
+    let o = c .before .before .before .before .before .before .before .before .before .before .before .before .before .before .before .before .before in
+    let h = rw (o .before .before .before .before .before .before .before .before .before .head-of .ensures) at (o .«open» .ensures) in
     (c .opened-code .ensures ∙ ap answerCode (h .0), h .1)
 
 pub sawmauve-open-spec : {M : Type 1} → statement M
@@ -51,4 +57,6 @@ sawmauve-open-spec =
     same-length-4
     same-length-5
     same-length-6
+    same-length-7
+    same-length-8
     returns)

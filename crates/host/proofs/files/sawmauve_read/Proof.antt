@@ -1,4 +1,4 @@
--- `sawmauve_read`: eight places hold the figures of an accepted file; a refused file leaves them, and so does a list of another length.
+-- `sawmauve_read`: nine places hold the figures of an accepted file; a refused file leaves them, and so does a list of another length.
 use mathlib.Core.List.{List, [], _∷_}
 use mathlib.Core.Path.{_≡_, refl, sym, _∙_}
 use Prim.Native.Nat.{ℕ}
@@ -7,23 +7,24 @@ use lib.ListN.{length, set, length-set}
 use borrow.Author.Tests.{eq-eqb, ne-eqb}
 use Rattle.host.specs.Codes.{readAnswer, figuresAfter}
 use borrow.Author.Needs.{needs}
-use Rattle.host.proofs.sawmauve_read.Statement.{statement}
-use Rattle.host.proofs.sawmauve_read.Tie as tie
+use Rattle.host.proofs.files.sawmauve_read.Statement.{statement}
+use Rattle.host.proofs.files.sawmauve_read.Tie as tie
 
--- eight stores fill a list of eight
-eight : (xs : List ℕ) {a b c d e f g h : ℕ} → length xs ≡ 8
-    → set (set (set (set (set (set (set (set xs 0 a) 1 b) 2 c) 3 d) 4 e) 5 f) 6 g) 7 h
-    ≡ a ∷ b ∷ c ∷ d ∷ e ∷ f ∷ g ∷ h ∷ []
-eight [] l = absurd (omega arith)
-eight (x0 ∷ []) l = absurd (omega arith)
-eight (x0 ∷ x1 ∷ []) l = absurd (omega arith)
-eight (x0 ∷ x1 ∷ x2 ∷ []) l = absurd (omega arith)
-eight (x0 ∷ x1 ∷ x2 ∷ x3 ∷ []) l = absurd (omega arith)
-eight (x0 ∷ x1 ∷ x2 ∷ x3 ∷ x4 ∷ []) l = absurd (omega arith)
-eight (x0 ∷ x1 ∷ x2 ∷ x3 ∷ x4 ∷ x5 ∷ []) l = absurd (omega arith)
-eight (x0 ∷ x1 ∷ x2 ∷ x3 ∷ x4 ∷ x5 ∷ x6 ∷ []) l = absurd (omega arith)
-eight (x0 ∷ x1 ∷ x2 ∷ x3 ∷ x4 ∷ x5 ∷ x6 ∷ x7 ∷ []) l = refl
-eight (x0 ∷ x1 ∷ x2 ∷ x3 ∷ x4 ∷ x5 ∷ x6 ∷ x7 ∷ y ∷ ys) l = absurd (omega arith)
+-- nine stores fill a list of nine
+nine : (xs : List ℕ) {a b c d e f g h i : ℕ} → length xs ≡ 9
+    → set (set (set (set (set (set (set (set (set xs 0 a) 1 b) 2 c) 3 d) 4 e) 5 f) 6 g) 7 h) 8 i
+    ≡ a ∷ b ∷ c ∷ d ∷ e ∷ f ∷ g ∷ h ∷ i ∷ []
+nine [] l = absurd (omega arith)
+nine (x0 ∷ []) l = absurd (omega arith)
+nine (x0 ∷ x1 ∷ []) l = absurd (omega arith)
+nine (x0 ∷ x1 ∷ x2 ∷ []) l = absurd (omega arith)
+nine (x0 ∷ x1 ∷ x2 ∷ x3 ∷ []) l = absurd (omega arith)
+nine (x0 ∷ x1 ∷ x2 ∷ x3 ∷ x4 ∷ []) l = absurd (omega arith)
+nine (x0 ∷ x1 ∷ x2 ∷ x3 ∷ x4 ∷ x5 ∷ []) l = absurd (omega arith)
+nine (x0 ∷ x1 ∷ x2 ∷ x3 ∷ x4 ∷ x5 ∷ x6 ∷ []) l = absurd (omega arith)
+nine (x0 ∷ x1 ∷ x2 ∷ x3 ∷ x4 ∷ x5 ∷ x6 ∷ x7 ∷ []) l = absurd (omega arith)
+nine (x0 ∷ x1 ∷ x2 ∷ x3 ∷ x4 ∷ x5 ∷ x6 ∷ x7 ∷ x8 ∷ []) l = refl
+nine (x0 ∷ x1 ∷ x2 ∷ x3 ∷ x4 ∷ x5 ∷ x6 ∷ x7 ∷ x8 ∷ y ∷ ys) l = absurd (omega arith)
 
 returns : tie.Need-returns
 unfolding readAnswer figuresAfter
@@ -80,6 +81,12 @@ slice-write-figures-7 c = simp length-set (omega arith)
 slice-write-figures-8 : tie.Need-slice-write-figures-8
 slice-write-figures-8 c = simp length-set (omega arith)
 
+cast-figures-8 : tie.Need-cast-figures-8
+cast-figures-8 c = search needs
+
+slice-write-figures-9 : tie.Need-slice-write-figures-9
+slice-write-figures-9 c = simp length-set (omega (arith, c .before .before .before .before .before .before .before .before .before .before .before .before .if1 .left))
+
 enum-known-verdict-2 : tie.Need-enum-known-verdict-2
 enum-known-verdict-2 c = search needs
 
@@ -92,10 +99,10 @@ same-length c = simp length-set (omega arith)
 returns-2 : tie.Need-returns-2
 unfolding readAnswer figuresAfter
 returns-2 c =
-    let v = c .before .before .before .before .before .before .before .before in
+    let v = c .before .before .before .before .before .before .before .before .before in
     let i = v .before .before .before in
     rw (eq-eqb _ _ (i .if1 .left), sym (v .before .before .read .ensures) ∙ v .verdict .given .1)
-    (refl, eight (i .before .before .before .args .figures .now) (i .if1 .left))
+    (refl, nine (i .before .before .before .args .figures .now) (i .if1 .left))
 
 returns-3 : tie.Need-returns-3
 unfolding readAnswer figuresAfter
@@ -129,6 +136,8 @@ sawmauve-read-spec =
     cast-figures-7
     slice-write-figures-7
     slice-write-figures-8
+    cast-figures-8
+    slice-write-figures-9
     enum-known-verdict-2
     cast-result
     same-length

@@ -2,8 +2,8 @@
 use mathlib.Core.Path.{ap, _∙_}
 use Rattle.host.specs.Codes.{publishCode}
 use borrow.Author.Needs.{needs}
-use Rattle.host.proofs.sawmauve_publish.Statement.{statement}
-use Rattle.host.proofs.sawmauve_publish.Tie as tie
+use Rattle.host.proofs.files.sawmauve_publish.Statement.{statement}
+use Rattle.host.proofs.files.sawmauve_publish.Tie as tie
 
 head-of-requires : tie.Need-head-of-requires
 head-of-requires c κs = search needs

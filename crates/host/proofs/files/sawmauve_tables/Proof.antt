@@ -2,8 +2,8 @@
 use mathlib.Core.Path.{ap}
 use lib.ListN.{length}
 use borrow.Author.Needs.{needs}
-use Rattle.host.proofs.sawmauve_tables.Statement.{statement}
-use Rattle.host.proofs.sawmauve_tables.Tie as tie
+use Rattle.host.proofs.files.sawmauve_tables.Statement.{statement}
+use Rattle.host.proofs.files.sawmauve_tables.Tie as tie
 
 tables-requires : tie.Need-tables-requires
 tables-requires c κs = search needs

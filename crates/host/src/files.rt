@@ -1,0 +1,98 @@
+// The exports that write and read a file.
+use crate::head_of;
+use file::Verdict;
+use publishing::Published;
+ghost use mathlib.Core.Path.{_≡_};
+ghost use lib.ListN.{length};
+ghost use Rattle.rules.specs.Inner.Lent.{lentCells};
+ghost use Rattle.publishing.specs.Publishing.{publishAnswer, publishAfter};
+ghost use Rattle.file.specs.Reader.{tablesPart};
+ghost use Rattle.host.specs.Codes.{headOf, publishCode, readAnswer, figuresAfter};
+
+// The length, which is above 31, or the refusal's number.
+fn published_code(published: Published) -> u64
+    ensures { λ r. ⌜ r ≡ publishCode published ⌝ }
+{
+    match published {
+        Published::Length(n) => n as u64,
+        Published::Refused(n) => n as u64,
+    }
+}
+
+#[no_mangle]
+pub extern "C" fn sawmauve_publish(
+    year: u32,
+    month: u32,
+    day: u32,
+    days: u32,
+    interval: u32,
+    kind: u32,
+    tolerance: u32,
+    values: &[u32],
+    versions: &[u32],
+    statuses: &[u8],
+    holidays: &[u8],
+    readings: &[u32],
+    reads: &[u32],
+    agreed: &[u32],
+    agreed_versions: &[u32],
+    out: &mut [u8],
+) -> u64
+    ensures { λ r. ⌜
+        (let head = headOf year month day days interval kind tolerance in
+        let cells = lentCells (values .entry) (versions .entry) (statuses .entry) (holidays .entry) (readings .entry) (reads .entry) (agreed .entry) («agreed_versions» .entry) in
+        (r ≡ publishCode (publishAnswer head cells (now (out .entry))))
+        × (now (out .exit) ≡ publishAfter head cells (now (out .entry))))
+        ⌝ }
+{
+    let head = head_of(year, month, day, days, interval, kind, tolerance);
+    published_code(publishing::publish(
+        head,
+        values,
+        versions,
+        statuses,
+        holidays,
+        readings,
+        reads,
+        agreed,
+        agreed_versions,
+        out,
+    ))
+}
+
+// 0 and the nine figures, or the refusal's number; 2 for a list of figures that is not 9 long.
+#[no_mangle]
+pub extern "C" fn sawmauve_read(bytes: &[u8], figures: &mut [u64]) -> u32
+    ensures { λ r. ⌜
+        (r ≡ readAnswer (now (bytes .entry)) (now (figures .entry)))
+        × (now (figures .exit) ≡ figuresAfter (now (bytes .entry)) (now (figures .entry)))
+        ⌝ }
+{
+    if figures.len() != 9 {
+        return 2;
+    }
+    let verdict = file::read(bytes);
+    match verdict {
+        Verdict::Accepted(g) => {
+            figures[0] = g.first as u64;
+            figures[1] = g.days as u64;
+            figures[2] = g.interval as u64;
+            figures[3] = g.spans as u64;
+            figures[4] = g.actual as u64;
+            figures[5] = g.substituted as u64;
+            figures[6] = g.none as u64;
+            figures[7] = g.sum;
+            figures[8] = g.layout as u64;
+            0
+        }
+        Verdict::Refused(n) => n as u32,
+    }
+}
+
+// The length of the tables' part of a file, 0 for a refused one.
+#[no_mangle]
+pub extern "C" fn sawmauve_tables(bytes: &[u8]) -> u64
+    ensures { λ r. ⌜ r ≡ length (tablesPart (now (bytes .entry))) ⌝ }
+{
+    file::tables(bytes).len() as u64
+}
