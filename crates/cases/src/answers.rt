@@ -48,3 +48,28 @@ pub fn lowest() {
     three_refusals(&mut values, &mut versions, &mut statuses);
     say::text(b"\n");
 }
+
+// Agrees slot 10 of a day and writes the answer.
+fn agree_ten(agreed: &mut [u32], agreed_versions: &mut [u32], version: u32, value: u32) {
+    let head = books::head_of(1, 30, 1);
+    say::answer(book::agree(head, agreed, agreed_versions, 10, version, value));
+}
+
+// By the version rule of a delivery.
+fn four_agreed(agreed: &mut [u32], agreed_versions: &mut [u32]) {
+    agree_ten(agreed, agreed_versions, 2, 600);
+    agree_ten(agreed, agreed_versions, 1, 900);
+    agree_ten(agreed, agreed_versions, 2, 600);
+    agree_ten(agreed, agreed_versions, 2, 900);
+}
+
+pub fn agreed() {
+    let mut values = [0u32; 48];
+    let mut versions = [0u32; 48];
+    say::text(b"agreed by versions:");
+    four_agreed(&mut values, &mut versions);
+    say::text(b"\nagreed 99999999 and 100000000:");
+    agree_ten(&mut values, &mut versions, 3, 99999999);
+    agree_ten(&mut values, &mut versions, 4, 100000000);
+    say::text(b"\n");
+}

@@ -57,7 +57,7 @@ fn deliver_run(
     }
 }
 
-// One row of five numbers: 1 first end value status | 2 day 0 0 0 | 3 boundary version reading 0.
+// One row of five numbers: 1 first end value status | 2 day 0 0 0 | 3 boundary version reading 0 | 4 slot version value 0.
 fn fill_row(
     head: Head,
     values: &mut [u32],
@@ -66,6 +66,8 @@ fn fill_row(
     holidays: &mut [u8],
     readings: &mut [u32],
     reads: &mut [u32],
+    agreed: &mut [u32],
+    agreed_versions: &mut [u32],
     row: [u32; 5],
 ) {
     if row[0] == 1 {
@@ -85,6 +87,10 @@ fn fill_row(
         book::holiday(head, holidays, row[1]);
         return;
     }
+    if row[0] == 4 {
+        book::agree(head, agreed, agreed_versions, row[1], row[2], row[3]);
+        return;
+    }
     book::register(head, readings, reads, row[1], row[2], row[3]);
 }
 
@@ -96,6 +102,8 @@ fn fill(
     holidays: &mut [u8],
     readings: &mut [u32],
     reads: &mut [u32],
+    agreed: &mut [u32],
+    agreed_versions: &mut [u32],
     rows: &[[u32; 5]],
 ) {
     let mut i = 0;
@@ -109,6 +117,8 @@ fn fill(
             holidays,
             readings,
             reads,
+            agreed,
+            agreed_versions,
             row,
         );
         i += 1;
@@ -123,6 +133,8 @@ fn fill_and_publish(
     holidays: &mut [u8],
     readings: &mut [u32],
     reads: &mut [u32],
+    agreed: &mut [u32],
+    agreed_versions: &mut [u32],
     rows: &[[u32; 5]],
     file: &mut [u8],
 ) -> Published {
@@ -134,6 +146,8 @@ fn fill_and_publish(
         holidays,
         readings,
         reads,
+        agreed,
+        agreed_versions,
         rows,
     );
     publishing::publish(
@@ -144,6 +158,8 @@ fn fill_and_publish(
         holidays,
         readings,
         reads,
+        agreed,
+        agreed_versions,
         file,
     )
 }
@@ -157,10 +173,22 @@ fn publish_lent(
     holidays: &mut [u8],
     readings: &mut [u32],
     reads: &mut [u32],
+    agreed: &mut [u32],
+    agreed_versions: &mut [u32],
     rows: &[[u32; 5]],
     file: &mut [u8],
 ) -> Published {
-    let opened = book::open(head, values, versions, statuses, holidays, readings, reads);
+    let opened = book::open(
+        head,
+        values,
+        versions,
+        statuses,
+        holidays,
+        readings,
+        reads,
+        agreed,
+        agreed_versions,
+    );
     if let Opened::Refused(n) = opened {
         return Published::Refused(n);
     }
@@ -172,6 +200,8 @@ fn publish_lent(
         holidays,
         readings,
         reads,
+        agreed,
+        agreed_versions,
         rows,
         file,
     )
@@ -185,6 +215,8 @@ pub fn publish_rows(head: Head, rows: &[[u32; 5]], file: &mut [u8]) -> Published
     let mut holidays = [0u8; 29];
     let mut readings = [0u32; 30];
     let mut reads = [0u32; 30];
+    let mut agreed = [0u32; 1392];
+    let mut agreed_versions = [0u32; 1392];
     let n = slots_of(head);
     let d = days_of(head);
     publish_lent(
@@ -195,6 +227,8 @@ pub fn publish_rows(head: Head, rows: &[[u32; 5]], file: &mut [u8]) -> Published
         &mut holidays[..d],
         &mut readings[..d + 1],
         &mut reads[..d + 1],
+        &mut agreed[..n],
+        &mut agreed_versions[..n],
         rows,
         file,
     )
@@ -211,5 +245,18 @@ pub fn scaled_rows(e: u32, rest: u32) -> [[u32; 5]; 8] {
         [1, 8, 48, 0, 0],
         [3, 0, 1, 0, 0],
         [3, 1, 1, 110, 0],
+    ]
+}
+
+// A delivery of 40 with the outage bit, a gap agreed at 600, a delivery of 50 agreed at 700, then zeros; the dial goes from 0 to 690.
+pub fn agreed_rows() -> [[u32; 5]; 7] {
+    [
+        [1, 0, 1, 40, 2],
+        [1, 2, 3, 50, 0],
+        [1, 3, 48, 0, 0],
+        [4, 1, 1, 600, 0],
+        [4, 2, 1, 700, 0],
+        [3, 0, 1, 0, 0],
+        [3, 1, 1, 690, 0],
     ]
 }

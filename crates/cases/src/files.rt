@@ -39,11 +39,29 @@ pub fn dial() {
     ];
     let mut file = [0u8; 330];
     books::publish_rows(books::head_of(1, 30, 1), &rows, &mut file);
-    say::text(b"dial 99999990 then 15: R");
-    say::field(say::word_at(&file, 292));
+    say::text(b"dial 99999990 then 15:");
+    span(&file);
+}
+
+// The only span, after 48 records.
+fn span(file: &[u8]) {
+    say::text(b" R");
+    say::field(say::word_at(file, 292));
     say::text(b" state");
-    say::field(say::byte_at(&file, 288, 8) as u64);
+    say::field(say::byte_at(file, 288, 8) as u64);
     say::text(b"\n");
+}
+
+// The agreed slot counts in V, so the day agrees with its dial; the file has layout 2.
+pub fn agreed() {
+    let rows = books::agreed_rows();
+    let mut file = [0u8; 330];
+    books::publish_rows(books::head_of(1, 30, 1), &rows, &mut file);
+    say::text(b"a file with an agreed slot: layout");
+    if let Verdict::Accepted(g) = file::read(&file) {
+        say::field(g.layout as u64);
+    }
+    span(&file);
 }
 
 // By itself each of three slots would get 3 of the 10 Wh.

@@ -1,4 +1,4 @@
-// 01's section Cases as run code: each case is a small book, filled and published by the public calls, and a line of output.
+// 01's section Cases and those of 02 as run code: each case is a small book, filled and published by the public calls, and a line of output.
 mod answers;
 mod books;
 mod files;
@@ -17,4 +17,7 @@ fn main() {
     files::slot_alone();
     answers::late();
     answers::lowest();
+    outcomes::agreed();
+    files::agreed();
+    answers::agreed();
 }

@@ -81,6 +81,18 @@ pub fn scaled() {
     scaled_case(b"R 110 V 100 e 0 0 0:", 0, 100);
 }
 
+// The agreed gap beside an outage, and the good slot that is agreed too.
+pub fn agreed() {
+    let rows = books::agreed_rows();
+    let slots = [1, 2];
+    show(
+        b"agreed 600 beside an outage, 700 on a good slot:",
+        books::head_of(1, 30, 1),
+        &rows,
+        &slots,
+    );
+}
+
 // The week that failed and the one on a holiday are no references; no slot is filled from a filled neighbour.
 pub fn slips() {
     let failed = [

@@ -8,7 +8,7 @@ use Rattle.cases.proofs.books.fill.Statement.{statement}
 use Rattle.cases.proofs.books.fill.Tie as tie
 
 abbrev Inv-loop : tie.InvT-loop
-Inv-loop head values₀ versions₀ statuses₀ holidays₀ readings₀ reads₀ rows i₀ values versions statuses holidays readings reads i =
+Inv-loop head values₀ versions₀ statuses₀ holidays₀ readings₀ reads₀ agreed₀ agreedVersions₀ rows i₀ values versions statuses holidays readings reads agreed agreedVersions i =
     (i ≤ length rows)
     × (length values ≡ length values₀)
     × (length versions ≡ length versions₀)
@@ -16,9 +16,11 @@ Inv-loop head values₀ versions₀ statuses₀ holidays₀ readings₀ reads₀
     × (length holidays ≡ length holidays₀)
     × (length readings ≡ length readings₀)
     × (length reads ≡ length reads₀)
+    × (length agreed ≡ length agreed₀)
+    × (length agreedVersions ≡ length agreedVersions₀)
 
 abbrev μ-loop : tie.MeasureT-loop
-μ-loop head values₀ versions₀ statuses₀ holidays₀ readings₀ reads₀ rows i₀ values versions statuses holidays readings reads i =
+μ-loop head values₀ versions₀ statuses₀ holidays₀ readings₀ reads₀ agreed₀ agreedVersions₀ rows i₀ values versions statuses holidays readings reads agreed agreedVersions i =
     length rows - i
 
 loop-holds : tie.Need-loop-holds Inv-loop μ-loop
@@ -34,8 +36,9 @@ fill-row-requires : tie.Need-fill-row-requires Inv-loop μ-loop
 fill-row-requires c κs = search needs
 
 add-i : tie.Need-add-i Inv-loop μ-loop
-add-i c = let bound = (c .before .before .before .before .before .before .before .before .before .before .before .before .before .before .before .before .before .before .before .before .before .before .before .before .before .before .before .before) .good .1 .1 .1 .1 .1 .1 .1 in
-    omega (arith, c .before .before .before .before .before .before .before .before .before .before .before .before .before .before .before .before .before .before .before .before .loop-test .taken)
+add-i c =
+    let bound = (c .before .before .before .before .before .before .before .before .before .before .before .before .before .before .before .before .before .before .before .before .before .before .before .before .before .before .before .before .before .before .before .before .before .before .before .before) .good .1 .1 .1 .1 .1 .1 .1 .1 .1 in
+    omega (arith, c .before .before .before .before .before .before .before .before .before .before .before .before .before .before .before .before .before .before .before .before .before .before .before .before .before .before .loop-test .taken)
 
 loop-less : tie.Need-loop-less Inv-loop μ-loop
 loop-less c = search needs
@@ -61,6 +64,12 @@ same-length-5 c = search needs
 same-length-6 : tie.Need-same-length-6 Inv-loop μ-loop
 same-length-6 c = search needs
 
+same-length-7 : tie.Need-same-length-7 Inv-loop μ-loop
+same-length-7 c = search needs
+
+same-length-8 : tie.Need-same-length-8 Inv-loop μ-loop
+same-length-8 c = search needs
+
 returns : tie.Need-returns Inv-loop μ-loop
 returns c = search needs
 
@@ -83,4 +92,6 @@ fill-spec =
     same-length-4
     same-length-5
     same-length-6
+    same-length-7
+    same-length-8
     returns)

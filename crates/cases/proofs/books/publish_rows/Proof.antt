@@ -53,6 +53,18 @@ array-borrow-prefix-reads c = search needs
 slice-aggregate-publish-lent-6 : tie.Need-slice-aggregate-publish-lent-6
 slice-aggregate-publish-lent-6 c = sym (length-take-le _ _ (search needs))
 
+array-borrow-prefix-agreed : tie.Need-array-borrow-prefix-agreed
+array-borrow-prefix-agreed c = search needs
+
+slice-aggregate-publish-lent-7 : tie.Need-slice-aggregate-publish-lent-7
+slice-aggregate-publish-lent-7 c = sym (length-take-le _ _ (search needs))
+
+array-borrow-prefix-agreed-versions : tie.Need-array-borrow-prefix-agreed-versions
+array-borrow-prefix-agreed-versions c = search needs
+
+slice-aggregate-publish-lent-8 : tie.Need-slice-aggregate-publish-lent-8
+slice-aggregate-publish-lent-8 c = sym (length-take-le _ _ (search needs))
+
 publish-lent-requires : tie.Need-publish-lent-requires
 publish-lent-requires c κs = search needs
 
@@ -82,6 +94,10 @@ publish-rows-spec =
     add-reads
     array-borrow-prefix-reads
     slice-aggregate-publish-lent-6
+    array-borrow-prefix-agreed
+    slice-aggregate-publish-lent-7
+    array-borrow-prefix-agreed-versions
+    slice-aggregate-publish-lent-8
     publish-lent-requires
     same-length
     returns)
