@@ -1,4 +1,4 @@
-//! 01's sentence "It accepts exactly", once more: what `reader` is held against.
+//! 01's sentence "It accepts exactly", with W1's, once more: what `reader` is held against.
 //!
 //! One pass over the slots gives each span its tally; the clauses are then read off.
 
@@ -9,6 +9,7 @@ struct Tally {
     none: u64,
     substituted: u64,
     scaled: u64,
+    agreed: u64,
     sum: u64,
 }
 
@@ -28,7 +29,7 @@ pub fn read(file: &[u8]) -> Result<Figures, u8> {
     let head = [5, 15, 30].contains(&interval)
         && (1..=400).contains(&days)
         && u32::from(first_day) + u32::from(days) <= 36_525;
-    if !head || t[5] != 1 || four(28) != 10 * u32::from(spans) {
+    if !head || ![1, 2].contains(&t[5]) || four(28) != 10 * u32::from(spans) {
         return Err(8);
     }
     let slots_a_day = 1440 / usize::from(interval);
@@ -45,6 +46,7 @@ pub fn read(file: &[u8]) -> Result<Figures, u8> {
         substituted: four(12).into(),
         none: four(16).into(),
         sum: u64::from(four(20)) | u64::from(four(24)) << 32,
+        layout: t[5].into(),
     };
     let (slot_table, span_table) = tables.split_at(6 * slots);
     if contents_hold(slot_table, span_table, slots_a_day, &figures) {
@@ -87,6 +89,7 @@ fn contents_hold(
                 tally.scaled += 1;
             }
             ('N', 0, 0) => tally.none += 1,
+            ('F', 5, 0..100_000_000) => tally.agreed += 1,
             _ => return false,
         }
         tally.sum += u64::from(value);
@@ -99,7 +102,8 @@ fn contents_hold(
         .all(|(span, tally)| span_holds(span, tally))
         && outside.scaled == 0
         && actual == figures.actual
-        && total(|tally| tally.substituted) == figures.substituted
+        && total(|tally| tally.substituted + tally.agreed) == figures.substituted
+        && (total(|tally| tally.agreed) > 0) == (figures.layout == 2)
         && total(|tally| tally.none) == figures.none
         && total(|tally| tally.sum) == figures.sum
 }

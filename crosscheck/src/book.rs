@@ -1,4 +1,4 @@
-//! The calls over the six lent lists: opening, the three filling calls, publishing.
+//! The calls over the eight lent lists: opening, the four filling calls, publishing.
 
 use std::cmp::Ordering;
 
@@ -18,7 +18,11 @@ pub enum Filed {
 /// The highest status: three bits.
 pub const MOST_STATUS: u8 = 7;
 
+/// The highest agreed value in Wh.
+pub const MOST_AGREED: u32 = 99_999_999;
+
 /// Sets all cells to 0.
+#[allow(clippy::too_many_arguments)] // the lists and the arguments as 01 and 02 name them
 pub fn open(
     head: Head,
     values: &mut [u32],
@@ -27,17 +31,22 @@ pub fn open(
     holidays: &mut [u8],
     readings: &mut [u32],
     read_versions: &mut [u32],
+    agreed: &mut [u32],
+    agreed_versions: &mut [u32],
 ) -> Result<(), u8> {
     let shape = head.shape()?;
     lengths(&[values.len(), versions.len(), statuses.len()], shape.slots)?;
     lengths(&[holidays.len()], shape.days)?;
     lengths(&[readings.len(), read_versions.len()], shape.days + 1)?;
+    lengths(&[agreed.len(), agreed_versions.len()], shape.slots)?;
     values.fill(0);
     versions.fill(0);
     statuses.fill(0);
     holidays.fill(0);
     readings.fill(0);
     read_versions.fill(0);
+    agreed.fill(0);
+    agreed_versions.fill(0);
     Ok(())
 }
 
@@ -115,6 +124,33 @@ pub fn register(
     Ok(filed)
 }
 
+/// Takes a value agreed for one slot.
+pub fn agree(
+    head: Head,
+    agreed: &mut [u32],
+    agreed_versions: &mut [u32],
+    slot: u32,
+    version: u32,
+    value: u32,
+) -> Result<Filed, u8> {
+    let shape = head.shape()?;
+    lengths(&[agreed.len(), agreed_versions.len()], shape.slots)?;
+    let slot = slot as usize;
+    refuse_if(slot >= shape.slots, refusal::PLACE)?;
+    refuse_if(version == 0, refusal::VERSION)?;
+    refuse_if(value > MOST_AGREED, refusal::AGREED)?;
+    refuse_if(
+        !agreed_possible(agreed[slot], agreed_versions[slot]),
+        refusal::CELL,
+    )?;
+    let filed = filed(version, agreed_versions[slot], value == agreed[slot])?;
+    if filed == Filed::Stored {
+        agreed[slot] = value;
+        agreed_versions[slot] = version;
+    }
+    Ok(filed)
+}
+
 /// Writes the file to the front of `out` and answers its length.
 #[allow(clippy::too_many_arguments)] // the lists and the arguments as 01 names them
 pub fn publish(
@@ -125,12 +161,15 @@ pub fn publish(
     holidays: &[u8],
     readings: &[u32],
     read_versions: &[u32],
+    agreed: &[u32],
+    agreed_versions: &[u32],
     out: &mut [u8],
 ) -> Result<usize, u8> {
     let shape = head.shape()?;
     lengths(&[values.len(), versions.len(), statuses.len()], shape.slots)?;
     lengths(&[holidays.len()], shape.days)?;
     lengths(&[readings.len(), read_versions.len()], shape.days + 1)?;
+    lengths(&[agreed.len(), agreed_versions.len()], shape.slots)?;
     let cells = Cells {
         values,
         versions,
@@ -138,6 +177,8 @@ pub fn publish(
         holidays,
         readings,
         read_versions,
+        agreed,
+        agreed_versions,
     };
     // In publishing, 11 goes before 7.
     refuse_if(!all_possible(&cells), refusal::CELL)?;
@@ -178,11 +219,17 @@ fn register_possible(reading: u32, version: u32) -> bool {
     reading < DIAL && (version != 0 || reading == 0)
 }
 
+fn agreed_possible(value: u32, version: u32) -> bool {
+    value <= MOST_AGREED && (version != 0 || value == 0)
+}
+
 fn all_possible(cells: &Cells) -> bool {
     let slots = (0..cells.values.len())
         .all(|i| slot_possible(cells.values[i], cells.versions[i], cells.statuses[i]));
     let holidays = cells.holidays.iter().all(|&cell| holiday_possible(cell));
     let registers = (0..cells.readings.len())
         .all(|i| register_possible(cells.readings[i], cells.read_versions[i]));
-    slots && holidays && registers
+    let agreed =
+        (0..cells.agreed.len()).all(|i| agreed_possible(cells.agreed[i], cells.agreed_versions[i]));
+    slots && holidays && registers && agreed
 }

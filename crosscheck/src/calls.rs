@@ -3,7 +3,7 @@
 use crate::head::Head;
 use crate::rules::Cells;
 
-/// The six lists, owned by the caller.
+/// The eight lists, owned by the caller.
 #[derive(Clone, Debug, Default, PartialEq, Eq)]
 pub struct Lists {
     pub values: Vec<u32>,
@@ -12,6 +12,8 @@ pub struct Lists {
     pub holidays: Vec<u8>,
     pub readings: Vec<u32>,
     pub read_versions: Vec<u32>,
+    pub agreed: Vec<u32>,
+    pub agreed_versions: Vec<u32>,
 }
 
 #[derive(Clone, Copy, Debug, PartialEq, Eq)]
@@ -22,16 +24,20 @@ pub enum List {
     Holidays,
     Readings,
     ReadVersions,
+    Agreed,
+    AgreedVersions,
 }
 
 impl List {
-    pub const ALL: [List; 6] = [
+    pub const ALL: [List; 8] = [
         List::Values,
         List::Versions,
         List::Statuses,
         List::Holidays,
         List::Readings,
         List::ReadVersions,
+        List::Agreed,
+        List::AgreedVersions,
     ];
 }
 
@@ -48,6 +54,8 @@ impl Lists {
             holidays: bytes(days),
             readings: words(days + 1),
             read_versions: words(days + 1),
+            agreed: words(slots),
+            agreed_versions: words(slots),
         }
     }
 
@@ -59,6 +67,8 @@ impl Lists {
             holidays: vec![0; days],
             readings: vec![0; days + 1],
             read_versions: vec![0; days + 1],
+            agreed: vec![0; slots],
+            agreed_versions: vec![0; slots],
         }
     }
 
@@ -69,6 +79,8 @@ impl Lists {
         self.holidays.fill(0);
         self.readings.fill(0);
         self.read_versions.fill(0);
+        self.agreed.fill(0);
+        self.agreed_versions.fill(0);
     }
 
     pub fn cells(&self) -> Cells<'_> {
@@ -79,6 +91,8 @@ impl Lists {
             holidays: &self.holidays,
             readings: &self.readings,
             read_versions: &self.read_versions,
+            agreed: &self.agreed,
+            agreed_versions: &self.agreed_versions,
         }
     }
 
@@ -90,6 +104,8 @@ impl Lists {
             List::Holidays => self.holidays.len(),
             List::Readings => self.readings.len(),
             List::ReadVersions => self.read_versions.len(),
+            List::Agreed => self.agreed.len(),
+            List::AgreedVersions => self.agreed_versions.len(),
         }
     }
 
@@ -105,6 +121,8 @@ impl Lists {
             List::Holidays => self.holidays[index] = value as u8,
             List::Readings => self.readings[index] = value,
             List::ReadVersions => self.read_versions[index] = value,
+            List::Agreed => self.agreed[index] = value,
+            List::AgreedVersions => self.agreed_versions[index] = value,
         }
     }
 
@@ -117,6 +135,8 @@ impl Lists {
             List::Holidays => self.holidays.resize(len, 0),
             List::Readings => self.readings.resize(len, 0),
             List::ReadVersions => self.read_versions.resize(len, 0),
+            List::Agreed => self.agreed.resize(len, 0),
+            List::AgreedVersions => self.agreed_versions.resize(len, 0),
         }
     }
 
@@ -128,6 +148,11 @@ impl Lists {
             .or_else(|| words("holidays", &self.holidays, &other.holidays))
             .or_else(|| words("readings", &self.readings, &other.readings))
             .or_else(|| words("read_versions", &self.read_versions, &other.read_versions))
+            .or_else(|| words("agreed", &self.agreed, &other.agreed))
+            .or_else(|| {
+                let (one, two) = (&self.agreed_versions, &other.agreed_versions);
+                words("agreed_versions", one, two)
+            })
     }
 }
 
@@ -168,6 +193,11 @@ pub enum Act {
         version: u32,
         reading: u32,
     },
+    Agree {
+        slot: u32,
+        version: u32,
+        value: u32,
+    },
     Publish {
         room: Room,
     },
@@ -187,6 +217,7 @@ impl Act {
             Act::Deliver { .. } => &[List::Values, List::Versions, List::Statuses],
             Act::Holiday { .. } => &[List::Holidays],
             Act::Register { .. } => &[List::Readings, List::ReadVersions],
+            Act::Agree { .. } => &[List::Agreed, List::AgreedVersions],
             Act::Write { .. } => &[],
         }
     }

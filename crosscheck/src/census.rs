@@ -58,6 +58,7 @@ impl Census<'_> {
             Quality::Actual => "A",
             Quality::Substituted => "S",
             Quality::None => "N",
+            Quality::Agreed => "F",
         };
         self.counts.add("quality", quality);
         let method = match outcome.method {
@@ -65,6 +66,7 @@ impl Census<'_> {
             1 => "1",
             2 => "2",
             3 => "3",
+            5 => "5",
             18 => "18",
             _ => "19",
         };
@@ -167,7 +169,7 @@ impl Census<'_> {
         let has = |quality| filled.iter().any(|slot| slot.quality == quality);
         let actual = !has(Quality::Substituted) && !has(Quality::None);
         let r = u64::from(span.advance);
-        let v = rules::actual_sum(filled);
+        let v = rules::settled_sum(filled);
         let t = u64::from(self.shape.tolerance);
         let e: u64 = filled
             .iter()

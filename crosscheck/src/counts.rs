@@ -57,6 +57,12 @@ const CLASSES: &[(&str, &[&str])] = &[
             "stored", "late", "repeat", "1", "2", "3", "4", "6", "10", "11",
         ],
     ),
+    (
+        "answer to agree",
+        &[
+            "stored", "late", "repeat", "1", "2", "3", "4", "10", "11", "12",
+        ],
+    ),
     ("answer to publish", &["length", "1", "2", "7", "11"]),
     ("answer of the reader", &["figures", "8", "9"]),
     (
@@ -68,14 +74,16 @@ const CLASSES: &[(&str, &[&str])] = &[
             "holidays",
             "readings",
             "read versions",
+            "agreed",
+            "agreed versions",
         ],
     ),
     (
         "cause",
         &["good", "gap", "time change", "partial", "demand"],
     ),
-    ("quality", &["A", "S", "N"]),
-    ("method", &["0", "1", "2", "3", "18", "19"]),
+    ("quality", &["A", "S", "N", "F"]),
+    ("method", &["0", "1", "2", "3", "5", "18", "19"]),
     ("span state", &["0", "1", "2", "3"]),
     (
         "outage zero",
@@ -139,6 +147,8 @@ const CLASSES: &[(&str, &[&str])] = &[
             "Distance",
             "Length",
             "Record",
+            "AgreedInLayout1",
+            "NoneAgreedInLayout2",
             "SpanBounds",
             "SpanChain",
             "Advance",
@@ -156,7 +166,9 @@ const CLASSES: &[(&str, &[&str])] = &[
     ),
 ];
 
-pub const NUMBERS: [&str; 12] = ["0", "1", "2", "3", "4", "5", "6", "7", "8", "9", "10", "11"];
+pub const NUMBERS: [&str; 13] = [
+    "0", "1", "2", "3", "4", "5", "6", "7", "8", "9", "10", "11", "12",
+];
 
 impl Default for Counts {
     fn default() -> Counts {
@@ -231,6 +243,7 @@ impl Counts {
             Act::Deliver { .. } => "answer to deliver",
             Act::Holiday { .. } => "answer to holiday",
             Act::Register { .. } => "answer to register",
+            Act::Agree { .. } => "answer to agree",
             Act::Publish { .. } => "answer to publish",
             Act::Write { .. } => return,
         };
@@ -253,6 +266,8 @@ impl Counts {
             List::Holidays => "holidays",
             List::Readings => "readings",
             List::ReadVersions => "read versions",
+            List::Agreed => "agreed",
+            List::AgreedVersions => "agreed versions",
         };
         self.add("list of a wrong length", name);
     }

@@ -224,7 +224,8 @@ fn mend(file: &mut [u8]) {
     let (end, _) = span_table(file);
     let records = file[..end].chunks_exact(SLOT_BYTES);
     let count = |letter| records.clone().filter(|r| r[4] == letter).count() as u64;
-    let counts = [count(b'A'), count(b'S'), count(b'N')];
+    // F counts with S.
+    let counts = [count(b'A'), count(b'S') + count(b'F'), count(b'N')];
     let value = |r: &[u8]| u64::from(u32::from_le_bytes([r[0], r[1], r[2], r[3]]));
     let sum = records.map(value).sum();
     set_field(file, ACTUAL, counts[0]);

@@ -1,4 +1,4 @@
-//! The rules of 01 once more, each slot and span for itself, as the sentences have them.
+//! The rules of 01 and of W1 once more, each slot and span for itself, as the sentences have them.
 //!
 //! Slow (scaling sums a whole span anew for each of its slots): it is what `rules`
 //! is held against, in all but the largest books.
@@ -89,6 +89,8 @@ impl<'a> Definition<'a> {
     fn fill(&self, slot: usize) -> (u64, Quality, u8) {
         if self.good(slot) {
             (u64::from(self.cells.values[slot]), Quality::Actual, 0)
+        } else if self.cells.agreed_versions[slot] > 0 {
+            (u64::from(self.cells.agreed[slot]), Quality::Agreed, 5)
         } else if self.outage_zero(slot) {
             (0, Quality::Actual, 1)
         } else if let Some(value) = self.linear(slot) {
@@ -120,7 +122,7 @@ impl<'a> Definition<'a> {
         let mut none = false;
         for slot in first * self.shape.slots_a_day..last * self.shape.slots_a_day {
             match self.filled[slot] {
-                (value, Quality::Actual, _) => v += value as i64,
+                (value, Quality::Actual | Quality::Agreed, _) => v += value as i64,
                 (_, Quality::Substituted, _) => substituted = true,
                 (_, Quality::None, _) => none = true,
             }
@@ -168,7 +170,7 @@ impl<'a> Definition<'a> {
         for other in span.first * self.shape.slots_a_day..span.last * self.shape.slots_a_day {
             let (value, quality, _) = self.filled[other];
             let value = u128::from(value);
-            if quality == Quality::Actual {
+            if matches!(quality, Quality::Actual | Quality::Agreed) {
                 t -= value;
                 continue;
             }

@@ -5,7 +5,7 @@ use crate::calls::Lists;
 use crate::dial_tries::Dials;
 use crate::head::Head;
 use crate::reader::Figures;
-use crate::side::{Answer, Delivery, RegisterRead, Side};
+use crate::side::{Agreement, Answer, Delivery, RegisterRead, Side};
 use crate::strips_tries::Strips;
 
 unsafe extern "C" {
@@ -29,6 +29,10 @@ unsafe extern "C" {
         readings_len: usize,
         read_versions: *mut u32,
         read_versions_len: usize,
+        agreed: *mut u32,
+        agreed_len: usize,
+        agreed_versions: *mut u32,
+        agreed_versions_len: usize,
     ) -> u32;
 
     fn sawmauve_deliver(
@@ -81,6 +85,23 @@ unsafe extern "C" {
         reading: u32,
     ) -> u32;
 
+    fn sawmauve_agree(
+        year: u32,
+        month: u32,
+        day: u32,
+        days: u32,
+        interval: u32,
+        kind: u32,
+        tolerance: u32,
+        agreed: *mut u32,
+        agreed_len: usize,
+        agreed_versions: *mut u32,
+        agreed_versions_len: usize,
+        slot: u32,
+        version: u32,
+        value: u32,
+    ) -> u32;
+
     fn sawmauve_publish(
         year: u32,
         month: u32,
@@ -101,6 +122,10 @@ unsafe extern "C" {
         readings_len: usize,
         read_versions: *const u32,
         read_versions_len: usize,
+        agreed: *const u32,
+        agreed_len: usize,
+        agreed_versions: *const u32,
+        agreed_versions_len: usize,
         out: *mut u8,
         out_len: usize,
     ) -> u64;
@@ -164,6 +189,10 @@ pub fn open(head: Head, lists: &mut Lists) -> u32 {
             lists.readings.len(),
             lists.read_versions.as_mut_ptr(),
             lists.read_versions.len(),
+            lists.agreed.as_mut_ptr(),
+            lists.agreed.len(),
+            lists.agreed_versions.as_mut_ptr(),
+            lists.agreed_versions.len(),
         )
     }
 }
@@ -241,6 +270,32 @@ pub fn register(
     }
 }
 
+pub fn agree(
+    head: Head,
+    agreed: &mut [u32],
+    agreed_versions: &mut [u32],
+    agreement: Agreement,
+) -> u32 {
+    unsafe {
+        sawmauve_agree(
+            head.year,
+            head.month,
+            head.day,
+            head.days,
+            head.interval,
+            head.kind,
+            head.tolerance,
+            agreed.as_mut_ptr(),
+            agreed.len(),
+            agreed_versions.as_mut_ptr(),
+            agreed_versions.len(),
+            agreement.slot,
+            agreement.version,
+            agreement.value,
+        )
+    }
+}
+
 pub fn publish(head: Head, lists: &Lists, out: &mut [u8]) -> u64 {
     unsafe {
         sawmauve_publish(
@@ -263,6 +318,10 @@ pub fn publish(head: Head, lists: &Lists, out: &mut [u8]) -> u64 {
             lists.readings.len(),
             lists.read_versions.as_ptr(),
             lists.read_versions.len(),
+            lists.agreed.as_ptr(),
+            lists.agreed.len(),
+            lists.agreed_versions.as_ptr(),
+            lists.agreed_versions.len(),
             out.as_mut_ptr(),
             out.len(),
         )
@@ -341,6 +400,9 @@ pub fn stays(file: &[u8], pairs: &[u32], totals: &mut [u64]) -> u32 {
 /// The host as a side of the comparison.
 pub struct Host;
 
+/// How many figures the host's reader gives.
+const FIGURES: usize = 9;
+
 /// What `figures` holds before the host's reader is called.
 const UNWRITTEN: u64 = 0xA5C3_96E1_5A3C_691E;
 
@@ -387,6 +449,15 @@ impl Side for Host {
         filed(register(head, readings, read_versions, read))
     }
 
+    fn agree(&self, head: Head, lists: &mut Lists, agreement: Agreement) -> Answer {
+        let Lists {
+            agreed,
+            agreed_versions,
+            ..
+        } = lists;
+        filed(agree(head, agreed, agreed_versions, agreement))
+    }
+
     fn publish(&self, head: Head, lists: &Lists, out: &mut [u8]) -> Answer {
         match publish(head, lists, out) {
             number @ 0..=31 => Answer::Refused(number),
@@ -395,12 +466,12 @@ impl Side for Host {
     }
 
     fn read(&self, file: &[u8]) -> Result<Figures, u64> {
-        let mut figures = [UNWRITTEN; 8];
+        let mut figures = [UNWRITTEN; FIGURES];
         let number = read(file, &mut figures);
         if number == 0 {
             return Ok(figures_of(figures));
         }
-        if figures == [UNWRITTEN; 8] {
+        if figures == [UNWRITTEN; FIGURES] {
             Err(number.into())
         } else {
             Err(WRITTEN_ON_REFUSAL)
@@ -411,16 +482,16 @@ impl Side for Host {
         tables(file)
     }
 
-    /// A list of figures that is not 8 long is refused, 2, and not written.
+    /// A list of figures that is not 9 long is refused, 2, and not written.
     fn keeps_convention(&self, file: &[u8]) -> bool {
-        [0, 1, 7, 9].into_iter().all(|len| {
-            let mut figures = [UNWRITTEN; 9];
-            read(file, &mut figures[..len]) == 2 && figures == [UNWRITTEN; 9]
+        [0, 1, FIGURES - 1, FIGURES + 1].into_iter().all(|len| {
+            let mut figures = [UNWRITTEN; FIGURES + 1];
+            read(file, &mut figures[..len]) == 2 && figures == [UNWRITTEN; FIGURES + 1]
         })
     }
 }
 
-fn figures_of(figures: [u64; 8]) -> Figures {
+fn figures_of(figures: [u64; FIGURES]) -> Figures {
     let [
         first_day,
         days,
@@ -430,6 +501,7 @@ fn figures_of(figures: [u64; 8]) -> Figures {
         substituted,
         none,
         sum,
+        layout,
     ] = figures;
     Figures {
         first_day,
@@ -440,5 +512,6 @@ fn figures_of(figures: [u64; 8]) -> Figures {
         substituted,
         none,
         sum,
+        layout,
     }
 }

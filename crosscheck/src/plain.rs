@@ -1,12 +1,12 @@
-//! 01, The plain book: the kept calls, fed by heads and arguments alone.
+//! 01, The plain book, with W1's agreed calls: the kept calls, fed by heads and arguments alone.
 
 use std::collections::{BTreeMap, BTreeSet};
 
-use crate::book::{Filed, MOST_STATUS};
+use crate::book::{Filed, MOST_AGREED, MOST_STATUS};
 use crate::head::{DIAL, Head};
 use crate::refusal;
 
-/// A kept delivery or register read: its version and its content.
+/// A kept delivery, register read or agreed value: its version and its content.
 #[derive(Clone, Copy, Debug)]
 struct Kept<T> {
     version: u32,
@@ -18,6 +18,7 @@ struct Kept<T> {
 pub struct Plain {
     deliveries: BTreeMap<u32, Vec<Kept<(u32, u8)>>>,
     registers: BTreeMap<u32, Vec<Kept<u32>>>,
+    agreed: BTreeMap<u32, Vec<Kept<u32>>>,
     holidays: BTreeSet<u32>,
 }
 
@@ -90,11 +91,34 @@ impl Plain {
         )
     }
 
+    /// As a delivery, with a highest version of its own.
+    pub fn agree(&mut self, head: Head, slot: u32, version: u32, value: u32) -> Result<Filed, u8> {
+        let shape = head.shape()?;
+        if slot as usize >= shape.slots {
+            return Err(refusal::PLACE);
+        }
+        if version == 0 {
+            return Err(refusal::VERSION);
+        }
+        if value > MOST_AGREED {
+            return Err(refusal::AGREED);
+        }
+        keep(self.agreed.entry(slot).or_default(), version, value)
+    }
+
     /// Value, version and status of a slot at the end; zeros if no call is kept.
     pub fn slot(&self, slot: u32) -> (u32, u32, u8) {
         match self.deliveries.get(&slot).and_then(|kept| highest(kept)) {
             Some(kept) => (kept.content.0, kept.version, kept.content.1),
             None => (0, 0, 0),
+        }
+    }
+
+    /// Agreed value and version of a slot at the end; zeros if no call is kept.
+    pub fn agreed(&self, slot: u32) -> (u32, u32) {
+        match self.agreed.get(&slot).and_then(|kept| highest(kept)) {
+            Some(kept) => (kept.content, kept.version),
+            None => (0, 0),
         }
     }
 

@@ -422,7 +422,7 @@ impl Maker {
 
     /// R for a span of these slots: at and around the edges of each state.
     fn advance(&mut self, slots: &[Slot]) -> u32 {
-        let v = rules::actual_sum(slots);
+        let v = rules::settled_sum(slots);
         let t = u64::from(self.shape.tolerance);
         let e: u64 = slots
             .iter()
@@ -504,6 +504,7 @@ impl Maker {
         let list = self.rng.pick(act.lent());
         let len = match list {
             List::Values | List::Versions | List::Statuses => self.shape.slots,
+            List::Agreed | List::AgreedVersions => self.shape.slots,
             List::Holidays => self.shape.days,
             List::Readings | List::ReadVersions => self.shape.days + 1,
         };
@@ -611,6 +612,11 @@ impl Maker {
                     boundary: boundary as u32,
                     version,
                     reading,
+                },
+                List::Agreed | List::AgreedVersions => Act::Agree {
+                    slot: slot as u32,
+                    version,
+                    value: reading,
                 },
             });
         }

@@ -1,6 +1,7 @@
-//! 01, The published file: the reader, which works from the end.
+//! 01, The published file: the reader, which works from the end; both of W1's layouts.
 
-use crate::file::{LAYOUT, SLOT_BYTES, SPAN_BYTES, TRAILER_BYTES};
+use crate::book::MOST_AGREED;
+use crate::file::{LAYOUT, LAYOUT_AGREED, SLOT_BYTES, SPAN_BYTES, TRAILER_BYTES};
 use crate::head::{self, DIAL};
 use crate::refusal;
 
@@ -12,9 +13,12 @@ pub struct Figures {
     pub interval: u64,
     pub spans: u64,
     pub actual: u64,
+    /// S and F slots.
     pub substituted: u64,
     pub none: u64,
     pub sum: u64,
+    /// 1, or 2 of a file with an F slot.
+    pub layout: u64,
 }
 
 /// The first broken rule found; all the reader gives away of it is its number.
@@ -28,6 +32,8 @@ pub enum Fault {
     Distance,
     Length,
     Record,
+    AgreedInLayout1,
+    NoneAgreedInLayout2,
     SpanBounds,
     SpanChain,
     Advance,
@@ -44,7 +50,7 @@ pub enum Fault {
 }
 
 impl Fault {
-    pub const ALL: [Fault; 21] = [
+    pub const ALL: [Fault; 23] = [
         Fault::Short,
         Fault::FirstDay,
         Fault::Days,
@@ -53,6 +59,8 @@ impl Fault {
         Fault::Distance,
         Fault::Length,
         Fault::Record,
+        Fault::AgreedInLayout1,
+        Fault::NoneAgreedInLayout2,
         Fault::SpanBounds,
         Fault::SpanChain,
         Fault::Advance,
@@ -105,6 +113,7 @@ pub fn check(file: &[u8]) -> Result<Figures, Fault> {
         .map(SpanRecord::of)
         .collect();
     require(slots.iter().all(SlotRecord::allowed), Fault::Record)?;
+    check_layout(&slots, &parts.figures)?;
     check_spans(&spans, &slots, &parts.figures)?;
     check_totals(&slots, &parts.figures)?;
     Ok(parts.figures)
@@ -134,6 +143,7 @@ impl Parts<'_> {
             substituted: number(&trailer[12..16]),
             none: number(&trailer[16..20]),
             sum: number(&trailer[20..28]),
+            layout: number(&trailer[5..6]),
         };
         let (first_day, days) = (figures.first_day as u32, figures.days as u32);
         require(head::days_fit(first_day, 1), Fault::FirstDay)?;
@@ -142,7 +152,7 @@ impl Parts<'_> {
             head::interval_known(figures.interval as u32),
             Fault::Interval,
         )?;
-        require(trailer[5] == LAYOUT, Fault::Layout)?;
+        require(matches!(trailer[5], LAYOUT | LAYOUT_AGREED), Fault::Layout)?;
         let span_bytes = SPAN_BYTES as u64 * figures.spans;
         require(number(&trailer[28..32]) == span_bytes, Fault::Distance)?;
         let slot_bytes = SLOT_BYTES as u64 * (1440 / figures.interval) * figures.days;
@@ -186,6 +196,7 @@ impl SlotRecord {
         match (self.letter, self.method) {
             (b'A', 0) | (b'S', 2 | 3 | 18 | 19) => true,
             (b'A', 1) | (b'N', 0) => self.value == 0,
+            (b'F', 5) => self.value <= u64::from(MOST_AGREED),
             _ => false,
         }
     }
@@ -197,6 +208,14 @@ impl SlotRecord {
     fn scaled(&self) -> bool {
         matches!(self.method, 18 | 19)
     }
+}
+
+/// An F exactly in layout 2.
+fn check_layout(slots: &[SlotRecord], figures: &Figures) -> Result<(), Fault> {
+    let agreed = slots.iter().any(|slot| slot.is(b'F'));
+    let announced = figures.layout == u64::from(LAYOUT_AGREED);
+    require(announced || !agreed, Fault::AgreedInLayout1)?;
+    require(agreed || !announced, Fault::NoneAgreedInLayout2)
 }
 
 struct SpanRecord {
@@ -264,7 +283,8 @@ fn check_span(span: &SpanRecord, slots: &[SlotRecord]) -> Result<(), Fault> {
 
 fn check_totals(slots: &[SlotRecord], figures: &Figures) -> Result<(), Fault> {
     let count = |letter| slots.iter().filter(|slot| slot.is(letter)).count() as u64;
-    let counts = [count(b'A'), count(b'S'), count(b'N')];
+    // F counts with S.
+    let counts = [count(b'A'), count(b'S') + count(b'F'), count(b'N')];
     let written = [figures.actual, figures.substituted, figures.none];
     require(counts == written, Fault::Counts)?;
     let sum: u64 = slots.iter().map(|slot| slot.value).sum();

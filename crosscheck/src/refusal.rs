@@ -13,6 +13,7 @@ pub const CONFLICT: u8 = 10;
 pub const CELL: u8 = 11;
 
 // 02.
+pub const AGREED: u8 = 12;
 pub const DIGIT: u8 = 16;
 pub const STAYS: u8 = 18;
 pub const STAY_DAYS: u8 = 19;

@@ -1,4 +1,5 @@
-//! 01, Tests of a slot, Filling and Spans: from the cells to the outcomes.
+//! 01, Tests of a slot, Filling and Spans, with W1's agreed values: from the cells to
+//! the outcomes.
 
 use std::ops::Range;
 
@@ -11,6 +12,9 @@ pub const PARTIAL: u8 = 4;
 /// Added to a method when its span was scaled.
 pub const SCALED: u8 = 16;
 
+/// The method of an agreed value.
+pub const AGREED: u8 = 5;
+
 /// The cells of a book, of the lengths its head asks for.
 #[derive(Clone, Copy, Debug)]
 pub struct Cells<'a> {
@@ -20,6 +24,8 @@ pub struct Cells<'a> {
     pub holidays: &'a [u8],
     pub readings: &'a [u32],
     pub read_versions: &'a [u32],
+    pub agreed: &'a [u32],
+    pub agreed_versions: &'a [u32],
 }
 
 #[derive(Clone, Copy, Debug, PartialEq, Eq)]
@@ -35,6 +41,8 @@ pub enum Quality {
     Actual,
     Substituted,
     None,
+    /// F: agreed with the skipper.
+    Agreed,
 }
 
 /// A slot's outcome.
@@ -119,6 +127,9 @@ pub fn fill(shape: &Shape, cells: &Cells, causes: &[Option<Cause>]) -> Vec<Slot>
         .map(|slot| {
             if causes[slot].is_none() {
                 filled(cells.values[slot], Quality::Actual, 0)
+            } else if cells.agreed_versions[slot] != 0 {
+                // Before the outage rule.
+                filled(cells.agreed[slot], Quality::Agreed, AGREED)
             } else if outage_gaps[slot] {
                 filled(0, Quality::Actual, 1)
             } else if let Some(value) = linear(cells, causes, slot) {
@@ -214,11 +225,11 @@ pub fn advance(earlier: u32, later: u32) -> u32 {
     (later + DIAL - earlier) % DIAL
 }
 
-/// V: the sum of the A slots.
-pub fn actual_sum(slots: &[Slot]) -> u64 {
+/// V: the sum of the A and F slots.
+pub fn settled_sum(slots: &[Slot]) -> u64 {
     slots
         .iter()
-        .filter(|slot| slot.quality == Quality::Actual)
+        .filter(|slot| matches!(slot.quality, Quality::Actual | Quality::Agreed))
         .map(|slot| u64::from(slot.value))
         .sum()
 }
@@ -226,7 +237,7 @@ pub fn actual_sum(slots: &[Slot]) -> u64 {
 fn state(shape: &Shape, slots: &[Slot], advance: u32) -> State {
     let has = |quality| slots.iter().any(|slot| slot.quality == quality);
     let r = u64::from(advance);
-    let v = actual_sum(slots);
+    let v = settled_sum(slots);
     if has(Quality::None) {
         State::Open
     } else if has(Quality::Substituted) {
@@ -244,7 +255,7 @@ fn state(shape: &Shape, slots: &[Slot], advance: u32) -> State {
 
 /// Shares T = R − V out over the S slots by running sums, so that no Wh is lost.
 fn scale(slots: &mut [Slot], advance: u32) {
-    let t = u128::from(advance) - u128::from(actual_sum(slots));
+    let t = u128::from(advance) - u128::from(settled_sum(slots));
     let mut substituted: Vec<&mut Slot> = slots
         .iter_mut()
         .filter(|slot| slot.quality == Quality::Substituted)

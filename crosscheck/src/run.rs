@@ -177,6 +177,11 @@ impl Run<'_> {
             } => Some(filed_answer(
                 plain.register(call.head, boundary, version, reading),
             )),
+            Act::Agree {
+                slot,
+                version,
+                value,
+            } => Some(filed_answer(plain.agree(call.head, slot, version, value))),
             Act::Publish { .. } => {
                 let length = file_length(&shape, &self.expected);
                 Some(if room < length {
@@ -231,6 +236,20 @@ impl Run<'_> {
                 let at = boundary as usize;
                 self.expected.write(List::Readings, at, cell.0);
                 self.expected.write(List::ReadVersions, at, cell.1);
+            }
+            Act::Agree {
+                slot,
+                version,
+                value,
+            } => {
+                let cell = match &self.plain {
+                    Some(plain) => plain.agreed(slot),
+                    None if stored => (value, version),
+                    None => return,
+                };
+                let at = slot as usize;
+                self.expected.write(List::Agreed, at, cell.0);
+                self.expected.write(List::AgreedVersions, at, cell.1);
             }
             Act::Open | Act::Publish { .. } | Act::Write { .. } => {}
         }
@@ -299,9 +318,10 @@ fn figures(shape: &Shape, slots: &[Slot], spans: &[Span]) -> Figures {
         interval: u64::from(shape.interval),
         spans: spans.len() as u64,
         actual: count(Quality::Actual),
-        substituted: count(Quality::Substituted),
+        substituted: count(Quality::Substituted) + count(Quality::Agreed),
         none: count(Quality::None),
         sum: slots.iter().map(|slot| u64::from(slot.value)).sum(),
+        layout: if count(Quality::Agreed) > 0 { 2 } else { 1 },
     }
 }
 
@@ -353,6 +373,7 @@ fn wrong_length(shape: &Shape, act: &Act, lists: &Lists) -> bool {
     act.lent().iter().any(|&list| {
         let wanted = match list {
             List::Values | List::Versions | List::Statuses => shape.slots,
+            List::Agreed | List::AgreedVersions => shape.slots,
             List::Holidays => shape.days,
             List::Readings | List::ReadVersions => shape.days + 1,
         };

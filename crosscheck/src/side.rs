@@ -19,6 +19,7 @@ pub trait Side {
     fn deliver(&self, head: Head, lists: &mut Lists, delivery: Delivery) -> Answer;
     fn holiday(&self, head: Head, lists: &mut Lists, day: u32) -> Answer;
     fn register(&self, head: Head, lists: &mut Lists, read: RegisterRead) -> Answer;
+    fn agree(&self, head: Head, lists: &mut Lists, agreement: Agreement) -> Answer;
     fn publish(&self, head: Head, lists: &Lists, out: &mut [u8]) -> Answer;
     fn read(&self, file: &[u8]) -> Result<Figures, u64>;
     /// The length of the tables' part.
@@ -42,6 +43,13 @@ pub struct RegisterRead {
     pub boundary: u32,
     pub version: u32,
     pub reading: u32,
+}
+
+#[derive(Clone, Copy, Debug, PartialEq, Eq)]
+pub struct Agreement {
+    pub slot: u32,
+    pub version: u32,
+    pub value: u32,
 }
 
 /// Makes one call; none for what is no call.
@@ -76,6 +84,18 @@ pub fn apply(side: &dyn Side, call: &Call, lists: &mut Lists, out: &mut [u8]) ->
             };
             Some(side.register(head, lists, read))
         }
+        Act::Agree {
+            slot,
+            version,
+            value,
+        } => {
+            let agreement = Agreement {
+                slot,
+                version,
+                value,
+            };
+            Some(side.agree(head, lists, agreement))
+        }
         Act::Publish { .. } => Some(side.publish(head, lists, out)),
         Act::Write { list, index, value } => {
             lists.write(list, index, value);
@@ -104,6 +124,8 @@ impl Side for Second {
             &mut lists.holidays,
             &mut lists.readings,
             &mut lists.read_versions,
+            &mut lists.agreed,
+            &mut lists.agreed_versions,
         );
         match result {
             Ok(()) => Answer::Done,
@@ -139,6 +161,17 @@ impl Side for Second {
         ))
     }
 
+    fn agree(&self, head: Head, lists: &mut Lists, agreement: Agreement) -> Answer {
+        filed_answer(book::agree(
+            head,
+            &mut lists.agreed,
+            &mut lists.agreed_versions,
+            agreement.slot,
+            agreement.version,
+            agreement.value,
+        ))
+    }
+
     fn publish(&self, head: Head, lists: &Lists, out: &mut [u8]) -> Answer {
         let result = book::publish(
             head,
@@ -148,6 +181,8 @@ impl Side for Second {
             &lists.holidays,
             &lists.readings,
             &lists.read_versions,
+            &lists.agreed,
+            &lists.agreed_versions,
             out,
         );
         match result {

@@ -7,7 +7,7 @@ use crosscheck::head::Head;
 use crosscheck::random;
 use crosscheck::reader::Figures;
 use crosscheck::run::run;
-use crosscheck::side::{Answer, Delivery, RegisterRead, Second, Side};
+use crosscheck::side::{Agreement, Answer, Delivery, RegisterRead, Second, Side};
 
 #[test]
 fn random_books_agree_with_the_plain_book() {
@@ -92,6 +92,10 @@ impl Side for Meddled {
 
     fn register(&self, head: Head, lists: &mut Lists, read: RegisterRead) -> Answer {
         Second.register(head, lists, read)
+    }
+
+    fn agree(&self, head: Head, lists: &mut Lists, agreement: Agreement) -> Answer {
+        Second.agree(head, lists, agreement)
     }
 
     fn publish(&self, head: Head, lists: &Lists, out: &mut [u8]) -> Answer {

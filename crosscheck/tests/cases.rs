@@ -141,6 +141,7 @@ fn whole() {
         substituted: 1,
         none: 0,
         sum: 4800,
+        layout: 1,
     };
     assert_eq!(reader::read(&file), Ok(figures));
 }

@@ -54,6 +54,7 @@ fn one_is_a_head_out_of_bounds() {
         assert_eq!(deliver(head, &mut lists, (MAX, 0, 0, 255)), Err(1));
         assert_eq!(book::holiday(head, &mut [], MAX), Err(1));
         assert_eq!(register(head, &mut lists, (MAX, 0, MAX)), Err(1));
+        assert_eq!(agree(head, &mut lists, (MAX, 0, MAX)), Err(1));
         assert_eq!(publish(head, &lists, &mut []), Err(1));
     }
     let bounds = Head {
@@ -82,15 +83,18 @@ fn two_is_a_list_of_a_wrong_length() {
             let delivered = deliver(HEAD, &mut lists, (MAX, 0, 0, 255));
             let registered = register(HEAD, &mut lists, (MAX, 0, MAX));
             let holiday = book::holiday(HEAD, &mut lists.holidays, MAX);
+            let agreed = agree(HEAD, &mut lists, (MAX, 0, MAX));
             // Each call is lent its own lists only, and 2 is about those.
             let numbers = match list {
-                List::Values | List::Versions | List::Statuses => (2, 3, 3),
-                List::Readings | List::ReadVersions => (3, 2, 3),
-                List::Holidays => (3, 3, 2),
+                List::Values | List::Versions | List::Statuses => (2, 3, 3, 3),
+                List::Readings | List::ReadVersions => (3, 2, 3, 3),
+                List::Holidays => (3, 3, 2, 3),
+                List::Agreed | List::AgreedVersions => (3, 3, 3, 2),
             };
             assert_eq!(delivered, Err(numbers.0));
             assert_eq!(registered, Err(numbers.1));
             assert_eq!(holiday, Err(numbers.2));
+            assert_eq!(agreed, Err(numbers.3));
             assert_eq!(lists, before);
         }
     }

@@ -25,6 +25,8 @@ pub fn open(head: Head, lists: &mut Lists) -> Result<(), u8> {
         &mut lists.holidays,
         &mut lists.readings,
         &mut lists.read_versions,
+        &mut lists.agreed,
+        &mut lists.agreed_versions,
     )
 }
 
@@ -60,6 +62,21 @@ pub fn register(
     )
 }
 
+pub fn agree(
+    head: Head,
+    lists: &mut Lists,
+    (slot, version, value): (u32, u32, u32),
+) -> Result<Filed, u8> {
+    book::agree(
+        head,
+        &mut lists.agreed,
+        &mut lists.agreed_versions,
+        slot,
+        version,
+        value,
+    )
+}
+
 pub fn publish(head: Head, lists: &Lists, out: &mut [u8]) -> Result<usize, u8> {
     book::publish(
         head,
@@ -69,6 +86,8 @@ pub fn publish(head: Head, lists: &Lists, out: &mut [u8]) -> Result<usize, u8> {
         &lists.holidays,
         &lists.readings,
         &lists.read_versions,
+        &lists.agreed,
+        &lists.agreed_versions,
         out,
     )
 }
@@ -109,6 +128,14 @@ impl Test {
     pub fn holiday(&mut self, day: u32) {
         let answer = book::holiday(self.head, &mut self.lists.holidays, day);
         assert_eq!(answer, Ok(Filed::Stored));
+    }
+
+    pub fn agree(&mut self, slot: usize, value: u32) {
+        let agreement = (slot as u32, 1, value);
+        assert_eq!(
+            agree(self.head, &mut self.lists, agreement),
+            Ok(Filed::Stored)
+        );
     }
 
     pub fn register(&mut self, boundary: u32, reading: u32) {
