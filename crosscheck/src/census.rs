@@ -1,6 +1,7 @@
 //! Which classes the slots and spans of a published book fall in.
 
 use crate::counts::{Counts, NUMBERS};
+use crate::file;
 use crate::head::Shape;
 use crate::rules::{self, Cause, Cells, Quality, Slot, Span, State};
 
@@ -31,7 +32,13 @@ pub fn take(shape: &Shape, cells: &Cells, (slots, spans): (&[Slot], &[Span]), co
     for span in spans {
         census.span(span);
     }
+    census.agreed_outside(spans);
     let covered: usize = spans.iter().map(|span| span.last - span.first).sum();
+    let name = match file::layout(slots) {
+        file::LAYOUT => "layout 1 published",
+        _ => "layout 2 published",
+    };
+    counts.add("agreed", name);
     let outside = !spans.is_empty() && covered < shape.days;
     counts.add_if(outside, "span", "slots outside");
 }
@@ -54,6 +61,9 @@ impl Census<'_> {
             Some(Cause::Demand) => "demand",
         };
         self.counts.add("cause", cause);
+        if self.cells.agreed_versions[slot] != 0 {
+            self.agreed(slot);
+        }
         let quality = match outcome.quality {
             Quality::Actual => "A",
             Quality::Substituted => "S",
@@ -80,6 +90,55 @@ impl Census<'_> {
             _ if outcome.quality == Quality::None => self.references(slot),
             _ => {}
         }
+    }
+
+    fn agreed(&mut self, slot: usize) {
+        let name = match self.causes[slot] {
+            None => "agreed on a good slot",
+            Some(Cause::Gap) => "agreed beside a gap",
+            Some(Cause::TimeChange) => "agreed beside a time change",
+            Some(Cause::Partial) => "agreed beside a partial interval",
+            Some(Cause::Demand) => "agreed beside a demand",
+        };
+        self.counts.add("agreed", name);
+        if self.causes[slot].is_none() {
+            return;
+        }
+        let value = self.cells.agreed[slot];
+        let over = value > self.shape.limit * self.shape.interval / 60;
+        let in_run = self.causes[slot] == Some(Cause::Gap) && self.run_beside_outage(slot);
+        let counts = &mut self.counts;
+        counts.add_if(value == 0, "agreed", "F of value 0");
+        counts.add_if(value == 99_999_999, "agreed", "F of value 99,999,999");
+        counts.add_if(over, "agreed", "F over the demand limit");
+        counts.add_if(in_run, "agreed", "agreed inside a run beside an outage");
+    }
+
+    /// Whether a gap's run has an outage just before or after.
+    fn run_beside_outage(&self, slot: usize) -> bool {
+        let delivered = |other: &usize| self.cells.versions[*other] != 0;
+        let before = (0..slot).rev().find(delivered);
+        let after = (slot + 1..self.shape.slots).find(delivered);
+        [before, after]
+            .into_iter()
+            .flatten()
+            .any(|end| self.outage(end))
+    }
+
+    /// A cause and an agreed value.
+    fn is_agreed(&self, slot: usize) -> bool {
+        self.filled[slot].quality == Quality::Agreed
+    }
+
+    fn agreed_outside(&mut self, spans: &[Span]) {
+        let inside = |slot: usize| {
+            let day = slot / self.shape.slots_a_day;
+            spans
+                .iter()
+                .any(|span| (span.first..span.last).contains(&day))
+        };
+        let outside = (0..self.shape.slots).any(|slot| self.is_agreed(slot) && !inside(slot));
+        self.counts.add_if(outside, "agreed", "F outside spans");
     }
 
     fn demand(&mut self, slot: usize) {
@@ -109,6 +168,10 @@ impl Census<'_> {
         counts.add_if(before && after, "outage zero", "both sides");
         counts.add_if(slot == 0, "outage zero", "run at the first slot");
         counts.add_if(slot == last, "outage zero", "run at the last slot");
+        let agreed = |other: usize| self.is_agreed(other) && self.causes[other] == Some(Cause::Gap);
+        let beyond = slot > 0 && agreed(slot - 1) || slot < last && agreed(slot + 1);
+        self.counts
+            .add_if(beyond, "agreed", "outage zero beyond an agreed gap");
     }
 
     fn linear(&mut self, slot: usize) {
@@ -129,6 +192,12 @@ impl Census<'_> {
             });
             self.counts
                 .add_if(filled_neighbour, "linear", "not from a filled neighbour");
+            let good = |other: usize| self.causes[other].is_none();
+            let (before, after) = (slot - 1, slot + 1);
+            let no_line =
+                self.is_agreed(before) && good(after) || good(before) && self.is_agreed(after);
+            self.counts
+                .add_if(no_line, "agreed", "no line from an agreed neighbour");
         }
         let earlier = |week: usize| slot.checked_sub(week * 7 * self.shape.slots_a_day);
         if let Some(oldest) = earlier(52) {
@@ -144,6 +213,9 @@ impl Census<'_> {
         }
         if let Some(week) = earlier(1) {
             self.skipped(week);
+            let agreed = self.is_agreed(week);
+            self.counts
+                .add_if(agreed, "agreed", "no reference from an agreed week");
         }
     }
 
@@ -178,10 +250,31 @@ impl Census<'_> {
             .sum();
         let scaled = span.state == State::Scaled;
         let below = span.state == State::Disagrees && !actual;
+        let agreed = has(Quality::Agreed);
         let wrapped = self.cells.readings[span.last] < self.cells.readings[span.first];
         let counts = &mut self.counts;
         counts.add("span state", state);
         counts.add_if(wrapped, "span", "dial wrapped");
+        let within = [
+            "F in a span of state 0",
+            "F in a span of state 1",
+            "F in a span of state 2",
+            "F in a span of state 3",
+        ];
+        counts.add_if(
+            agreed,
+            "agreed",
+            within[usize::from(file::state_number(span.state))],
+        );
+        let at_edge = agreed && actual && t > 0 && r == v + t;
+        counts.add_if(at_edge, "agreed", "R = V + t with an F");
+        counts.add_if(
+            agreed && scaled && r == v,
+            "agreed",
+            "R = V with an F, scaled",
+        );
+        let one_below = agreed && below && r + 1 == v;
+        counts.add_if(one_below, "agreed", "R = V - 1 with an F, disagrees");
         counts.add_if(r == 0, "span", "R 0");
         counts.add_if(scaled && e == 0, "span", "E 0");
         counts.add_if(scaled && r == v, "span", "R = V, scaled");

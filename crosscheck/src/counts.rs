@@ -3,10 +3,10 @@
 use std::collections::BTreeMap;
 use std::fmt;
 
-use crate::book::Filed;
-use crate::calls::{Act, Book, List};
+use crate::book::{Filed, MOST_AGREED};
+use crate::calls::{Act, Book, List, Lists};
 use crate::head::Shape;
-use crate::reader::Fault;
+use crate::reader::{Fault, Figures};
 use crate::side::Answer;
 
 type Class = (&'static str, &'static str);
@@ -137,6 +137,39 @@ const CLASSES: &[(&str, &[&str])] = &[
         ],
     ),
     (
+        "agreed",
+        &[
+            "agreed beside a gap",
+            "agreed beside a time change",
+            "agreed beside a partial interval",
+            "agreed beside a demand",
+            "agreed on a good slot",
+            "agreed inside a run beside an outage",
+            "outage zero beyond an agreed gap",
+            "no line from an agreed neighbour",
+            "no reference from an agreed week",
+            "F in a span of state 0",
+            "F in a span of state 1",
+            "F in a span of state 2",
+            "F in a span of state 3",
+            "F outside spans",
+            "F of value 0",
+            "F of value 99,999,999",
+            "F over the demand limit",
+            "R = V + t with an F",
+            "R = V with an F, scaled",
+            "R = V - 1 with an F, disagrees",
+            "layout 1 published",
+            "layout 2 published",
+            "layout 1 read",
+            "layout 2 read",
+            "agree refused 11, over 99,999,999",
+            "agree refused 11, beside version 0",
+            "publish refused 11, agreed over 99,999,999",
+            "publish refused 11, agreed beside version 0",
+        ],
+    ),
+    (
         "reader's fault",
         &[
             "Short",
@@ -258,6 +291,31 @@ impl Counts {
         self.add(group, name);
     }
 
+    /// Why the agreed lists, and no other cell, gave 11.
+    pub fn impossible_agreed(&mut self, act: &Act, lists: &Lists) {
+        let slots = match *act {
+            Act::Agree { slot, .. } => slot as usize..slot as usize + 1,
+            Act::Publish { .. } => 0..lists.agreed.len(),
+            _ => return,
+        };
+        let over = slots.clone().any(|i| lists.agreed[i] > MOST_AGREED);
+        let beside = slots
+            .into_iter()
+            .any(|i| lists.agreed[i] != 0 && lists.agreed_versions[i] == 0);
+        let names = match act {
+            Act::Agree { .. } => [
+                "agree refused 11, over 99,999,999",
+                "agree refused 11, beside version 0",
+            ],
+            _ => [
+                "publish refused 11, agreed over 99,999,999",
+                "publish refused 11, agreed beside version 0",
+            ],
+        };
+        self.add_if(over, "agreed", names[0]);
+        self.add_if(beside, "agreed", names[1]);
+    }
+
     pub fn resized(&mut self, list: List) {
         let name = match list {
             List::Values => "values",
@@ -272,10 +330,15 @@ impl Counts {
         self.add("list of a wrong length", name);
     }
 
-    pub fn fault(&mut self, fault: Option<Fault>) {
-        let Some(fault) = fault else {
-            self.add("answer of the reader", "figures");
-            return;
+    pub fn reader(&mut self, checked: Result<Figures, Fault>) {
+        let fault = match checked {
+            Ok(figures) => {
+                self.add("answer of the reader", "figures");
+                self.add_if(figures.layout == 1, "agreed", "layout 1 read");
+                self.add_if(figures.layout == 2, "agreed", "layout 2 read");
+                return;
+            }
+            Err(fault) => fault,
         };
         self.add("answer of the reader", NUMBERS[fault.number() as usize]);
         let position = Fault::ALL.iter().position(|&other| other == fault);

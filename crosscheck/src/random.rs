@@ -4,7 +4,7 @@ use crate::calls::{Act, Book, Call, List, Lists, Room};
 use crate::head::{DIAL, Head, Shape};
 use crate::heads;
 use crate::rng::Rng;
-use crate::rules::{self, OUTAGE, Quality, Slot};
+use crate::rules::{self, Cause, OUTAGE, Quality, Slot};
 use crate::side::{Answer, Second, apply};
 
 /// A book gets at most about this many deliveries, so that most run in a moment.
@@ -146,6 +146,7 @@ impl Maker {
         let opened = self.calls.len();
         self.deliveries();
         self.holidays(opened);
+        self.agreements(opened);
         self.registers(opened);
         self.wild_calls_among(opened);
         self.publishing(opened);
@@ -350,8 +351,85 @@ impl Maker {
                 version: again(version),
                 reading: if same { reading } else { reading ^ 1 },
             },
+            Act::Agree {
+                slot,
+                version,
+                value,
+            } => Act::Agree {
+                slot,
+                version: again(version),
+                value: if same { value } else { value ^ 1 },
+            },
             other => other,
         }
+    }
+
+    // Agreed values
+
+    /// Values agreed for slots of one part of the book, mostly such with a cause.
+    fn agreements(&mut self, opened: usize) {
+        // One in so many of the slots with a cause, and of the good ones.
+        let (failed, good) = self.rng.pick(&[
+            (0, 0),
+            (0, 0),
+            (1, 0),
+            (1, 0),
+            (1, 5),
+            (2, 20),
+            (6, 0),
+            (30, 30),
+        ]);
+        let part = self.agreed_part();
+        let causes = self.causes_so_far();
+        let way = self.rng.below(8);
+        let mut acts = Vec::new();
+        for slot in part {
+            let times = if causes[slot].is_some() { failed } else { good };
+            if !self.rng.one_in(times) {
+                continue;
+            }
+            let act = Act::Agree {
+                slot: slot as u32,
+                version: self.rng.pick(&[1, 1, 1, 2, 9, u32::MAX]),
+                value: self.agreed_value(way),
+            };
+            acts.push(act);
+            if self.rng.one_in(12) {
+                acts.push(self.again(act));
+            }
+        }
+        let calls: Vec<Call> = acts.into_iter().map(|act| self.call(act)).collect();
+        let at = opened + self.rng.below(self.calls.len() - opened + 1);
+        self.calls.splice(at..at, calls);
+    }
+
+    /// The slots of some days in a row, or all.
+    fn agreed_part(&mut self) -> std::ops::Range<usize> {
+        let (days, n) = (self.shape.days, self.shape.slots_a_day);
+        let most = (MOST_DELIVERIES / n).max(1);
+        let many = if days <= most && self.rng.one_in(2) {
+            days
+        } else {
+            1 + self.rng.below(days.min(most))
+        };
+        let first = self.rng.below(days - many + 1);
+        first * n..(first + many) * n
+    }
+
+    fn agreed_value(&mut self, way: usize) -> u32 {
+        let most = self.most();
+        let any = self.rng.word() % DIAL;
+        match way {
+            0 => 0,
+            1 => self.rng.pick(&[0, 1, most + 1, any, DIAL - 2, DIAL - 1]),
+            2 if self.rng.one_in(20) => DIAL - 1,
+            _ => self.rng.between(0, most / 8),
+        }
+    }
+
+    fn causes_so_far(&self) -> Vec<Option<Cause>> {
+        let lists = self.lists_so_far();
+        rules::causes(&self.shape, &lists.cells())
     }
 
     // Holidays and registers
@@ -406,15 +484,25 @@ impl Maker {
         }
     }
 
-    /// The slots as the calls so far would be filled, for choosing register reads.
-    fn filled_so_far(&self) -> Vec<Slot> {
+    /// The cells as the deliveries, holidays and agreed values so far leave them.
+    fn lists_so_far(&self) -> Lists {
         let mut lists = Lists::zeroed(self.shape.slots, self.shape.days);
         for call in &self.calls {
             let usual = call.head == self.head && call.resized.is_none();
-            if usual && matches!(call.act, Act::Deliver { .. } | Act::Holiday { .. }) {
+            let fills = matches!(
+                call.act,
+                Act::Deliver { .. } | Act::Holiday { .. } | Act::Agree { .. }
+            );
+            if usual && fills {
                 apply(&Second, call, &mut lists, &mut []);
             }
         }
+        lists
+    }
+
+    /// The slots as the calls so far would be filled, for choosing register reads.
+    fn filled_so_far(&self) -> Vec<Slot> {
+        let lists = self.lists_so_far();
         let cells = lists.cells();
         let causes = rules::causes(&self.shape, &cells);
         rules::fill(&self.shape, &cells, &causes)
@@ -523,7 +611,7 @@ impl Maker {
             let any = rng.word();
             rng.pick(&[0, 1, 1, 2, 3, u32::MAX, any])
         };
-        match rng.below(8) {
+        match rng.below(10) {
             0..=2 => {
                 let slot = rng.below(slots as usize) as u32;
                 Act::Deliver {
@@ -545,6 +633,14 @@ impl Maker {
                     boundary: rng.pick(&[boundary, boundary, days, days + 1, u32::MAX]),
                     version,
                     reading: rng.pick(&[0, 5, DIAL - 1, DIAL, DIAL + 1, u32::MAX]),
+                }
+            }
+            7 | 8 => {
+                let slot = rng.below(slots as usize) as u32;
+                Act::Agree {
+                    slot: rng.pick(&[slot, slot, 0, slots - 1, slots, slots + 1, u32::MAX]),
+                    version,
+                    value: rng.pick(&[0, 1, 100, DIAL - 1, DIAL, DIAL + 1, u32::MAX]),
                 }
             }
             _ => Act::Publish {
@@ -584,7 +680,7 @@ impl Maker {
         let boundary = self.rng.below(self.shape.days + 1);
         let byte = u32::from(self.rng.byte());
         let word = self.rng.word();
-        let (list, index, value) = match self.rng.below(10) {
+        let (list, index, value) = match self.rng.below(16) {
             0 => (List::Statuses, slot, 8 + byte % 248),
             1 => (List::Statuses, slot, 8),
             2 => (List::Versions, slot, 0),
@@ -594,6 +690,10 @@ impl Maker {
             6 => (List::Readings, boundary, over_the_dial(word)),
             7 => (List::ReadVersions, boundary, 0),
             8 => (List::Readings, boundary, 1),
+            9 | 10 => (List::Agreed, slot, over_the_dial(word)),
+            11 | 12 => (List::Agreed, slot, 1),
+            13 => (List::Agreed, slot, DIAL - 1),
+            14 => (List::AgreedVersions, slot, 0),
             _ => (List::Holidays, day, 2),
         };
         self.push(Act::Write { list, index, value });
@@ -631,7 +731,7 @@ impl Maker {
     }
 }
 
-/// A reading over the dial.
+/// A reading over the dial, or an agreed value over 99,999,999.
 fn over_the_dial(word: u32) -> u32 {
     DIAL.saturating_add(word % 3)
 }

@@ -89,6 +89,9 @@ impl Run<'_> {
         match answer {
             Some(answer) => {
                 counts.answer(&call.act, answer);
+                if answer == Answer::Refused(11) && self.others_possible(call) {
+                    counts.impossible_agreed(&call.act, &self.second);
+                }
                 self.compare_with_plain(call, answer, room)?;
             }
             None => self.written_aside(call),
@@ -101,6 +104,13 @@ impl Run<'_> {
             self.check_file(call, answer, &out, counts)?;
         }
         Ok(())
+    }
+
+    /// Whether the call wouldn't meet 11 without the agreed values.
+    fn others_possible(&self, call: &Call) -> bool {
+        let mut lists = self.second.clone();
+        lists.agreed.fill(0);
+        apply(&Second, call, &mut lists, &mut []) != Some(Answer::Refused(11))
     }
 
     fn compare_with_other(
@@ -332,7 +342,7 @@ pub fn compare_readers(
     counts: &mut Counts,
 ) -> Result<(), String> {
     let checked = reader::check(file);
-    counts.fault(checked.err());
+    counts.reader(checked);
     let read = Second.read(file);
     let defined = acceptance::read(file).map_err(u64::from);
     if read != defined {

@@ -6,6 +6,7 @@ use crosscheck::counts::Counts;
 use crosscheck::head::Head;
 use crosscheck::random;
 use crosscheck::reader::Figures;
+use crosscheck::rules;
 use crosscheck::run::run;
 use crosscheck::side::{Agreement, Answer, Delivery, RegisterRead, Second, Side};
 
@@ -42,9 +43,16 @@ enum Meddling {
     WritesOnRefusal,
     LateIsRefused,
     ReaderAcceptsAll,
+    AgreeDoesNothing,
+    AgreedIgnored,
+    AgreedBeatsGood,
+    AgreedEndsRuns,
+    AgreedIsNeighbourAndReference,
+    AlwaysLayout1,
+    AgreedUnchecked,
 }
 
-const ALL: [Meddling; 12] = [
+const ALL: [Meddling; 19] = [
     Meddling::FillsNothing,
     Meddling::FirstDeliveryOnly,
     Meddling::ConstantFile,
@@ -57,6 +65,13 @@ const ALL: [Meddling; 12] = [
     Meddling::WritesOnRefusal,
     Meddling::LateIsRefused,
     Meddling::ReaderAcceptsAll,
+    Meddling::AgreeDoesNothing,
+    Meddling::AgreedIgnored,
+    Meddling::AgreedBeatsGood,
+    Meddling::AgreedEndsRuns,
+    Meddling::AgreedIsNeighbourAndReference,
+    Meddling::AlwaysLayout1,
+    Meddling::AgreedUnchecked,
 ];
 
 impl Side for Meddled {
@@ -95,14 +110,17 @@ impl Side for Meddled {
     }
 
     fn agree(&self, head: Head, lists: &mut Lists, agreement: Agreement) -> Answer {
-        Second.agree(head, lists, agreement)
+        match self.0 {
+            Meddling::AgreeDoesNothing => Answer::Filed(Filed::Stored),
+            _ => Second.agree(head, lists, agreement),
+        }
     }
 
     fn publish(&self, head: Head, lists: &Lists, out: &mut [u8]) -> Answer {
         if self.0 == Meddling::AlwaysShort {
             return Answer::Refused(7);
         }
-        let answer = Second.publish(head, lists, out);
+        let answer = Second.publish(head, &self.meddled(head, lists), out);
         let Answer::Length(length) = answer else {
             if self.0 == Meddling::WritesOnRefusal && !out.is_empty() {
                 out[0] = 0;
@@ -119,6 +137,8 @@ impl Side for Meddled {
                 }
             }
             Meddling::ConstantFile => file.fill(0),
+            Meddling::AlwaysLayout1 => file[length as usize - 27] = 1,
+            Meddling::AgreedIsNeighbourAndReference => name_agreed(head, lists, file),
             Meddling::MadeUpCounts => file[length as usize - 24] ^= 1,
             Meddling::WritesBehindTheFile => behind.fill(0),
             _ => {}
@@ -135,6 +155,73 @@ impl Side for Meddled {
             Meddling::ReaderAcceptsAll => file.len() as u64,
             _ => Second.tables(file),
         }
+    }
+}
+
+impl Meddled {
+    /// The cells as a build with this slip would take them.
+    fn meddled(&self, head: Head, lists: &Lists) -> Lists {
+        let mut lists = lists.clone();
+        if self.0 == Meddling::AgreedIgnored {
+            lists.agreed_versions.fill(0);
+            lists.agreed.fill(0);
+        }
+        if self.0 == Meddling::AgreedUnchecked {
+            lists
+                .agreed
+                .iter_mut()
+                .for_each(|value| *value %= 100_000_000);
+        }
+        for slot in agreed_slots(head, &lists, self.0 == Meddling::AgreedBeatsGood) {
+            let gap = lists.versions[slot] == 0;
+            let cell = match self.0 {
+                Meddling::AgreedBeatsGood => (0, 0, 0),
+                // A failed slot is no gap.
+                Meddling::AgreedEndsRuns if gap => (1, 0, 1),
+                Meddling::AgreedIsNeighbourAndReference => (1, lists.agreed[slot], 0),
+                _ => continue,
+            };
+            (
+                lists.versions[slot],
+                lists.values[slot],
+                lists.statuses[slot],
+            ) = cell;
+        }
+        lists
+    }
+}
+
+/// The slots with an agreed value, good ones or those with a cause.
+fn agreed_slots(head: Head, lists: &Lists, good: bool) -> Vec<usize> {
+    let Ok(shape) = head.shape() else {
+        return Vec::new();
+    };
+    let full = |len: usize| len == shape.slots;
+    if !full(lists.values.len()) || !full(lists.versions.len()) || !full(lists.statuses.len()) {
+        return Vec::new();
+    }
+    let causes = rules::causes(&shape, &lists.cells());
+    (0..shape.slots.min(lists.agreed_versions.len()))
+        .filter(|&slot| lists.agreed_versions[slot] != 0 && causes[slot].is_none() == good)
+        .collect()
+}
+
+/// Gives agreed slots that were published as A their letter, method and count.
+fn name_agreed(head: Head, lists: &Lists, file: &mut [u8]) {
+    let trailer = file.len() - 32;
+    let slots = agreed_slots(head, lists, false);
+    for &slot in &slots {
+        file[6 * slot + 4..6 * slot + 6].copy_from_slice(&[b'F', 5]);
+    }
+    if !slots.is_empty() {
+        file[trailer + 5] = 2;
+    }
+    for (at, letters) in [(8, &b"A"[..]), (12, &b"SF"[..])] {
+        let records = file[..6 * lists.values.len()].chunks(6);
+        let count = records
+            .filter(|record| letters.contains(&record[4]))
+            .count();
+        file[trailer + at..trailer + at + 4].copy_from_slice(&(count as u32).to_le_bytes());
     }
 }
 
