@@ -170,6 +170,23 @@ const CLASSES: &[(&str, &[&str])] = &[
         ],
     ),
     (
+        "damaged file",
+        &[
+            "damage to a file of layout 1",
+            "damage to a file of layout 2",
+            "damaged, layout 1 accepted",
+            "damaged, layout 2 accepted",
+            "layout byte 1 made 2",
+            "layout byte 2 made 1",
+            "F in layout 1",
+            "no F in layout 2",
+            "(F,5) of 99,999,999 accepted",
+            "(F,5) of 100,000,000",
+            "F with another method",
+            "5 with another letter",
+        ],
+    ),
+    (
         "reader's fault",
         &[
             "Short",

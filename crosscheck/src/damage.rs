@@ -1,7 +1,9 @@
 //! Damaged files: a published file and a list of edits, from a seed.
 
+use crate::counts::Counts;
 use crate::file::{SLOT_BYTES, SPAN_BYTES, TRAILER_BYTES};
 use crate::random;
+use crate::reader;
 use crate::rng::Rng;
 
 /// A field of the trailer: its place in it and its bytes.
@@ -84,6 +86,8 @@ pub enum Edit {
     Bytes(Vec<u8>),
     /// Sets the trailer's counts and sum to those of the slot table.
     Mend,
+    /// Sets the trailer's layout to the one the slot table asks for.
+    MendLayout,
 }
 
 /// A published file and what is done to it.
@@ -159,6 +163,10 @@ fn apply(file: &mut Vec<u8>, edit: &Edit) {
         Edit::AllZero => file.fill(0),
         Edit::Bytes(bytes) => file.clone_from(bytes),
         Edit::Mend => mend(file),
+        Edit::MendLayout => {
+            let layout = if has_agreed(file) { 2 } else { 1 };
+            set_field(file, LAYOUT, layout);
+        }
     }
 }
 
@@ -238,7 +246,8 @@ fn mend(file: &mut [u8]) {
 pub struct Bases(Vec<Vec<u8>>);
 
 impl Bases {
-    /// Every other file has a scaled span, as many rules are about those.
+    /// Every other file has a scaled span, as many rules are about those; and every
+    /// second pair of files has an F slot, the others none.
     pub fn new(seed: u64, many: usize) -> Bases {
         let mut bases = Vec::new();
         for index in 0.. {
@@ -246,7 +255,9 @@ impl Bases {
                 break;
             }
             let file = random::small_file(seed ^ 0xBA5E, index);
-            if bases.len() % 2 == 0 || has_scaled(&file) {
+            let scaled = bases.len() % 2 == 0 || has_scaled(&file);
+            let agreed = has_agreed(&file) == (bases.len() / 2 % 2 == 1);
+            if scaled && agreed {
                 bases.push(file);
             }
         }
@@ -267,6 +278,9 @@ impl Bases {
         if rng.one_in(2) {
             edits.push(Edit::Mend);
         }
+        if rng.one_in(4) {
+            edits.push(Edit::MendLayout);
+        }
         Damaged { base, edits }
     }
 
@@ -274,7 +288,7 @@ impl Bases {
         let (slot_end, spans) = span_table(base);
         let slots = slot_end / SLOT_BYTES;
         let span = rng.below(spans.max(1));
-        match rng.below(30) {
+        match rng.below(36) {
             0 => Edit::Truncate(rng.below(base.len() + 1)),
             1 => Edit::Truncate(rng.pick(&[0, 1, 31, 32, 33, base.len() - 1])),
             2 => Edit::Cut {
@@ -310,16 +324,27 @@ impl Bases {
             26 => Edit::DropSpan(rng.pick(&[span, 0, spans.max(1) - 1])),
             27 => Edit::CopySpan(span),
             28 => Edit::AllZero,
+            29..=33 => agreed_edit(rng, base, slots),
+            34 => Edit::TrailerField {
+                field: LAYOUT,
+                value: rng.pick(&[0, 1, 1, 2, 2, 3, 255]),
+            },
             _ => Edit::Bytes(noise(rng, 700)),
         }
     }
 }
 
-fn has_scaled(file: &[u8]) -> bool {
+fn slot_records(file: &[u8]) -> impl Iterator<Item = &[u8]> {
     let (end, _) = span_table(file);
-    file[..end]
-        .chunks_exact(SLOT_BYTES)
-        .any(|record| matches!(record[5], 18 | 19))
+    file[..end].chunks_exact(SLOT_BYTES)
+}
+
+fn has_scaled(file: &[u8]) -> bool {
+    slot_records(file).any(|record| matches!(record[5], 18 | 19))
+}
+
+fn has_agreed(file: &[u8]) -> bool {
+    slot_records(file).any(|record| record[4] == b'F')
 }
 
 fn noise(rng: &mut Rng, most: usize) -> Vec<u8> {
@@ -388,6 +413,72 @@ fn slot_edit(rng: &mut Rng, base: &[u8], slots: usize) -> Edit {
         letter,
         method,
     }
+}
+
+/// A record set to an agreed one or near it; or an agreed one set to another.
+fn agreed_edit(rng: &mut Rng, base: &[u8], slots: usize) -> Edit {
+    let mut at = rng.below(slots);
+    if rng.one_in(2) {
+        // The next agreed slot.
+        let agreed = |&slot: &usize| base[slot * SLOT_BYTES + 4] == b'F';
+        at = (at..slots).find(agreed).unwrap_or(at);
+    }
+    let record = &base[at * SLOT_BYTES..(at + 1) * SLOT_BYTES];
+    let old = u32::from_le_bytes([record[0], record[1], record[2], record[3]]);
+    let any = rng.byte();
+    let (letter, method) = rng.pick(&[
+        (b'F', 5),
+        (b'F', 5),
+        (b'F', 5),
+        (b'F', 0),
+        (b'F', 2),
+        (b'F', 21),
+        (b'F', any),
+        (b'A', 5),
+        (b'S', 5),
+        (b'N', 5),
+        (any, 5),
+        (b'A', 0),
+        (b'S', 3),
+    ]);
+    Edit::Slot {
+        at,
+        value: rng.pick(&[old, old, 0, 99_999_999, 99_999_999, 100_000_000, u32::MAX]),
+        letter,
+        method,
+    }
+}
+
+/// Counts what the damage did to a file of either layout.
+pub fn count(damaged: &Damaged, file: &[u8], counts: &mut Counts) {
+    let base = field(&damaged.base, LAYOUT);
+    let checked = reader::check(file);
+    let accepted = checked.is_ok();
+    let changed = field(file, LAYOUT);
+    let mut add = |occurred, name| counts.add_if(occurred, "damaged file", name);
+    add(base == 1, "damage to a file of layout 1");
+    add(base == 2, "damage to a file of layout 2");
+    add(accepted && changed == 1, "damaged, layout 1 accepted");
+    add(accepted && changed == 2, "damaged, layout 2 accepted");
+    // Of a file refused with 8, no record is known.
+    if checked.is_err_and(|fault| fault.number() == 8) {
+        return;
+    }
+    add(base == 1 && changed == 2, "layout byte 1 made 2");
+    add(base == 2 && changed == 1, "layout byte 2 made 1");
+    add(changed == 1 && has_agreed(file), "F in layout 1");
+    add(changed == 2 && !has_agreed(file), "no F in layout 2");
+    let has = |letter: u8, method: u8, value: u32| {
+        slot_records(file)
+            .any(|record| record[4..] == [letter, method] && record[..4] == value.to_le_bytes())
+    };
+    let most = has(b'F', 5, 99_999_999);
+    add(most && accepted, "(F,5) of 99,999,999 accepted");
+    add(has(b'F', 5, 100_000_000), "(F,5) of 100,000,000");
+    let method = |record: &[u8]| record[4] == b'F' && record[5] != 5;
+    let letter = |record: &[u8]| record[4] != b'F' && record[5] == 5;
+    add(slot_records(file).any(method), "F with another method");
+    add(slot_records(file).any(letter), "5 with another letter");
 }
 
 fn span_edit(rng: &mut Rng, span: usize) -> Edit {

@@ -160,7 +160,9 @@ fn run_damaged(options: &Options, counts: &mut Counts) -> bool {
     let bases = Bases::new(options.seed, BASES);
     for index in options.from..options.from + options.damaged {
         let damaged = bases.damaged(options.seed, index);
-        if let Err(what) = compare_readers(&damaged.file(), other_side(), counts) {
+        let file = damaged.file();
+        damage::count(&damaged, &file, counts);
+        if let Err(what) = compare_readers(&file, other_side(), counts) {
             report_damaged(options.seed, index, &damaged, &what);
             return false;
         }
