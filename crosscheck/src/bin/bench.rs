@@ -6,7 +6,7 @@ use std::time::{Duration, Instant};
 
 use crosscheck::calls::Lists;
 use crosscheck::head::{DIAL, Head};
-use crosscheck::side::{Answer, Delivery, RegisterRead, Second, Side};
+use crosscheck::side::{Agreement, Answer, Delivery, RegisterRead, Second, Side};
 use crosscheck::stays_tries::{self, Stays};
 use crosscheck::strips_tries::{self, Strips};
 
@@ -21,13 +21,17 @@ enum Kind {
     AllGap,
     AlternateGaps,
     NoReferences,
+    SomeAgreed,
+    AllAgreed,
 }
 
-const KINDS: [(Kind, &str); 4] = [
+const KINDS: [(Kind, &str); 6] = [
     (Kind::Ordinary, "ordinary"),
     (Kind::AllGap, "all gap"),
     (Kind::AlternateGaps, "alternate gaps"),
     (Kind::NoReferences, "no references"),
+    (Kind::SomeAgreed, "some agreed"),
+    (Kind::AllAgreed, "all agreed"),
 ];
 
 /// A book as its calls, and as the lists and the file they come to.
@@ -44,11 +48,20 @@ impl Kind {
     fn delivered(self, slot: usize) -> bool {
         match self {
             // Single losses and, now and then, a short run.
-            Kind::Ordinary => slot % 97 != 40 && slot % 1009 > 4,
-            Kind::AllGap => false,
+            Kind::Ordinary | Kind::SomeAgreed => slot % 97 != 40 && slot % 1009 > 4,
+            Kind::AllGap | Kind::AllAgreed => false,
             Kind::AlternateGaps => slot.is_multiple_of(2),
             // The same two of three positions are lost every day: no neighbours, no weeks.
             Kind::NoReferences => slot.is_multiple_of(3),
+        }
+    }
+
+    /// Whether office and skipper settled the slot.
+    fn agreed(self, slot: usize) -> bool {
+        match self {
+            Kind::SomeAgreed => !self.delivered(slot) && slot.is_multiple_of(2),
+            Kind::AllAgreed => true,
+            _ => false,
         }
     }
 }
@@ -86,7 +99,15 @@ impl Sample {
         for &delivery in &deliveries {
             Second.deliver(head, &mut lists, delivery);
         }
-        if kind == Kind::Ordinary {
+        for slot in (0..shape.slots).filter(|&slot| kind.agreed(slot)) {
+            let agreement = Agreement {
+                slot: slot as u32,
+                version: 1,
+                value: value(slot, day),
+            };
+            Second.agree(head, &mut lists, agreement);
+        }
+        if matches!(kind, Kind::Ordinary | Kind::SomeAgreed | Kind::AllAgreed) {
             read_weekly(head, &mut lists, day);
         }
         let mut file = vec![0; 6 * shape.slots + 10 * shape.days + 32];
