@@ -1,12 +1,13 @@
 //! Compares stays, W11, with a restatement and another build.
 
 use crate::acceptance;
+use crate::book::MOST_AGREED;
+use crate::calls::Lists;
 use crate::damage::Bases;
-use crate::file;
 use crate::head::Head;
 use crate::random;
 use crate::rng::Rng;
-use crate::rules::{Quality, Slot};
+use crate::side::{Second, Side};
 use crate::stays::{self, MOST_STAYS};
 use crate::tries::{Tally, hex};
 
@@ -39,6 +40,7 @@ pub const CLASSES: &[&str] = &[
     "stays in a book of 1 day",
     "stays in a book of 400 days",
     "stays in a file of layout 1",
+    "stays in a file of layout 2",
     "stays in a damaged file",
     "total over 4,294,967,295",
     "stays refused 8",
@@ -85,8 +87,7 @@ impl Files {
     }
 }
 
-/// Three days of values that no book publishes but the reader takes, from 4,294,967,295
-/// down: a day's total takes more than 32 bits.
+/// Three days of the highest agreed values: a day's total takes more than 32 bits.
 fn heavy_file() -> Vec<u8> {
     let head = Head {
         year: 2024,
@@ -97,16 +98,11 @@ fn heavy_file() -> Vec<u8> {
         kind: 1,
         tolerance: 0,
     };
-    let shape = head.shape().expect("a head in bounds");
-    let slots: Vec<Slot> = (0..144)
-        .map(|slot| Slot {
-            value: u32::MAX - slot,
-            quality: Quality::Actual,
-            method: 0,
-        })
-        .collect();
-    let mut file = vec![0; file::length(slots.len(), 0)];
-    file::write(&shape, &slots, &[], &mut file);
+    let mut lists = Lists::zeroed(144, 3);
+    lists.agreed.fill(MOST_AGREED);
+    lists.agreed_versions.fill(1);
+    let mut file = vec![0; 6 * 144 + 32];
+    Second.publish(head, &lists, &mut file);
     file
 }
 
@@ -346,6 +342,7 @@ impl Count<'_> {
         tally.add_if(days == 1, "stays in a book of 1 day");
         tally.add_if(days == 400, "stays in a book of 400 days");
         tally.add_if(layout == 1, "stays in a file of layout 1");
+        tally.add_if(layout == 2, "stays in a file of layout 2");
         tally.add_if(damaged, "stays in a damaged file");
         let large = totals.iter().any(|&total| total > u64::from(u32::MAX));
         tally.add_if(large, "total over 4,294,967,295");

@@ -1,10 +1,7 @@
 //! 02, W11: a season of stays.
 
 use crosscheck::damage::{Edit, edited};
-use crosscheck::file;
 use crosscheck::head::Head;
-use crosscheck::reader;
-use crosscheck::rules::{Quality, Slot};
 use crosscheck::stays::{stays, stays_code};
 
 mod common;
@@ -12,18 +9,18 @@ use common::*;
 
 const UNWRITTEN: u64 = 0xA5A5;
 
-/// Five days of 48 slots: each slot of day d is 10^d, but the last of day 4 is 9,999.
+/// Five days of 48 slots: each slot of day d is 10^d, but the last of day 4 is agreed.
 fn five_days() -> Vec<u8> {
     let mut test = Test::new(Head { days: 5, ..HEAD });
     for slot in 0..5 * 48 - 1 {
         test.deliver(slot, 10_u32.pow(slot as u32 / 48), 0);
     }
-    test.deliver(5 * 48 - 1, 9999, 0);
+    test.agree(5 * 48 - 1, 99_999_999);
     test.file()
 }
 
-/// Days 0 to 4 by hand: 48, 480, 4,800, 48,000 and 47 × 10,000 + 9,999.
-const DAYS: [u64; 5] = [48, 480, 4800, 48_000, 479_999];
+/// Days 0 to 4 by hand: 48, 480, 4,800, 48,000 and 47 × 10,000 + 99,999,999.
+const DAYS: [u64; 5] = [48, 480, 4800, 48_000, 100_469_999];
 
 fn totals(pairs: &[u32]) -> Result<Vec<u64>, u8> {
     let mut totals = vec![UNWRITTEN; pairs.len() / 2];
@@ -51,7 +48,7 @@ fn days_and_runs_of_days() {
 fn each_as_if_it_were_the_only_question() {
     // Overlapping, nested, equal and touching, in any order.
     let pairs = [1, 3, 2, 4, 0, 5, 1, 3, 3, 4, 0, 1];
-    let expected = vec![5280, 52_800, 533_327, 5280, 48_000, 48];
+    let expected = vec![5280, 52_800, 100_523_327, 5280, 48_000, 48];
     assert_eq!(totals(&pairs), Ok(expected));
 }
 
@@ -153,19 +150,13 @@ fn substituted_and_scaled_slots_count() {
     assert_eq!(totals, [1000], "a scaled span sums to R");
 }
 
-/// No book publishes such values, but the reader takes an A slot of any value.
 #[test]
 fn totals_over_32_bits() {
-    let head = Head { days: 2, ..HEAD };
-    let slots = [u32::MAX; 96].map(|value| Slot {
-        value,
-        quality: Quality::Actual,
-        method: 0,
-    });
-    let mut file = vec![0; file::length(96, 0)];
-    file::write(&head.shape().unwrap(), &slots, &[], &mut file);
-    assert!(reader::read(&file).is_ok());
+    let mut test = Test::new(Head { days: 2, ..HEAD });
+    for slot in 0..96 {
+        test.agree(slot, 99_999_999);
+    }
     let mut totals = [0; 2];
-    assert_eq!(stays(&file, &[0, 2, 1, 2], &mut totals), Ok(()));
-    assert_eq!(totals, [96 * 4_294_967_295, 48 * 4_294_967_295]);
+    assert_eq!(stays(&test.file(), &[0, 2, 1, 2], &mut totals), Ok(()));
+    assert_eq!(totals, [96 * 99_999_999, 48 * 99_999_999]);
 }
