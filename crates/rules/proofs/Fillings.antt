@@ -21,7 +21,7 @@ module _ (P : Outcome → Type 0) where
       → (goodAt h s i ≡ true → P (record { value = getD (s .values) i 0; quality = A; method = 0 }))
       → P (record { value = getD (a .values) i 0; quality = F; method = 5 })
       → P (record { value = 0; quality = A; method = 1 })
-      → (isLinear h s i ≡ true → P (record { value = linearValue s i; quality = S; method = 2 }))
+      → (isLinear h s (a .versions) i ≡ true → P (record { value = linearValue h s (a .versions) i; quality = S; method = 2 }))
       → P (fromReferences (references h s holidays i))
       → P (filledAt h s a holidays i)
   unfolding filledAt
@@ -30,9 +30,9 @@ module _ (P : Outcome → Type 0) where
       ⊎-elim (λ t. rw t agreed) (λ t. rw t (
       ⊎-elim (λ f. rw f outage) (λ f. rw f (
       ⊎-elim (λ g. rw g (linear g)) (λ g. rw g rest)
-      (either (isLinear h s i))))
+      (either (isLinear h s (a .versions) i))))
       (either (isOutageZero h s i))))
-      (either (isAgreed a i))))
+      (either (isAgreed (a .versions) i))))
       (either (goodAt h s i))
 
   -- a slot of a span

@@ -2,11 +2,14 @@ pub mod Logic
 pub mod Lists
 pub mod Sums
 pub mod Bounds
+pub mod Floors
+pub mod Runs
 pub mod Fillings
 pub mod Small
 pub mod Forms
 pub mod References
 pub mod Outages
+pub mod Lines
 pub mod Boundaries
 pub mod Neighbours
 pub mod Places

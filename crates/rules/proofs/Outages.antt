@@ -1,22 +1,22 @@
 -- The outage rule slot by slot, and what a pass knows of it.
 use mathlib.Core.Bool.{Bool, true, false, cond, false≢true}
 use mathlib.Core.List.{List}
-use mathlib.Core.Path.{_≡_, refl, ap}
+use mathlib.Core.Path.{_≡_, refl, sym, _∙_}
 use Prim.Native.Nat.{ℕ, suc, _+_, _-_, _≤_, _<_}
-use native.Mathlib.Nat.{add-zero, add-suc}
+use native.Mathlib.Nat.{add-suc}
 use native.Mathlib.Numerals.{add-one}
 use native.Mathlib.Omega.{arith}
 use borrow.Author.Tests.{eq-eqb, ne-eqb}
 use lib.Dec.{eqb}
 use lib.ListN.{getD}
 use Rattle.rules.specs.declared.Head.{Head}
-use Rattle.rules.specs.declared.fills.Fills.{Fills}
 use Rattle.rules.specs.declared.tests.Cause.{Cause}
 use Rattle.rules.specs.declared.tests.Cause.the-variants.{Gap}
 use Rattle.rules.specs.Opening.{Slots, Agreed, slotCount}
 use Rattle.rules.specs.Tests.{isGap, outageBit, isGood, causeOf, causeAt, goodAt}
-use Rattle.rules.specs.Filling.{outageAt, outageBefore, outageAfter, isOutageZero, filledAt}
-use Rattle.rules.specs.Inner.Fills.{actualOf, zeroAt, zeroBefore, fillsAt}
+use Rattle.rules.specs.Filling.{outageAt, outageBefore, outageAfter, isOutageZero, inRun, filledAt}
+use Rattle.rules.specs.Inner.Fills.{actualOf, zeroAt, zeroBefore}
+use Rattle.rules.proofs.Runs.{run-unzeroed}
 
 module _ (v s : List ℕ) where
   pub gap : (i : ℕ) → getD v i 0 ≡ 0 → isGap v i ≡ true
@@ -102,15 +102,7 @@ module _ (h : Head) (s : Slots) where
   unfolding filledAt
   filled-good a holidays i g = rw g
 
--- a pass at slot i
-module _ (h : Head) (s : Slots) (p : Fills) (i : ℕ) (e : p ≡ fillsAt h s i) where
-  pub fills-outage : (n : ℕ) → n ≡ slotCount h → p .outage ≡ zeroBefore (s .versions) (s .statuses) n i
-  unfolding fillsAt
-  fills-outage n l = rw l (ap (λ (q : Fills). q .outage) e)
-
-pub fills-next : (h : Head) (s : Slots) (i : ℕ) (n : ℕ) → n ≡ slotCount h → (r : Bool) → r ≡ zeroAt (s .versions) (s .statuses) n i
-    → record { at = i + 1; outage = r } ≡ fillsAt h s (i + 1)
-unfolding fillsAt
-fills-next h s i n l r q =
-    let z : zeroAt (s .versions) (s .statuses) n (i + 0) ≡ zeroBefore (s .versions) (s .statuses) n (i + 1) = zero-on (s .versions) (s .statuses) n i 0 in
-    rw (q, ← l, ← z, add-zero)
+  -- a slot of a run is not zeroed
+  pub run-not-zeroed : (v : List ℕ) (n i : ℕ) → n ≡ slotCount h → inRun h s v i ≡ true → false ≡ zeroBefore (s .versions) (s .statuses) n (suc i)
+  unfolding zeroBefore
+  run-not-zeroed v n i l e = sym (zero-applies n l i ∙ run-unzeroed h s v i e)

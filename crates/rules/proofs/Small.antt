@@ -3,21 +3,23 @@ use mathlib.Core.Bool.{Bool, true, false, cond, false≢true}
 use mathlib.Core.List.{List, [], _∷_}
 use mathlib.Core.Logic.{⊎-elim}
 use mathlib.Core.Path.{_≡_, refl}
-use Prim.Native.Nat.{ℕ, zero, suc, _+_, _-_, _*_, _≤_, _<_, zero-le}
+use Prim.Native.Nat.{ℕ, zero, suc, _-_, _*_, _≤_, zero-le}
 use native.Mathlib.Nat.{div-le-of-le-mul}
 use native.Mathlib.Omega.{arith}
-use borrow.Author.Tests.{leb-true, ltb-true, ltb-false}
+use borrow.Author.Tests.{ltb-false}
 use lib.Dec.{ltb, eqb}
 use lib.ListN.{length, getD, take}
 use Rattle.rules.specs.declared.Head.{Head}
 use Rattle.rules.specs.declared.tests.Cause.the-variants.{Nothing, Gap, TimeChange, Partial, Demand}
-use Rattle.rules.specs.Opening.{Slots, Agreed, limitOf, slotCount}
+use Rattle.rules.specs.Opening.{Slots, Agreed, limitOf}
 use Rattle.rules.specs.Tests.{isGood, timeChangeBit, partialBit, causeOf, causeAt, goodAt}
 use Rattle.rules.specs.Filling.{isReference, slotsPerWeek, weeksBack, references, total, meanOf, isLinear, linearValue, fromReferences, filledAt}
 use Rattle.rules.specs.Spans.{isS, substitutedIn}
 use Rattle.rules.specs.Inner.Lent.{AgreedLow}
 use Rattle.rules.proofs.Logic.{and-parts, either}
 use Rattle.rules.proofs.Bounds.{Bounded, limit-high}
+use Rattle.rules.proofs.Floors.{line-small}
+use Rattle.rules.proofs.Runs.{place-low, linear-tells}
 use Rattle.rules.proofs.Fillings.{filled-by}
 
 -- only the last test can leave a slot good
@@ -27,16 +29,6 @@ last-test false true c d e = absurd (false≢true e)
 last-test false false true d e = absurd (false≢true e)
 last-test false false false true e = absurd (false≢true e)
 last-test false false false false e = refl
-
--- what `isLinear` tells
-pub linear-tells : (h : Head) (s : Slots) (i : ℕ) → isLinear h s i ≡ true
-    → (1 ≤ i) × (i + 1 < slotCount h) × (goodAt h s (i - 1) ≡ true) × (goodAt h s (i + 1) ≡ true)
-unfolding isLinear
-linear-tells h s i e =
-    let p = and-parts _ _ e in
-    let q = and-parts _ _ (p .0) in
-    let r = and-parts _ _ (q .0) in
-    (leb-true _ _ (r .0), ltb-true _ _ (r .1), q .1, p .1)
 
 pub cond-small : (t : Bool) (x m : ℕ) → x ≤ m → cond t x 0 ≤ m
 cond-small true x m p = p
@@ -66,11 +58,11 @@ module _ (h : Head) (b : Bounded h) (s : Slots) where
       ltb-false _ _ (last-test (eqb (getD (s .versions) i 0) 0) (timeChangeBit x) (partialBit x) _ e) in
       omega (arith, limit-high h b)
 
-  half-small : (i : ℕ) → isLinear h s i ≡ true → linearValue s i ≤ 35000
+  line-low : (agreed : List ℕ) (i : ℕ) → isLinear h s agreed i ≡ true → linearValue h s agreed i ≤ 35000
   unfolding linearValue
-  half-small i e =
-      let l = linear-tells h s i e in
-      omega (arith, good-small (i - 1) (l .2), good-small (i + 1) (l .3))
+  line-low agreed i e =
+      let w = linear-tells h s agreed i e in
+      line-small _ _ _ _ 35000 (place-low h s agreed i) (good-small _ (w .left-good)) (good-small _ (w .right-good))
 
   module _ (holidays : List ℕ) where
     reference-small : (j : ℕ) → isReference h s holidays j ≡ true → getD (s .values) j 0 ≤ 35000
@@ -98,10 +90,10 @@ module _ (h : Head) (b : Bounded h) (s : Slots) where
   module _ (a : Agreed) (holidays : List ℕ) (i : ℕ) where
     pub substituted-small : substitutedIn (filledAt h s a holidays i) ≤ 35000
     substituted-small =
-        filled-by (λ o. substitutedIn o ≤ 35000) h s a holidays i (λ _. zero-le) zero-le zero-le (half-small i)
+        filled-by (λ o. substitutedIn o ≤ 35000) h s a holidays i (λ _. zero-le) zero-le zero-le (line-low (a .versions) i)
         (cond-small (isS (fromReferences (references h s holidays i) .quality)) _ _ (references-small holidays i))
 
     pub filled-low : AgreedLow a → filledAt h s a holidays i .value ≤ 99999999
     filled-low low =
         filled-by (λ o. o .value ≤ 99999999) h s a holidays i (λ g. omega (arith, good-small i g)) (omega (arith, low i)) zero-le
-        (λ g. omega (arith, half-small i g)) (omega (arith, references-small holidays i))
+        (λ g. omega (arith, line-low (a .versions) i g)) (omega (arith, references-small holidays i))

@@ -179,7 +179,7 @@ module _ (h : Head) (w : Bounded h) (b : Cells) (i : ℕ) where
   pub step-fits : Fits (filledAt h (b .slots) (b .agreed) (b .holidays) i) (stretchAt h b i)
   step-fits = record { method-low = method-low (filled-form h (b .slots) (b .agreed) (b .holidays) i); scales = scaled-well slot }
 
-  module _ (entered : Entered) (new : Filled) (begins : entered .begins ≡ beginsAt h b i) (here : entered .stretch ≡ stretchAt h b i) (outcome : new .outcome ≡ filledAt h (b .slots) (b .agreed) (b .holidays) i) (next : new .next ≡ fillsAt h (b .slots) (i + 1)) where
+  module _ (entered : Entered) (new : Filled) (begins : entered .begins ≡ beginsAt h b i) (here : entered .stretch ≡ stretchAt h b i) (outcome : new .outcome ≡ filledAt h (b .slots) (b .agreed) (b .holidays) i) (next : new .next ≡ fillsAt h (b .slots) (b .agreed .versions) (i + 1)) where
     carried : fitNext (new .outcome) (entered .stretch) ≡ carriedAt h b (i + 1)
     carried = ap₂ fitNext outcome here ∙ fit-next slot ∙ ap (carriedAt h b) (sym (add-one i))
 

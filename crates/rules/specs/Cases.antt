@@ -1,6 +1,6 @@
 -- 01's starred cases and those of 02, as one table of tests. `proofs/Cases.antt` computes that every one passes.
 use mathlib.Core.Bool.{Bool, not, _&&_}
-use mathlib.Core.List.{List, [], _∷_}
+use mathlib.Core.List.{List, [], _∷_, _++_}
 use Prim.Native.Nat.{ℕ}
 use lib.Dec.{eqb}
 use lib.ListN.{replicate}
@@ -8,9 +8,9 @@ use Rattle.calendar.specs.Calendar.{dayNumber}
 use Rattle.rules.specs.declared.Head.{Head}
 use Rattle.rules.specs.declared.Outcome.{Outcome}
 use Rattle.rules.specs.declared.Quality.{Quality}
-use Rattle.rules.specs.Opening.{Cells, headOk}
+use Rattle.rules.specs.Opening.{Slots, Cells, headOk}
 use Rattle.rules.specs.Tests.{goodAt}
-use Rattle.rules.specs.Filling.{linearValue, isReference, meanOf}
+use Rattle.rules.specs.Filling.{isLinear, linearValue, isReference, meanOf}
 use Rattle.rules.specs.Spans.{isA, isF, advance, actual, stateOf, outcomeAt}
 
 -- a head of interval 30, kind 1 and tolerance 0
@@ -18,11 +18,15 @@ abbrev pub headOn : ℕ → ℕ → ℕ → ℕ → Head
 headOn year month day days =
     record { year = year; month = month; day = day; days = days; interval = 30; kind = 1; tolerance = 0 }
 
+-- a head of one day and tolerance 0
+abbrev pub headOf : ℕ → ℕ → Head
+headOf interval kind =
+    record { year = 2024; month = 5; day = 1; days = 1; interval = interval; kind = kind; tolerance = 0 }
+
 -- a delivery of this value with status 0 is good
 abbrev pub passes : ℕ → ℕ → ℕ → Bool
 passes kind interval value =
-    goodAt (record { year = 2024; month = 5; day = 1; days = 1; interval = interval; kind = kind; tolerance = 0 })
-    (record { values = value ∷ []; versions = 1 ∷ []; statuses = 0 ∷ [] }) 0
+    goodAt (headOf interval kind) (record { values = value ∷ []; versions = 1 ∷ []; statuses = 0 ∷ [] }) 0
 
 -- a delivery of this value with this status is a reference
 abbrev pub refers : ℕ → ℕ → Bool
@@ -69,12 +73,34 @@ agreedHas i value quality method =
     let o : Outcome = outcomeAt (headOn 2024 5 1 1) agreedDay i in
     eqb (o .value) value && quality (o .quality) && eqb (o .method) method
 
+-- slots that begin with a delivery of l, g gaps and a delivery of r (02, W2)
+abbrev pub lineDay : ℕ → ℕ → ℕ → Slots
+lineDay l g r = record {
+  values = l ∷ (replicate g 0 ++ (r ∷ []));
+  versions = 1 ∷ (replicate g 0 ++ (1 ∷ []));
+  statuses = [];
+}
+
+-- the line fills its j-th gap
+abbrev pub lineFills : ℕ → ℕ → ℕ → ℕ → ℕ → Bool
+lineFills interval l g r j = isLinear (headOf interval 1) (lineDay l g r) [] j
+
+-- with this value
+abbrev pub lineGives : ℕ → ℕ → ℕ → ℕ → ℕ → ℕ → Bool
+lineGives interval l g r j value =
+    lineFills interval l g r j && eqb (linearValue (headOf interval 1) (lineDay l g r) [] j) value
+
 unfoldable pub cases : List Bool
 cases =
     passes 1 30 20000 ∷ not (passes 1 30 20001)
     ∷ passes 1 5 3333 ∷ not (passes 1 5 3334)
     ∷ passes 2 30 30000 ∷ not (passes 2 30 40000)
-    ∷ eqb (linearValue (record { values = 7 ∷ 0 ∷ 10 ∷ []; versions = []; statuses = [] }) 1) 8
+    ∷ lineGives 30 7 1 10 1 8
+    ∷ lineGives 30 10 3 4 1 8 ∷ lineGives 30 10 3 4 2 7 ∷ lineGives 30 10 3 4 3 5
+    ∷ lineGives 15 100 3 104 1 101 ∷ lineGives 15 100 3 104 2 102 ∷ lineGives 15 100 3 104 3 103
+    ∷ lineGives 15 40 2 40 1 40 ∷ lineGives 15 40 2 40 2 40
+    ∷ lineGives 5 0 24 25 24 24 ∷ not (lineFills 5 0 25 25 1) ∷ not (lineFills 5 0 25 25 25)
+    ∷ lineGives 30 0 4 5 4 4 ∷ not (lineFills 30 0 5 5 1) ∷ not (lineFills 30 0 5 5 5)
     ∷ refers 1045 0 ∷ not (refers 1078 4) ∷ not (refers 0 2)
     ∷ eqb (meanOf (1045 ∷ 1089 ∷ [])) 1067
     ∷ eqb (meanOf (2310 ∷ 1995 ∷ 2079 ∷ [])) 2128

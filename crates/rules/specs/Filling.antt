@@ -1,12 +1,14 @@
--- The outcome of a slot before its span is scaled (01, Filling).
+-- The outcome of a slot before its span is scaled (01, Filling; 02, W1 and W2).
 use mathlib.Core.Bool.{Bool, false, cond, not, _&&_, _||_}
 use mathlib.Core.List.{List, [], _∷_}
 use Prim.Native.Nat.{ℕ, zero, suc, _+_, _-_, _*_, _/_}
 use lib.Dec.{leb, ltb, eqb}
+use lib.IntN.{ℤ, pos, negsuc, natAbs, _+ℤ_, _-ℤ_, _*ℤ_}
 use lib.ListN.{getD, length, take}
 use Rattle.rules.specs.declared.Head.{Head}
 use Rattle.rules.specs.declared.Outcome.{Outcome}
 use Rattle.rules.specs.declared.Quality.the-variants.{A, S, F, N}
+use Rattle.rules.specs.Lists.{every}
 use Rattle.rules.specs.Opening.{Slots, Agreed, slotsPerDay, slotCount}
 use Rattle.rules.specs.Tests.{isGap, outageBit, goodAt}
 
@@ -29,13 +31,60 @@ isOutageZero h s i =
     isGap (s .versions) i
     && (outageBefore (s .versions) (s .statuses) i || outageAfter (s .versions) (s .statuses) i (slotCount h - i))
 
--- 2. Linear: both neighbouring slots exist and are good
-unfoldable pub isLinear : Head → Slots → ℕ → Bool
-isLinear h s i = leb 1 i && ltb (i + 1) (slotCount h) && goodAt h s (i - 1) && goodAt h s (i + 1)
+-- an agreed version above 0 (02, W1)
+unfoldable pub isAgreed : List ℕ → ℕ → Bool
+isAgreed agreed i = ltb 0 (getD agreed i 0)
 
--- half their sum, rounded down
-unfoldable pub linearValue : Slots → ℕ → ℕ
-linearValue s i = (getD (s .values) (i - 1) 0 + getD (s .values) (i + 1) 0) / 2
+-- 2. Linear (02, W2): slot i has a cause and is not agreed or zeroed
+unfoldable pub inRun : Head → Slots → List ℕ → ℕ → Bool
+inRun h s agreed i = not (goodAt h s i) && not (isAgreed agreed i) && not (isOutageZero h s i)
+
+-- how many such slots stand unbroken just before slot i
+unfoldable pub runBefore : Head → Slots → List ℕ → ℕ → ℕ
+runBefore h s agreed zero = 0
+runBefore h s agreed (suc i) = cond (inRun h s agreed i) (suc (runBefore h s agreed i)) 0
+
+-- how many from slot i on, with k slots left in the book
+unfoldable pub runFrom : Head → Slots → List ℕ → ℕ → ℕ → ℕ
+runFrom h s agreed i zero = 0
+runFrom h s agreed i (suc k) = cond (inRun h s agreed i) (suc (runFrom h s agreed (suc i) k)) 0
+
+-- the first slot of the run that slot i lies in
+unfoldable pub runStart : Head → Slots → List ℕ → ℕ → ℕ
+runStart h s agreed i = i - runBefore h s agreed i
+
+-- g, the slots of the run
+unfoldable pub runLength : Head → Slots → List ℕ → ℕ → ℕ
+runLength h s agreed i = runBefore h s agreed i + runFrom h s agreed i (slotCount h - i)
+
+-- g × L at most 120, with good l before and good r after
+abbrev pub lineTests : Head → Slots → ℕ → ℕ → List Bool
+lineTests h s start g =
+    leb (g * h .interval) 120
+    ∷ leb 1 start
+    ∷ goodAt h s (start - 1)
+    ∷ ltb (start + g) (slotCount h)
+    ∷ goodAt h s (start + g)
+    ∷ []
+
+unfoldable pub isLinear : Head → Slots → List ℕ → ℕ → Bool
+isLinear h s agreed i = every (lineTests h s (runStart h s agreed i) (runLength h s agreed i))
+
+-- z / m, rounded towards the lower whole number; `negsuc a` is −(a + 1)
+abbrev pub floorOver : ℤ → ℕ → ℤ
+floorOver (pos a) m = pos (a / m)
+floorOver (negsuc a) m = negsuc (a / m)
+
+-- l + (r − l) × j / (g + 1), rounded towards the lower whole number, which lies between l and r and so is not negative
+unfoldable pub lineValue : ℕ → ℕ → ℕ → ℕ → ℕ
+lineValue l r j g = natAbs (pos l +ℤ floorOver ((pos r -ℤ pos l) *ℤ pos j) (g + 1))
+
+-- at the j-th slot of the run
+unfoldable pub linearValue : Head → Slots → List ℕ → ℕ → ℕ
+linearValue h s agreed i =
+    let start = runStart h s agreed i in
+    let g = runLength h s agreed i in
+    lineValue (getD (s .values) (start - 1) 0) (getD (s .values) (start + g) 0) (suc (runBefore h s agreed i)) g
 
 -- 3. Same day: slot j can be a reference
 unfoldable pub isReference : Head → Slots → List ℕ → ℕ → Bool
@@ -73,15 +122,11 @@ fromReferences xs =
     cond (eqb (length xs) 0) (record { value = 0; quality = N; method = 0 })
     (record { value = meanOf xs; quality = S; method = 3 })
 
--- an agreed version above 0 (02, W1)
-unfoldable pub isAgreed : Agreed → ℕ → Bool
-isAgreed a i = ltb 0 (getD (a .versions) i 0)
-
 -- a good slot has its delivered value; one with a cause has its agreed value, or else the first rule that applies
 unfoldable pub filledAt : Head → Slots → Agreed → List ℕ → ℕ → Outcome
 filledAt h s a holidays i =
     cond (goodAt h s i) (record { value = getD (s .values) i 0; quality = A; method = 0 })
-    (cond (isAgreed a i) (record { value = getD (a .values) i 0; quality = F; method = 5 })
+    (cond (isAgreed (a .versions) i) (record { value = getD (a .values) i 0; quality = F; method = 5 })
     (cond (isOutageZero h s i) (record { value = 0; quality = A; method = 1 })
-    (cond (isLinear h s i) (record { value = linearValue s i; quality = S; method = 2 })
+    (cond (isLinear h s (a .versions) i) (record { value = linearValue h s (a .versions) i; quality = S; method = 2 })
     (fromReferences (references h s holidays i)))))

@@ -2,6 +2,8 @@
 use crate::Head;
 use crate::Outcome;
 use crate::Quality;
+use crate::linear;
+use crate::linear::Line;
 use crate::opening;
 use crate::tests;
 ghost use mathlib.Core.Bool.{false};
@@ -10,14 +12,20 @@ ghost use Prim.Native.Nat.{_+_, _*_, _/_, _<_, _≤_};
 ghost use lib.ListN.{take};
 ghost use Rattle.rules.specs.Opening.{slotsPerDay, slotCount};
 ghost use Rattle.rules.specs.Tests.{goodAt};
-ghost use Rattle.rules.specs.Filling.{isReference, references, meanOf, isLinear, fromReferences, isOutageZero, filledAt};
-ghost use Rattle.rules.specs.Inner.Lent.{lentSlots, lentAgreed, Fitted, Lent, Settled};
-ghost use Rattle.rules.specs.Inner.Fills.{actualOf, agreedOf};
+ghost use Rattle.rules.specs.Filling.{isReference, references, meanOf, fromReferences, isOutageZero, filledAt};
+ghost use Rattle.rules.specs.Inner.Lent.{lentSlots, lentAgreed, Lent, Settled};
+ghost use Rattle.rules.specs.Inner.Fills.{actualOf, agreedOf, lineAt, lineBefore};
 
 // Up to four values of the same position on earlier weeks, nearest first.
 pub struct References {
     pub values: [u32; 4],
     pub count: usize,
+}
+
+// The outcome before scaling of a slot with a cause, and its line.
+pub struct Lined {
+    pub outcome: Outcome,
+    pub line: Line,
 }
 
 // Slot `at`, of day `day`, can be a reference.
@@ -108,32 +116,6 @@ pub fn mean(found: References) -> u32
     (sum / (count as u64)) as u32
 }
 
-// Both neighbours of slot `at` exist and are good.
-fn is_linear(head: Head, values: &[u32], versions: &[u32], statuses: &[u8], at: usize) -> bool
-    requires { ⌜ Fitted head (lentSlots values versions statuses) × (at < slotCount head) ⌝ }
-    ensures { λ r. ⌜ r ≡ isLinear head (lentSlots (values .entry) (versions .entry) (statuses .entry)) at ⌝ }
-{
-    if at < 1 {
-        return false;
-    }
-    if values.len() <= at + 1 {
-        return false;
-    }
-    let before = at - 1;
-    let after = at + 1;
-    if !tests::is_good(head, values, versions, statuses, before) {
-        return false;
-    }
-    tests::is_good(head, values, versions, statuses, after)
-}
-
-// Half the sum of two neighbours, rounded down.
-fn half(left: u32, right: u32) -> u32
-    ensures { λ r. ⌜ r ≡ (left + right) / 2 ⌝ }
-{
-    (((left as u64) + (right as u64)) / 2) as u32
-}
-
 // Filled from the same day of earlier weeks, or not at all.
 fn same_day(
     head: Head,
@@ -183,8 +165,8 @@ fn by_agreement(value: u32) -> Outcome
     }
 }
 
-// The outcome before scaling of slot `at`, which has a cause; `outage` says whether outage zero applies.
-pub fn unscaled(
+// The outcome before scaling of slot `at`, which has a cause; `outage` says whether outage zero applies, `line` which line it lies on.
+fn unscaled(
     head: Head,
     values: &[u32],
     versions: &[u32],
@@ -194,8 +176,9 @@ pub fn unscaled(
     agreed_versions: &[u32],
     at: usize,
     outage: bool,
+    line: Line,
 ) -> Outcome
-    requires { ⌜ Lent head (lentSlots values versions statuses) (now holidays) × Settled head (lentAgreed agreed «agreed_versions») × (at < slotCount head) × (goodAt head (lentSlots values versions statuses) at ≡ false) × (outage ≡ isOutageZero head (lentSlots values versions statuses) at) ⌝ }
+    requires { ⌜ Lent head (lentSlots values versions statuses) (now holidays) × Settled head (lentAgreed agreed «agreed_versions») × (at < slotCount head) × (goodAt head (lentSlots values versions statuses) at ≡ false) × (outage ≡ isOutageZero head (lentSlots values versions statuses) at) × (line ≡ lineAt head (lentSlots values versions statuses) (now «agreed_versions») at) ⌝ }
     ensures { λ r. ⌜ r ≡ filledAt head (lentSlots (values .entry) (versions .entry) (statuses .entry)) (lentAgreed (agreed .entry) («agreed_versions» .entry)) (now (holidays .entry)) at ⌝ }
 {
     if 0 < agreed_versions[at] {
@@ -208,12 +191,56 @@ pub fn unscaled(
             method: 1,
         };
     }
-    if is_linear(head, values, versions, statuses, at) {
+    if 0 < line.length {
         return Outcome {
-            value: half(values[at - 1], values[at + 1]),
+            value: linear::line_value(line),
             quality: Quality::S,
             method: 2,
         };
     }
     same_day(head, values, versions, statuses, holidays, at)
+}
+
+// The outcome before scaling of slot `at`, which has a cause, and its line; `before` is that of the slot before.
+pub fn fill_cause(
+    head: Head,
+    values: &[u32],
+    versions: &[u32],
+    statuses: &[u8],
+    holidays: &[u8],
+    agreed: &[u32],
+    agreed_versions: &[u32],
+    at: usize,
+    outage: bool,
+    before: Line,
+) -> Lined
+    requires { ⌜ Lent head (lentSlots values versions statuses) (now holidays) × Settled head (lentAgreed agreed «agreed_versions») × (at < slotCount head) × (goodAt head (lentSlots values versions statuses) at ≡ false) × (outage ≡ isOutageZero head (lentSlots values versions statuses) at) × (before ≡ lineBefore head (lentSlots values versions statuses) (now «agreed_versions») at) ⌝ }
+    ensures { λ r. ⌜ (r .outcome ≡ filledAt head (lentSlots (values .entry) (versions .entry) (statuses .entry)) (lentAgreed (agreed .entry) («agreed_versions» .entry)) (now (holidays .entry)) at) × (r .line ≡ lineAt head (lentSlots (values .entry) (versions .entry) (statuses .entry)) (now («agreed_versions» .entry)) at) ⌝ }
+{
+    let line = linear::line_on(
+        head,
+        values,
+        versions,
+        statuses,
+        agreed_versions,
+        at,
+        outage,
+        before,
+    );
+    let outcome = unscaled(
+        head,
+        values,
+        versions,
+        statuses,
+        holidays,
+        agreed,
+        agreed_versions,
+        at,
+        outage,
+        line,
+    );
+    Lined {
+        outcome: outcome,
+        line: line,
+    }
 }

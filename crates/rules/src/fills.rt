@@ -1,7 +1,9 @@
-// A pass that fills the slots from slot 0 upward and looks ahead once for each run of gaps.
+// A pass that fills the slots from slot 0 upward and looks ahead once for each run of gaps, and of slots that a line may fill.
 use crate::Head;
 use crate::Outcome;
 use crate::filling;
+use crate::linear;
+use crate::linear::Line;
 use crate::tests;
 ghost use mathlib.Core.Path.{_≡_};
 ghost use Prim.Native.Nat.{_+_, _-_, _<_, _≤_};
@@ -11,10 +13,11 @@ ghost use Rattle.rules.specs.Filling.{outageAfter, filledAt};
 ghost use Rattle.rules.specs.Inner.Lent.{lentSlots, lentAgreed, Lent, Settled};
 ghost use Rattle.rules.specs.Inner.Fills.{zeroAt, zeroBefore, fillsAt};
 
-// What is known at slot `at`: whether outage zero applies to the slot before it.
+// What is known at slot `at` of the slot before it: whether outage zero applies to it, and its line.
 pub struct Fills {
     pub at: usize,
     pub outage: bool,
+    pub line: Line,
 }
 
 // The outcome of a slot before scaling, and the pass one slot on.
@@ -70,8 +73,8 @@ pub fn fill(
     agreed_versions: &[u32],
     fills: Fills,
 ) -> Filled
-    requires { ⌜ Lent head (lentSlots values versions statuses) (now holidays) × Settled head (lentAgreed agreed «agreed_versions») × (fills .at < slotCount head) × (fills ≡ fillsAt head (lentSlots values versions statuses) (fills .at)) ⌝ }
-    ensures { λ r. ⌜ (r .outcome ≡ filledAt head (lentSlots (values .entry) (versions .entry) (statuses .entry)) (lentAgreed (agreed .entry) («agreed_versions» .entry)) (now (holidays .entry)) (fills .at)) × (r .next ≡ fillsAt head (lentSlots (values .entry) (versions .entry) (statuses .entry)) (fills .at + 1)) ⌝ }
+    requires { ⌜ Lent head (lentSlots values versions statuses) (now holidays) × Settled head (lentAgreed agreed «agreed_versions») × (fills .at < slotCount head) × (fills ≡ fillsAt head (lentSlots values versions statuses) (now «agreed_versions») (fills .at)) ⌝ }
+    ensures { λ r. ⌜ (r .outcome ≡ filledAt head (lentSlots (values .entry) (versions .entry) (statuses .entry)) (lentAgreed (agreed .entry) («agreed_versions» .entry)) (now (holidays .entry)) (fills .at)) × (r .next ≡ fillsAt head (lentSlots (values .entry) (versions .entry) (statuses .entry)) (now («agreed_versions» .entry)) (fills .at + 1)) ⌝ }
 {
     let at = fills.at;
     let on = at + 1;
@@ -79,6 +82,7 @@ pub fn fill(
         let next = Fills {
             at: on,
             outage: false,
+            line: linear::bare(0),
         };
         return Filled {
             outcome: filling::delivered(values[at]),
@@ -86,7 +90,8 @@ pub fn fill(
         };
     }
     let outage = outage_zero(versions, statuses, at, fills.outage);
-    let outcome = filling::unscaled(
+    let carried = fills.line;
+    let lined = filling::fill_cause(
         head,
         values,
         versions,
@@ -96,10 +101,14 @@ pub fn fill(
         agreed_versions,
         at,
         outage,
+        carried,
     );
+    let outcome = lined.outcome;
+    let line = lined.line;
     let next = Fills {
         at: on,
         outage: outage,
+        line: line,
     };
     Filled {
         outcome: outcome,

@@ -1,6 +1,7 @@
 // The rules of document 01: opening bounds, tests of a slot, filling, spans.
 pub mod filling;
 pub mod fills;
+pub mod linear;
 pub mod opening;
 pub mod pass;
 pub mod readings;

@@ -4,6 +4,7 @@ use crate::Outcome;
 use crate::fills;
 use crate::fills::Filled;
 use crate::fills::Fills;
+use crate::linear;
 use crate::stretch;
 use crate::stretch::Begins;
 use crate::stretch::Entered;
@@ -16,7 +17,7 @@ ghost use Rattle.rules.specs.Inner.Lent.{lentCells, Whole};
 ghost use Rattle.rules.specs.Inner.Stretches.{Fits};
 ghost use Rattle.rules.specs.Inner.Passes.{passAt, settled, SteppedAt};
 
-// What is known before a slot: of its runs of gaps, and of the stretch of the slot before it.
+// What is known before a slot: of the runs that the slot before it lies in, and of its stretch.
 pub struct Pass {
     pub fills: Fills,
     pub stretch: Stretch,
@@ -35,6 +36,7 @@ pub fn first() -> Pass
     let fills = Fills {
         at: 0,
         outage: false,
+        line: linear::bare(0),
     };
     Pass {
         fills: fills,

@@ -5,6 +5,7 @@ use crate::Quality;
 use crate::filling;
 use crate::fills;
 use crate::fills::Fills;
+use crate::linear;
 use crate::tests;
 ghost use mathlib.Core.Path.{_≡_};
 ghost use lib.Dec.{leb};
@@ -91,7 +92,7 @@ pub fn summarise(
     first: Fills,
     count: usize,
 ) -> Summary
-    requires { ⌜ Lent head (lentSlots values versions statuses) (now holidays) × Settled head (lentAgreed agreed «agreed_versions») × (first .at + count ≤ slotCount head) × (first ≡ fillsAt head (lentSlots values versions statuses) (first .at)) ⌝ }
+    requires { ⌜ Lent head (lentSlots values versions statuses) (now holidays) × Settled head (lentAgreed agreed «agreed_versions») × (first .at + count ≤ slotCount head) × (first ≡ fillsAt head (lentSlots values versions statuses) (now «agreed_versions») (first .at)) ⌝ }
     ensures { λ r. ⌜ r ≡ summaryOf head (lentSlots (values .entry) (versions .entry) (statuses .entry)) (lentAgreed (agreed .entry) («agreed_versions» .entry)) (now (holidays .entry)) (first .at) count ⌝ }
 {
     let mut sum = Summary {
@@ -103,28 +104,30 @@ pub fn summarise(
     };
     let start = first.at;
     let mut outage = first.outage;
+    let mut line = first.line;
     let mut k = 0;
     while k < count {
         let at = start + k;
         if tests::is_good(head, values, versions, statuses, at) {
             outage = false;
+            line = linear::bare(0);
             sum = add(sum, filling::delivered(values[at]));
         } else {
             outage = fills::outage_zero(versions, statuses, at, outage);
-            sum = add(
-                sum,
-                filling::unscaled(
-                    head,
-                    values,
-                    versions,
-                    statuses,
-                    holidays,
-                    agreed,
-                    agreed_versions,
-                    at,
-                    outage,
-                ),
+            let lined = filling::fill_cause(
+                head,
+                values,
+                versions,
+                statuses,
+                holidays,
+                agreed,
+                agreed_versions,
+                at,
+                outage,
+                line,
             );
+            line = lined.line;
+            sum = add(sum, lined.outcome);
         }
         k += 1;
     }

@@ -90,7 +90,7 @@ fn meet(
     first: usize,
     last: usize,
 ) -> Met
-    requires { ⌜ Lent head (lentSlots values versions statuses) (now holidays) × Dialled head (now readings) × Settled head (lentAgreed agreed «agreed_versions») × Starts head (lentSlots values versions statuses) fills first last ⌝ }
+    requires { ⌜ Lent head (lentSlots values versions statuses) (now holidays) × Dialled head (now readings) × Settled head (lentAgreed agreed «agreed_versions») × Starts head (lentSlots values versions statuses) (now «agreed_versions») fills first last ⌝ }
     ensures { λ r. ⌜ (r .span ≡ spanOf head (cells (lentSlots (values .entry) (versions .entry) (statuses .entry)) (now (holidays .entry)) (now (readings .entry)) [] (lentAgreed (agreed .entry) («agreed_versions» .entry))) first last) × (r .stretch ≡ spanStretch head (cells (lentSlots (values .entry) (versions .entry) (statuses .entry)) (now (holidays .entry)) (now (readings .entry)) [] (lentAgreed (agreed .entry) («agreed_versions» .entry))) first last (fills .at)) ⌝ }
 {
     let day = opening::slots_per_day(head);
@@ -144,7 +144,7 @@ fn reach(
     day: usize,
     last: usize,
 ) -> Entered
-    requires { ⌜ Whole head (lentCells values versions statuses holidays readings reads agreed «agreed_versions») × Starts head (lentSlots values versions statuses) fills day last ⌝ }
+    requires { ⌜ Whole head (lentCells values versions statuses holidays readings reads agreed «agreed_versions») × Starts head (lentSlots values versions statuses) (now «agreed_versions») fills day last ⌝ }
     ensures { λ r. ⌜ (r .begins ≡ beginsWith head (lentCells (values .entry) (versions .entry) (statuses .entry) (holidays .entry) (readings .entry) (reads .entry) (agreed .entry) («agreed_versions» .entry)) day last) × (r .stretch ≡ stretchFrom head (lentCells (values .entry) (versions .entry) (statuses .entry) (holidays .entry) (readings .entry) (reads .entry) (agreed .entry) («agreed_versions» .entry)) day last (fills .at)) ⌝ }
 {
     if reads[day] == 0 {

@@ -1,14 +1,18 @@
 -- What the pass that fills the slots knows at a slot.
-use mathlib.Core.Bool.{Bool, false, _&&_, _||_}
-use mathlib.Core.List.{List}
-use Prim.Native.Nat.{ℕ, zero, suc, _-_}
+use mathlib.Core.Bool.{Bool, false, cond, _&&_, _||_}
+use mathlib.Core.List.{List, [], _∷_}
+use Prim.Native.Nat.{ℕ, zero, suc, _+_, _-_, _*_, _≤_}
+use lib.Dec.{leb, ltb}
+use lib.ListN.{getD}
 use Rattle.rules.specs.declared.Head.{Head}
 use Rattle.rules.specs.declared.Outcome.{Outcome}
 use Rattle.rules.specs.declared.Quality.the-variants.{A, F}
 use Rattle.rules.specs.declared.fills.Fills.{Fills}
+use Rattle.rules.specs.declared.linear.Line.{Line}
+use Rattle.rules.specs.Lists.{every}
 use Rattle.rules.specs.Opening.{Slots, slotCount}
-use Rattle.rules.specs.Tests.{isGap}
-use Rattle.rules.specs.Filling.{outageBefore, outageAfter}
+use Rattle.rules.specs.Tests.{isGap, goodAt}
+use Rattle.rules.specs.Filling.{outageBefore, outageAfter, inRun, runBefore, runFrom, runStart, runLength, isLinear}
 
 -- a good slot with this value
 abbrev pub actualOf : ℕ → Outcome
@@ -28,5 +32,50 @@ unfoldable pub zeroBefore : List ℕ → List ℕ → ℕ → ℕ → Bool
 zeroBefore versions statuses n zero = false
 zeroBefore versions statuses n (suc i) = zeroAt versions statuses n i
 
-unfoldable pub fillsAt : Head → Slots → ℕ → Fills
-fillsAt h s i = record { at = i; outage = zeroBefore (s .versions) (s .statuses) (slotCount h) i }
+-- the j-th slot of a run that no line fills; 0 where there is no run
+abbrev pub bareLine : ℕ → Line
+bareLine j = record { place = j; length = 0; left = 0; right = 0 }
+
+-- slot i of a run that the line fills: j, g, l and r
+abbrev pub fullLine : Head → Slots → List ℕ → ℕ → Line
+fullLine h s agreed i = record {
+  place = suc (runBefore h s agreed i);
+  length = runLength h s agreed i;
+  left = getD (s .values) (runStart h s agreed i - 1) 0;
+  right = getD (s .values) (runStart h s agreed i + runLength h s agreed i) 0;
+}
+
+-- slot i of a run
+unfoldable pub lineThrough : Head → Slots → List ℕ → ℕ → Line
+lineThrough h s agreed i =
+    cond (isLinear h s agreed i) (fullLine h s agreed i) (bareLine (suc (runBefore h s agreed i)))
+
+-- the run of slot i, if it lies in one
+unfoldable pub lineAt : Head → Slots → List ℕ → ℕ → Line
+lineAt h s agreed i = cond (inRun h s agreed i) (lineThrough h s agreed i) (bareLine 0)
+
+-- that of the slot before slot i
+unfoldable pub lineBefore : Head → Slots → List ℕ → ℕ → Line
+lineBefore h s agreed zero = bareLine 0
+lineBefore h s agreed (suc i) = lineAt h s agreed i
+
+-- g × L at most 120, and a good slot after the g slots from slot i
+abbrev pub endTests : Head → Slots → ℕ → ℕ → List Bool
+endTests h s i g = leb (g * h .interval) 120 ∷ ltb (i + g) (slotCount h) ∷ goodAt h s (i + g) ∷ []
+
+-- the slots of the run that begins at slot i, where these hold; else 0
+unfoldable pub lengthWithin : Head → Slots → List ℕ → ℕ → ℕ
+lengthWithin h s agreed i =
+    let g = runFrom h s agreed i (slotCount h - i) in
+    cond (every (endTests h s i g)) g 0
+
+-- figures of a line that fit
+pub record Drawn (l : Line) : Type 0 where
+  pub place : l .place ≤ l .length
+  pub length : l .length ≤ 24
+  pub left : l .left ≤ 35000
+  pub right : l .right ≤ 35000
+
+unfoldable pub fillsAt : Head → Slots → List ℕ → ℕ → Fills
+fillsAt h s agreed i =
+    record { at = i; outage = zeroBefore (s .versions) (s .statuses) (slotCount h) i; line = lineBefore h s agreed i }

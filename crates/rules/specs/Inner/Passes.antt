@@ -17,7 +17,7 @@ use Rattle.rules.specs.Inner.Stretches.{carriedAt, fitOutcome, fitNext, 
 
 -- a pass before slot i
 unfoldable pub passAt : Head → Cells → ℕ → Pass
-passAt h b i = record { fills = fillsAt h (b .slots) i; stretch = carriedAt h b i }
+passAt h b i = record { fills = fillsAt h (b .slots) (b .agreed .versions) i; stretch = carriedAt h b i }
 
 -- a filled slot in its stretch
 abbrev pub settled : Entered → Filled → Stepped

@@ -114,14 +114,14 @@ stretchFrom h b d last i =
     cond (isRead (b .readVersions) d) (spanStretch h b d last i) (unscaledTo (last * slotsPerDay h))
 
 -- the pass stands at the first slot of the span between two boundaries
-pub record Starts (h : Head) (s : Slots) (fills : Fills) (first last : ℕ) : Type 0 where
+pub record Starts (h : Head) (s : Slots) (agreed : List ℕ) (fills : Fills) (first last : ℕ) : Type 0 where
   pub ordered : first < last
   pub within : last ≤ h .days
-  pub known : fills ≡ fillsAt h s (fills .at)
+  pub known : fills ≡ fillsAt h s agreed (fills .at)
   pub at-first : fills .at ≡ first * slotsPerDay h
 
 -- the pass stands before a slot, with the stretch of the slot before it
 pub record Before (h : Head) (b : Cells) (fills : Fills) (carried : Stretch) : Type 0 where
   pub inside : fills .at < slotCount h
-  pub known : fills ≡ fillsAt h (b .slots) (fills .at)
+  pub known : fills ≡ fillsAt h (b .slots) (b .agreed .versions) (fills .at)
   pub stretch : carried ≡ carriedAt h b (fills .at)

@@ -1,8 +1,11 @@
 -- `filling::unscaled` takes the agreed value, or the first rule that applies.
 use mathlib.Core.Path.{sym, _∙_}
 use borrow.Author.Tests.{lt-ltb, le-ltb}
-use Rattle.rules.specs.Filling.{filledAt, isAgreed, linearValue}
-use Rattle.rules.proofs.Small.{linear-tells}
+use Rattle.rules.specs.Filling.{filledAt, isAgreed}
+use Rattle.rules.specs.Inner.Lent.{slots}
+use Rattle.rules.proofs.Bounds.{bounded}
+use Rattle.rules.proofs.Runs.{run-holds}
+use Rattle.rules.proofs.Lines.{line-fills, line-leaves}
 use borrow.Author.Needs.{needs}
 use Rattle.rules.proofs.filling.unscaled.Statement.{statement}
 use Rattle.rules.proofs.filling.unscaled.Tie as tie
@@ -30,40 +33,33 @@ returns-2 : tie.Need-returns-2
 unfolding filledAt isAgreed
 returns-2 c = simp (c .before .before .before .before .before .before .before .before .before .pre .3, le-ltb _ _ (c .before .if1 .left), sym (c .before .before .before .before .before .before .before .before .before .pre .4) ∙ c .if2 .taken)
 
-is-linear-requires : tie.Need-is-linear-requires
-is-linear-requires c κs = search needs
-
-sub-half : tie.Need-sub-half
-sub-half c = linear-tells _ _ _ (sym (c .before .is-linear .ensures) ∙ c .if3 .taken) .0
-
-mul-half : tie.Need-mul-half
-mul-half c = search needs
-
-shared-slice-read-half : tie.Need-shared-slice-read-half
-shared-slice-read-half c = search needs
-
-add-half : tie.Need-add-half
-add-half c = search needs
-
-mul-half-2 : tie.Need-mul-half-2
-mul-half-2 c = search needs
-
-shared-slice-read-half-2 : tie.Need-shared-slice-read-half-2
-shared-slice-read-half-2 c = rw (c .before .before .before .before .before .before .before .before .before .before .before .before .before .pre .0 .fitted .values) (linear-tells _ _ _ (sym (c .before .before .before .is-linear .ensures) ∙ c .before .before .if3 .taken) .1)
-
-half-requires : tie.Need-half-requires
-half-requires c κs = search needs
+line-value-requires : tie.Need-line-value-requires
+line-value-requires c κs = let a = c .before .before .before .before .before .before .before .before .before .before .before .args in
+    let s = slots (a .values .now) (a .versions .now) (a .statuses .now) in
+    let v = a .agreed-versions .now in
+    let r = run-holds (a .head) s v (a .at) (c .before .before .before .before .before .before .before .before .before .before .before .pre .3) (c .before .before .before .if1 .left) _ (c .before .before .before .before .before .before .before .before .before .before .before .pre .4) (c .before .before .if2 .left) in
+    line-fills (a .head) s v (bounded (a .head) (c .before .before .before .before .before .before .before .before .before .before .before .pre .0 .fitted .head)) (a .at) (c .before .before .before .before .before .before .before .before .before .before .before .pre .2) r _ (c .before .before .before .before .before .before .before .before .before .before .before .pre .5) (c .if3 .taken) .1
 
 returns-3 : tie.Need-returns-3
-unfolding filledAt isAgreed linearValue
-returns-3 c = simp (c .before .before .before .before .before .before .before .before .before .before .before .before .before .before .pre .3, le-ltb _ _ (c .before .before .before .before .before .before .if1 .left), sym (c .before .before .before .before .before .before .before .before .before .before .before .before .before .before .pre .4) ∙ c .before .before .before .before .before .if2 .left, sym (c .before .before .before .before .is-linear .ensures) ∙ c .before .before .before .if3 .taken, c .half .ensures)
+unfolding filledAt isAgreed
+returns-3 c = let a = c .before .before .before .before .before .before .before .before .before .before .before .before .args in
+    let s = slots (a .values .now) (a .versions .now) (a .statuses .now) in
+    let v = a .agreed-versions .now in
+    let r = run-holds (a .head) s v (a .at) (c .before .before .before .before .before .before .before .before .before .before .before .before .pre .3) (c .before .before .before .before .if1 .left) _ (c .before .before .before .before .before .before .before .before .before .before .before .before .pre .4) (c .before .before .before .if2 .left) in
+    let w = line-fills (a .head) s v (bounded (a .head) (c .before .before .before .before .before .before .before .before .before .before .before .before .pre .0 .fitted .head)) (a .at) (c .before .before .before .before .before .before .before .before .before .before .before .before .pre .2) r _ (c .before .before .before .before .before .before .before .before .before .before .before .before .pre .5) (c .before .if3 .taken) in
+    simp (c .before .before .before .before .before .before .before .before .before .before .before .before .pre .3, le-ltb _ _ (c .before .before .before .before .if1 .left), sym (c .before .before .before .before .before .before .before .before .before .before .before .before .pre .4) ∙ c .before .before .before .if2 .left, w .0, c .line-value .ensures ∙ w .2)
 
 same-day-requires : tie.Need-same-day-requires
 same-day-requires c κs = search needs
 
 returns-4 : tie.Need-returns-4
 unfolding filledAt isAgreed
-returns-4 c = simp (c .before .before .before .before .before .before .before .before .before .before .before .before .pre .3, le-ltb _ _ (c .before .before .before .before .if1 .left), sym (c .before .before .before .before .before .before .before .before .before .before .before .before .pre .4) ∙ c .before .before .before .if2 .left, sym (c .before .before .is-linear .ensures) ∙ c .before .if3 .left) (c .same-day .ensures)
+returns-4 c = let a = c .before .before .before .before .before .before .before .before .before .before .before .before .args in
+    let s = slots (a .values .now) (a .versions .now) (a .statuses .now) in
+    let v = a .agreed-versions .now in
+    let r = run-holds (a .head) s v (a .at) (c .before .before .before .before .before .before .before .before .before .before .before .before .pre .3) (c .before .before .before .before .if1 .left) _ (c .before .before .before .before .before .before .before .before .before .before .before .before .pre .4) (c .before .before .before .if2 .left) in
+    let w = line-leaves (a .head) s v (bounded (a .head) (c .before .before .before .before .before .before .before .before .before .before .before .before .pre .0 .fitted .head)) (a .at) (c .before .before .before .before .before .before .before .before .before .before .before .before .pre .2) r _ (c .before .before .before .before .before .before .before .before .before .before .before .before .pre .5) (c .before .if3 .left) in
+    simp (c .before .before .before .before .before .before .before .before .before .before .before .before .pre .3, le-ltb _ _ (c .before .before .before .before .if1 .left), sym (c .before .before .before .before .before .before .before .before .before .before .before .before .pre .4) ∙ c .before .before .before .if2 .left, w) (c .same-day .ensures)
 
 pub unscaled-spec : {M : Type 1} → statement M
 unscaled-spec =
@@ -76,14 +72,7 @@ unscaled-spec =
     by-agreement-requires
     returns
     returns-2
-    is-linear-requires
-    sub-half
-    mul-half
-    shared-slice-read-half
-    add-half
-    mul-half-2
-    shared-slice-read-half-2
-    half-requires
+    line-value-requires
     returns-3
     same-day-requires
     returns-4)

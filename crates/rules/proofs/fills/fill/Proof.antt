@@ -1,9 +1,11 @@
 -- `fills::fill`: a good slot has its value, another is filled.
-use borrow.Author.Needs.{needs}
 use mathlib.Core.Path.{_∙_, sym, refl}
 use native.Mathlib.Omega.{arith}
 use Rattle.rules.specs.Inner.Lent.{slots, agreedLists}
-use Rattle.rules.proofs.Outages.{zero-none, zero-applies, good-delivered, filled-good, fills-outage, fills-next}
+use Rattle.rules.proofs.Runs.{run-good}
+use Rattle.rules.proofs.Outages.{zero-none, zero-applies, good-delivered, filled-good}
+use Rattle.rules.proofs.Lines.{line-none, fills-outage, fills-line, fills-next}
+use borrow.Author.Needs.{needs}
 use Rattle.rules.proofs.fills.fill.Statement.{statement}
 use Rattle.rules.proofs.fills.fill.Tie as tie
 
@@ -12,6 +14,9 @@ add-on c = search needs
 
 is-good-requires : tie.Need-is-good-requires
 is-good-requires c κs = search needs
+
+bare-requires : tie.Need-bare-requires
+bare-requires c κs = search needs
 
 mul-delivered : tie.Need-mul-delivered
 mul-delivered c = search needs
@@ -23,25 +28,27 @@ delivered-requires : tie.Need-delivered-requires
 delivered-requires c κs = search needs
 
 returns : tie.Need-returns
-returns c = let a = c .before .before .before .before .before .before .before .before .before .before .args in
+returns c = let a = c .before .before .before .before .before .before .before .before .before .before .before .args in
     let s = slots (a .values .now) (a .versions .now) (a .statuses .now) in
-    let g = sym (c .before .before .before .is-good .ensures) ∙ c .before .before .if1 .taken in
-    (c .delivered .ensures ∙ filled-good (a .head) s (agreedLists (a .agreed .now) (a .agreed-versions .now)) (a .holidays .now) (a .fills .at) g, fills-next (a .head) s (a .fills .at) _ refl _ (sym (zero-none (s .versions) (s .statuses) _ _ (good-delivered (a .head) s (a .fills .at) g))))
+    let v = a .agreed-versions .now in
+    let i = a .fills .at in
+    let g = sym (c .before .before .before .before .is-good .ensures) ∙ c .before .before .before .if1 .taken in
+    (c .delivered .ensures ∙ filled-good (a .head) s (agreedLists (a .agreed .now) v) (a .holidays .now) i g, fills-next (a .head) s v i _ refl _ (sym (zero-none (s .versions) (s .statuses) _ _ (good-delivered (a .head) s i g))) _ (c .before .before .bare .ensures ∙ line-none (a .head) s v i (run-good (a .head) s v i g)))
 
 outage-zero-requires : tie.Need-outage-zero-requires
 outage-zero-requires c κs = let a = c .before .before .before .before .before .before .before .before .args in
     let s = slots (a .values .now) (a .versions .now) (a .statuses .now) in
-    (omega arith, omega arith, fills-outage (a .head) s (a .fills) (a .fills .at) (c .before .before .before .before .before .before .before .before .pre .3) _ (c .before .before .before .before .before .before .before .before .pre .0 .fitted .versions))
+    (omega arith, omega arith, fills-outage (a .head) s (a .agreed-versions .now) (a .fills) (a .fills .at) (c .before .before .before .before .before .before .before .before .pre .3) _ (c .before .before .before .before .before .before .before .before .pre .0 .fitted .versions))
 
-unscaled-requires : tie.Need-unscaled-requires
-unscaled-requires c κs = let a = c .before .before .before .before .before .before .before .before .before .args in
+fill-cause-requires : tie.Need-fill-cause-requires
+fill-cause-requires c κs = let a = c .before .before .before .before .before .before .before .before .before .before .args in
     let s = slots (a .values .now) (a .versions .now) (a .statuses .now) in
-    (c .before .before .before .before .before .before .before .before .before .pre .0, c .before .before .before .before .before .before .before .before .before .pre .1, c .before .before .before .before .before .before .before .before .before .pre .2, sym (c .before .before .is-good .ensures) ∙ c .before .if1 .left, c .outage-zero .ensures ∙ zero-applies (a .head) s _ (c .before .before .before .before .before .before .before .before .before .pre .0 .fitted .versions) (a .fills .at))
+    (c .before .before .before .before .before .before .before .before .before .before .pre .0, c .before .before .before .before .before .before .before .before .before .before .pre .1, c .before .before .before .before .before .before .before .before .before .before .pre .2, sym (c .before .before .before .is-good .ensures) ∙ c .before .before .if1 .left, c .before .outage-zero .ensures ∙ zero-applies (a .head) s _ (c .before .before .before .before .before .before .before .before .before .before .pre .0 .fitted .versions) (a .fills .at), fills-line (a .head) s (a .agreed-versions .now) (a .fills) (a .fills .at) (c .before .before .before .before .before .before .before .before .before .before .pre .3))
 
 returns-2 : tie.Need-returns-2
-returns-2 c = let a = c .before .before .before .before .before .before .before .before .before .before .args in
+returns-2 c = let a = c .before .before .before .before .before .before .before .before .before .before .before .before .before .args in
     let s = slots (a .values .now) (a .versions .now) (a .statuses .now) in
-    (c .unscaled .ensures, fills-next (a .head) s (a .fills .at) _ (c .before .before .before .before .before .before .before .before .before .before .pre .0 .fitted .versions) _ (c .before .outage-zero .ensures))
+    (c .before .before .fill-cause .ensures .0, fills-next (a .head) s (a .agreed-versions .now) (a .fills .at) _ (c .before .before .before .before .before .before .before .before .before .before .before .before .before .pre .0 .fitted .versions) _ (c .before .before .before .before .outage-zero .ensures) _ (c .before .before .fill-cause .ensures .1))
 
 pub fill-spec : {M : Type 1} → statement M
 fill-spec =
@@ -49,10 +56,11 @@ fill-spec =
     (tie.spec
     add-on
     is-good-requires
+    bare-requires
     mul-delivered
     shared-slice-read-delivered
     delivered-requires
     returns
     outage-zero-requires
-    unscaled-requires
+    fill-cause-requires
     returns-2)

@@ -1,17 +1,20 @@
 -- `pass::first` knows nothing before slot 0.
-use Rattle.rules.specs.Inner.Fills.{zeroBefore, fillsAt}
+use Rattle.rules.specs.Inner.Fills.{zeroBefore, lineBefore, fillsAt}
 use Rattle.rules.specs.Inner.Stretches.{carriedAt}
 use Rattle.rules.specs.Inner.Passes.{passAt}
 use borrow.Author.Needs.{needs}
 use Rattle.rules.proofs.pass.first.Statement.{statement}
 use Rattle.rules.proofs.pass.first.Tie as tie
 
+bare-requires : tie.Need-bare-requires
+bare-requires c κs = search needs
+
 unscaled-to-requires : tie.Need-unscaled-to-requires
 unscaled-to-requires c κs = search needs
 
 returns : tie.Need-returns
-unfolding passAt fillsAt carriedAt zeroBefore
-returns c = λ h b. rw (c .unscaled-to .ensures)
+unfolding passAt fillsAt carriedAt zeroBefore lineBefore
+returns c = λ h b. rw (c .unscaled-to .ensures, c .before .bare .ensures)
 
 pub first-spec : {M : Type 1} → statement M
-first-spec = tie.close (tie.spec unscaled-to-requires returns)
+first-spec = tie.close (tie.spec bare-requires unscaled-to-requires returns)

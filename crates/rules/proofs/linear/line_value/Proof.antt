@@ -1,0 +1,50 @@
+-- `linear::line_value` computes with signed numbers what the specification says.
+use Rattle.rules.proofs.Floors.{rise-fits, risen-fits, value-fits, value-whole, value-line}
+use borrow.Author.Needs.{needs}
+use Rattle.rules.proofs.linear.line_value.Statement.{statement}
+use Rattle.rules.proofs.linear.line_value.Tie as tie
+
+cast-left : tie.Need-cast-left
+cast-left c = search needs
+
+cast-rise : tie.Need-cast-rise
+cast-rise c = search needs
+
+sub-rise : tie.Need-sub-rise
+sub-rise c = rise-fits (c .before .before .args .line) (c .before .before .pre)
+
+add-parts : tie.Need-add-parts
+add-parts c = search needs
+
+cast-floor-over : tie.Need-cast-floor-over
+cast-floor-over c = search needs
+
+mul-floor-over : tie.Need-mul-floor-over
+mul-floor-over c = risen-fits (c .before .before .before .before .args .line) (c .before .before .before .before .pre)
+
+floor-over-requires : tie.Need-floor-over-requires
+floor-over-requires c κs = search needs
+
+add-result : tie.Need-add-result
+add-result c = value-fits (c .before .before .before .before .before .args .line) (c .before .before .before .before .before .pre) _ (c .floor-over .ensures)
+
+cast-result : tie.Need-cast-result
+cast-result c = value-whole (c .before .before .before .before .before .args .line) (c .before .before .before .before .before .pre) _ (c .floor-over .ensures)
+
+returns : tie.Need-returns
+returns c = value-line (c .before .before .before .before .before .args .line) (c .before .before .before .before .before .pre) _ (c .floor-over .ensures)
+
+pub line-value-spec : {M : Type 1} → statement M
+line-value-spec =
+    tie.close
+    (tie.spec
+    cast-left
+    cast-rise
+    sub-rise
+    add-parts
+    cast-floor-over
+    mul-floor-over
+    floor-over-requires
+    add-result
+    cast-result
+    returns)
