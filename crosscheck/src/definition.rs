@@ -1,4 +1,4 @@
-//! The rules of 01 and of W1 once more, each slot and span for itself, as the sentences have them.
+//! The rules of 01, W1 and W2 once more, each slot and span for itself, as the sentences have them.
 //!
 //! Slow (scaling sums a whole span anew for each of its slots): it is what `rules`
 //! is held against, in all but the largest books.
@@ -59,13 +59,27 @@ impl<'a> Definition<'a> {
         !self.delivered(slot) && (outage(before) || outage(after))
     }
 
+    /// A cause, and not agreed or zeroed.
+    fn in_a_run(&self, slot: usize) -> bool {
+        !self.good(slot) && self.cells.agreed_versions[slot] == 0 && !self.outage_zero(slot)
+    }
+
+    /// The value on the line from the good slot before the run to the one after.
     fn linear(&self, slot: usize) -> Option<u64> {
-        if slot == 0 || slot + 1 == self.shape.slots {
+        // Both ends of a run that is short enough are within two hours of each slot.
+        let reach = 120 / self.shape.interval as usize;
+        let outside = |other: &usize| !self.in_a_run(*other);
+        let before = (0..slot).rev().take(reach).find(outside)?;
+        let after = (slot + 1..self.shape.slots).take(reach).find(outside)?;
+        let g = after - before - 1;
+        if g > reach || !self.good(before) || !self.good(after) {
             return None;
         }
+        // Each end weighs by how near it is, in steps from one end to the other.
         let value = |other: usize| u64::from(self.cells.values[other]);
-        (self.good(slot - 1) && self.good(slot + 1))
-            .then(|| (value(slot - 1) + value(slot + 1)) / 2)
+        let (from_before, to_after) = ((slot - before) as u64, (after - slot) as u64);
+        let weighed = value(before) * to_after + value(after) * from_before;
+        Some(weighed / (from_before + to_after))
     }
 
     fn same_day(&self, slot: usize) -> Option<u64> {

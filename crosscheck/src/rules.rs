@@ -1,5 +1,5 @@
-//! 01, Tests of a slot, Filling and Spans, with W1's agreed values: from the cells to
-//! the outcomes.
+//! 01, Tests of a slot, Filling and Spans, with W1's agreed values and W2's line: from
+//! the cells to the outcomes.
 
 use std::ops::Range;
 
@@ -14,6 +14,9 @@ pub const SCALED: u8 = 16;
 
 /// The method of an agreed value.
 pub const AGREED: u8 = 5;
+
+/// A line fills this many minutes at most.
+pub const LINE_MINUTES: usize = 120;
 
 /// The cells of a book, of the lengths its head asks for.
 #[derive(Clone, Copy, Debug)]
@@ -122,7 +125,9 @@ pub fn cause(shape: &Shape, value: u32, version: u32, status: u8) -> Option<Caus
 
 /// Every slot filled, before the step of the spans.
 pub fn fill(shape: &Shape, cells: &Cells, causes: &[Option<Cause>]) -> Vec<Slot> {
-    let outage_gaps = outage_gaps(cells, causes);
+    let zeroed = outage_gaps(cells, causes);
+    let waiting = waiting(cells, causes, &zeroed);
+    let line = lines(shape, cells, causes, &waiting);
     (0..shape.slots)
         .map(|slot| {
             if causes[slot].is_none() {
@@ -130,9 +135,9 @@ pub fn fill(shape: &Shape, cells: &Cells, causes: &[Option<Cause>]) -> Vec<Slot>
             } else if cells.agreed_versions[slot] != 0 {
                 // Before the outage rule.
                 filled(cells.agreed[slot], Quality::Agreed, AGREED)
-            } else if outage_gaps[slot] {
+            } else if zeroed[slot] {
                 filled(0, Quality::Actual, 1)
-            } else if let Some(value) = linear(cells, causes, slot) {
+            } else if let Some(value) = line[slot] {
                 filled(value, Quality::Substituted, 2)
             } else if let Some(value) = mean(&references(shape, cells, causes, slot)) {
                 filled(value, Quality::Substituted, 3)
@@ -172,15 +177,63 @@ fn outage_gaps(cells: &Cells, causes: &[Option<Cause>]) -> Vec<bool> {
     marks
 }
 
-/// Rule 2: half the sum of both neighbours, where both exist and are good.
-fn linear(cells: &Cells, causes: &[Option<Cause>], slot: usize) -> Option<u32> {
-    let before = slot.checked_sub(1)?;
-    let after = slot + 1;
-    if after >= causes.len() || causes[before].is_some() || causes[after].is_some() {
-        return None;
+/// Marks the slots with a cause that are neither agreed nor zeroed.
+fn waiting(cells: &Cells, causes: &[Option<Cause>], zeroed: &[bool]) -> Vec<bool> {
+    (0..causes.len())
+        .map(|slot| causes[slot].is_some() && cells.agreed_versions[slot] == 0 && !zeroed[slot])
+        .collect()
+}
+
+/// The longest unbroken runs of marked slots.
+pub fn runs(marks: &[bool]) -> Vec<Range<usize>> {
+    let mut runs = Vec::new();
+    let mut start = 0;
+    for part in marks.chunk_by(|one, next| one == next) {
+        let end = start + part.len();
+        if part[0] {
+            runs.push(start..end);
+        }
+        start = end;
     }
-    let sum = u64::from(cells.values[before]) + u64::from(cells.values[after]);
-    Some((sum / 2) as u32)
+    runs
+}
+
+/// Rule 2: the values of the runs of two hours at most that lie between good slots.
+fn lines(
+    shape: &Shape,
+    cells: &Cells,
+    causes: &[Option<Cause>],
+    waiting: &[bool],
+) -> Vec<Option<u32>> {
+    let mut values = vec![None; waiting.len()];
+    for run in runs(waiting) {
+        let g = run.len();
+        // Beside an agreed or zeroed slot, or at an end of the book, a run has no line.
+        let Some((before, after)) = good_ends(causes, &run) else {
+            continue;
+        };
+        if g * shape.interval as usize <= LINE_MINUTES {
+            let (l, r) = (cells.values[before], cells.values[after]);
+            for j in 1..=g {
+                values[before + j] = Some(on_line(l, r, j, g));
+            }
+        }
+    }
+    values
+}
+
+/// The slots just before and after a run, where both exist and are good.
+pub fn good_ends(causes: &[Option<Cause>], run: &Range<usize>) -> Option<(usize, usize)> {
+    let before = run.start.checked_sub(1)?;
+    let after = run.end;
+    (after < causes.len() && causes[before].is_none() && causes[after].is_none())
+        .then_some((before, after))
+}
+
+/// The j-th of g slots between l and r: l + (r − l) × j / (g + 1), rounded down.
+pub fn on_line(l: u32, r: u32, j: usize, g: usize) -> u32 {
+    let rise = (i64::from(r) - i64::from(l)) * j as i64;
+    (i64::from(l) + rise.div_euclid(g as i64 + 1)) as u32
 }
 
 /// Rule 3: up to four values of the same position, whole weeks earlier, nearest day first.

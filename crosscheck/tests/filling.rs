@@ -44,14 +44,17 @@ fn each_cause_is_filled() {
 fn linear_only_between_good_neighbours() {
     let mut test = Test::new(HEAD);
     test.deliver_all(10);
-    test.redeliver(20, 10, 1);
-    test.redeliver(21, 10, 4);
-    assert_eq!(
-        test.slot(20),
-        (0, 'N', 0),
-        "no fill from a failed neighbour"
-    );
-    assert_eq!(test.slot(21), (0, 'N', 0));
+    // A run of five is longer than two hours.
+    for slot in 20..25 {
+        test.redeliver(slot, 10, if slot == 22 { 4 } else { 1 });
+    }
+    for slot in 20..25 {
+        assert_eq!(
+            test.slot(slot),
+            (0, 'N', 0),
+            "no fill from a failed neighbour"
+        );
+    }
     test.redeliver(0, 10, 1);
     test.redeliver(47, 10, 1);
     assert_eq!(test.slot(0), (0, 'N', 0), "no neighbour before the book");
@@ -61,16 +64,17 @@ fn linear_only_between_good_neighbours() {
 
 #[test]
 fn no_linear_from_a_filled_neighbour() {
-    // 10 can be filled from references, 11 cannot lean on it.
+    // 10 to 13 can be filled from references, 14 cannot lean on them.
     let mut test = Test::new(days(8));
     test.deliver_all(10);
-    test.lists.versions[at(7, 11)] = 0;
-    test.lists.values[at(7, 11)] = 0;
-    test.redeliver(at(7, 10), 0, 1);
-    test.redeliver(at(0, 11), 60, 0);
-    test.redeliver(at(0, 10), 30, 0);
-    assert_eq!(test.slot(at(7, 10)), (30, 'S', 3));
-    assert_eq!(test.slot(at(7, 11)), (60, 'S', 3));
+    for position in 10..15 {
+        test.redeliver(at(7, position), 0, 1);
+        test.redeliver(at(0, position), 30, if position == 14 { 2 } else { 0 });
+    }
+    for position in 10..14 {
+        assert_eq!(test.slot(at(7, position)), (30, 'S', 3));
+    }
+    assert_eq!(test.slot(at(7, 14)), (0, 'N', 0));
 }
 
 #[test]
@@ -99,8 +103,8 @@ fn outage_before_or_after_a_run() {
     assert_eq!(run_between(2, 0), [(0, 'A', 1); 3]);
     assert_eq!(run_between(0, 2), [(0, 'A', 1); 3]);
     assert_eq!(run_between(2, 2), [(0, 'A', 1); 3]);
-    assert_eq!(run_between(0, 0), [(0, 'N', 0); 3]);
-    assert_eq!(run_between(5, 1), [(0, 'N', 0); 3]);
+    assert_eq!(run_between(0, 0), [(5, 'S', 2); 3]);
+    assert_eq!(run_between(5, 1), [(0, 'N', 0); 3], "a run of five");
     assert_eq!(
         run_between(3, 0),
         [(0, 'A', 1); 3],

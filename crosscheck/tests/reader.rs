@@ -11,7 +11,7 @@ use common::*;
 fn five_days() -> Test {
     let mut test = Test::new(Head { days: 5, ..HEAD });
     for slot in 0..5 * 48 {
-        let lost = [60, 62, 100, 101, 150, 200];
+        let lost = [60, 62, 100, 101, 102, 103, 104, 150, 200];
         if !lost.contains(&slot) {
             test.deliver(slot, 10, 0);
         }

@@ -79,16 +79,18 @@ fn state_2_with_a_slot_of_none() {
 #[test]
 fn method_19_after_references() {
     let mut test = Test::new(Head { days: 8, ..HEAD });
-    for slot in 0..8 * 48 {
-        if slot != 7 * 48 + 10 && slot != 7 * 48 + 11 {
-            test.deliver(slot, 5, 0);
-        }
+    // A run of five has no line.
+    let lost = 7 * 48 + 10..7 * 48 + 15;
+    for slot in (0..8 * 48).filter(|slot| !lost.contains(slot)) {
+        test.deliver(slot, 5, 0);
     }
     test.register(7, 0);
-    test.register(8, 46 * 5 + 21);
-    assert_eq!(test.spans(), [(7, 8, 251, 1)]);
-    assert_eq!(test.slot(7 * 48 + 10), (10, 'S', 19));
-    assert_eq!(test.slot(7 * 48 + 11), (11, 'S', 19));
+    test.register(8, 43 * 5 + 27);
+    assert_eq!(test.spans(), [(7, 8, 242, 1)]);
+    // 5.4, 10.8, 16.2, 21.6 and 27 so far.
+    for (slot, value) in lost.zip([5, 5, 6, 5, 6]) {
+        assert_eq!(test.slot(slot), (value, 'S', 19));
+    }
 }
 
 #[test]
