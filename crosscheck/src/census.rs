@@ -4,6 +4,7 @@ use crate::counts::{Counts, NUMBERS};
 use crate::file;
 use crate::head::Shape;
 use crate::rules::{self, Cause, Cells, Quality, Slot, Span, State};
+use crate::run_census::Runs;
 
 /// A book's cells with what the rules made of them.
 pub struct Census<'a> {
@@ -19,6 +20,15 @@ pub struct Census<'a> {
 pub fn take(shape: &Shape, cells: &Cells, (slots, spans): (&[Slot], &[Span]), counts: &mut Counts) {
     let causes = rules::causes(shape, cells);
     let filled = rules::fill(shape, cells, &causes);
+    let runs = Runs {
+        shape,
+        cells,
+        causes: &causes,
+        filled: &filled,
+        slots,
+        spans,
+    };
+    runs.count(counts);
     let mut census = Census {
         shape,
         cells,
@@ -85,7 +95,6 @@ impl Census<'_> {
         self.scaled_over(outcome);
         match outcome.method {
             1 => self.outage_zero(slot),
-            2 | 18 => self.linear(slot),
             3 | 19 => self.references(slot),
             _ if outcome.quality == Quality::None => self.references(slot),
             _ => {}
@@ -174,14 +183,6 @@ impl Census<'_> {
             .add_if(beyond, "agreed", "outage zero beyond an agreed gap");
     }
 
-    fn linear(&mut self, slot: usize) {
-        let beside = self.outage(slot - 1) || self.outage(slot + 1);
-        let delivered = self.causes[slot] != Some(Cause::Gap);
-        let counts = &mut self.counts;
-        counts.add_if(beside, "linear", "beside an outage");
-        counts.add_if(delivered, "linear", "of a delivered slot");
-    }
-
     /// A slot that outage zero and linear passed by.
     fn references(&mut self, slot: usize) {
         let found = rules::references(self.shape, self.cells, &self.causes, slot).len();
@@ -191,7 +192,7 @@ impl Census<'_> {
                 self.causes[other].is_some() && self.filled[other].quality != Quality::None
             });
             self.counts
-                .add_if(filled_neighbour, "linear", "not from a filled neighbour");
+                .add_if(filled_neighbour, "no line", "none from a filled neighbour");
             let good = |other: usize| self.causes[other].is_none();
             let (before, after) = (slot - 1, slot + 1);
             let no_line =

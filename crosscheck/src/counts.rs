@@ -95,12 +95,38 @@ const CLASSES: &[(&str, &[&str])] = &[
             "run at the last slot",
         ],
     ),
+    ("run between good slots, L 5", LENGTHS),
+    ("run between good slots, L 15", LENGTHS.split_at(9).0),
+    ("run between good slots, L 30", LENGTHS.split_at(5).0),
     (
-        "linear",
+        "line",
         &[
+            "falling",
+            "rising",
+            "level",
+            "falling, rounded",
+            "rising, rounded",
+            "mixed causes",
+            "all four causes",
             "beside an outage",
-            "of a delivered slot",
-            "not from a filled neighbour",
+            "of delivered slots",
+            "over a day's end",
+            "over a span's end",
+            "part of it scaled",
+        ],
+    ),
+    (
+        "no line",
+        &[
+            "at the first slot",
+            "at the last slot",
+            "agreed before",
+            "agreed after",
+            "zeroed before",
+            "zeroed after",
+            "short, but references",
+            "longer, S and N in it",
+            "none from a filled neighbour",
         ],
     ),
     (
@@ -216,9 +242,13 @@ const CLASSES: &[(&str, &[&str])] = &[
     ),
 ];
 
-pub const NUMBERS: [&str; 13] = [
-    "0", "1", "2", "3", "4", "5", "6", "7", "8", "9", "10", "11", "12",
+pub const NUMBERS: &[&str] = &[
+    "0", "1", "2", "3", "4", "5", "6", "7", "8", "9", "10", "11", "12", "13", "14", "15", "16",
+    "17", "18", "19", "20", "21", "22", "23", "24", "25",
 ];
+
+/// g from 1 to one more than the longest line of L 5.
+const LENGTHS: &[&str] = NUMBERS.split_at(1).1;
 
 impl Default for Counts {
     fn default() -> Counts {

@@ -4,7 +4,8 @@
 //! The build: `head`, `book`, `rules`, `file`, `reader`, `line`;
 //! of 02: `dial`, `strips`, `stays`.
 //! What it is held against: `plain`, `definition`, `acceptance`, and `host` when linked.
-//! The comparison: `calls`, `random`, `heads`, `damage`, `side`, `run`, `shrink`, `counts`, `census`;
+//! The comparison: `calls`, `random`, `heads`, `damage`, `side`, `run`, `shrink`, `counts`, `census`,
+//! `run_census`;
 //! the smaller ones of 02: `tries`, `dial_tries`, `strips_tries`, `stays_tries`.
 #![deny(unsafe_code)]
 
@@ -31,6 +32,7 @@ pub mod refusal;
 pub mod rng;
 pub mod rules;
 pub mod run;
+pub mod run_census;
 pub mod shrink;
 pub mod side;
 pub mod stays;

@@ -4,7 +4,7 @@ use crate::calls::{Act, Book, Call, List, Lists, Room};
 use crate::head::{DIAL, Head, Shape};
 use crate::heads;
 use crate::rng::Rng;
-use crate::rules::{self, Cause, OUTAGE, Quality, Slot};
+use crate::rules::{self, Cause, LINE_MINUTES, OUTAGE, PARTIAL, Quality, Slot, TIME_CHANGE};
 use crate::side::{Answer, Second, apply};
 
 /// A book gets at most about this many deliveries, so that most run in a moment.
@@ -87,6 +87,14 @@ enum Again {
     Newer,
 }
 
+/// What a delivered slot is to be.
+#[derive(Clone, Copy)]
+enum Wanted {
+    Any,
+    Good,
+    Failed(Cause),
+}
+
 struct Maker {
     rng: Rng,
     head: Head,
@@ -159,7 +167,8 @@ impl Maker {
     // Deliveries
 
     fn deliveries(&mut self) {
-        let delivered = self.delivered_slots();
+        let mut delivered = self.delivered_slots();
+        let wanted = self.runs(&mut delivered);
         let profile = self.profile();
         let failing = self.rng.pick(&[0, 0, 100, 30, 8]);
         let outages = self.rng.pick(&[0, 0, 1, 2, 4]);
@@ -171,7 +180,7 @@ impl Maker {
             _ => {}
         }
         for slot in order {
-            let value = self.value(profile, slot);
+            let mut value = self.value(profile, slot);
             let beside_gap = slot > 0 && !delivered[slot - 1]
                 || slot + 1 < delivered.len() && !delivered[slot + 1];
             let mut status = 0;
@@ -180,6 +189,11 @@ impl Maker {
             }
             if self.rng.one_in(failing) {
                 status |= self.rng.below(8) as u8;
+            }
+            match wanted[slot] {
+                Wanted::Any => {}
+                Wanted::Good => (value, status) = (value.min(self.most()), 0),
+                Wanted::Failed(cause) => (value, status) = self.failed(cause, value),
             }
             let version = self.rng.pick(&[1, 1, 1, 2, 3, 7, u32::MAX]);
             let act = Act::Deliver {
@@ -275,6 +289,64 @@ impl Maker {
         if self.rng.one_in(4) {
             let len = 1 + self.rng.below(6);
             delivered[slots - len..].fill(false);
+        }
+    }
+
+    /// Runs of up to two hours and one slot more, mostly between good slots.
+    fn runs(&mut self, delivered: &mut [bool]) -> Vec<Wanted> {
+        let mut wanted = vec![Wanted::Any; delivered.len()];
+        let longest = LINE_MINUTES / self.shape.interval as usize;
+        // More where there are more lengths.
+        let many = self.rng.pick(&[0, 0, 1, 3, 6]) * longest.div_ceil(4);
+        let gaps_only = self.rng.one_in(3);
+        if !delivered.contains(&true) {
+            return wanted;
+        }
+        for _ in 0..many {
+            let g = 1 + self.rng.below(longest + 1);
+            let start = self.run_start(g);
+            let ends = [start.checked_sub(1), Some(start + g)];
+            for end in ends.into_iter().flatten() {
+                if end < delivered.len() && !self.rng.one_in(10) {
+                    (delivered[end], wanted[end]) = (true, Wanted::Good);
+                }
+            }
+            for slot in start..start + g {
+                let cause = self.rng.pick(&[
+                    Cause::Gap,
+                    Cause::Gap,
+                    Cause::TimeChange,
+                    Cause::Partial,
+                    Cause::Demand,
+                ]);
+                let lost = gaps_only || cause == Cause::Gap;
+                (delivered[slot], wanted[slot]) = (!lost, Wanted::Failed(cause));
+            }
+        }
+        wanted
+    }
+
+    /// Where a run of g slots starts: at an end of the book, over a day's end or anywhere.
+    fn run_start(&mut self, g: usize) -> usize {
+        let (slots, n) = (self.shape.slots, self.shape.slots_a_day);
+        match self.rng.below(10) {
+            0 => 0,
+            1 => slots - g,
+            2..5 if g > 1 && self.shape.days > 1 => {
+                let day = 1 + self.rng.below(self.shape.days - 1);
+                day * n - 1 - self.rng.below(g - 1)
+            }
+            _ => self.rng.below(slots - g + 1),
+        }
+    }
+
+    /// A value and a status that fail for a cause; now and then the outage bit as well.
+    fn failed(&mut self, cause: Cause, value: u32) -> (u32, u8) {
+        let outage = if self.rng.one_in(16) { OUTAGE } else { 0 };
+        match cause {
+            Cause::TimeChange => (value, TIME_CHANGE | outage),
+            Cause::Partial => (value, PARTIAL | outage),
+            _ => (self.most() + 1 + self.rng.between(0, 2), outage),
         }
     }
 

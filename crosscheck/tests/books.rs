@@ -50,9 +50,16 @@ enum Meddling {
     AgreedIsNeighbourAndReference,
     AlwaysLayout1,
     AgreedUnchecked,
+    SingleLinesOnly,
+    LineRoundsUpWhenFalling,
+    LineTooLong,
+    LineTooShort,
+    LineFromAgreed,
+    LineFromZeroed,
+    LineEndsAtMidnight,
 }
 
-const ALL: [Meddling; 19] = [
+const ALL: [Meddling; 26] = [
     Meddling::FillsNothing,
     Meddling::FirstDeliveryOnly,
     Meddling::ConstantFile,
@@ -72,6 +79,13 @@ const ALL: [Meddling; 19] = [
     Meddling::AgreedIsNeighbourAndReference,
     Meddling::AlwaysLayout1,
     Meddling::AgreedUnchecked,
+    Meddling::SingleLinesOnly,
+    Meddling::LineRoundsUpWhenFalling,
+    Meddling::LineTooLong,
+    Meddling::LineTooShort,
+    Meddling::LineFromAgreed,
+    Meddling::LineFromZeroed,
+    Meddling::LineEndsAtMidnight,
 ];
 
 impl Side for Meddled {
@@ -141,7 +155,7 @@ impl Side for Meddled {
             Meddling::AgreedIsNeighbourAndReference => name_agreed(head, lists, file),
             Meddling::MadeUpCounts => file[length as usize - 24] ^= 1,
             Meddling::WritesBehindTheFile => behind.fill(0),
-            _ => {}
+            _ => meddle_lines(self.0, head, &mut file[..6 * lists.values.len()]),
         }
         answer
     }
@@ -222,6 +236,50 @@ fn name_agreed(head: Head, lists: &Lists, file: &mut [u8]) {
             .filter(|record| letters.contains(&record[4]))
             .count();
         file[trailer + at..trailer + at + 4].copy_from_slice(&(count as u32).to_le_bytes());
+    }
+}
+
+/// Changes the runs of S and N records that a build with this slip would fill otherwise.
+fn meddle_lines(meddling: Meddling, head: Head, table: &mut [u8]) {
+    let longest = (120 / head.interval) as usize;
+    let day = (1440 / head.interval) as usize;
+    let records: Vec<[u8; 6]> = table.as_chunks().0.to_vec();
+    let end_of = |at: Option<usize>| at.and_then(|at| records.get(at));
+    let is = |end: Option<&[u8; 6]>, letter, method| {
+        end.is_some_and(|record| record[4..] == [letter, method])
+    };
+    let value = |record: &[u8; 6]| u32::from_le_bytes([record[0], record[1], record[2], record[3]]);
+    let marks: Vec<bool> = records.iter().map(|r| b"SN".contains(&r[4])).collect();
+    for run in rules::runs(&marks) {
+        let g = run.len();
+        let ends = [end_of(run.start.checked_sub(1)), end_of(Some(run.end))];
+        let good = |end| is(end, b'A', 0);
+        let line = matches!(records[run.start][5], 2 | 18);
+        let from = |letter, method| {
+            let other = |end| is(end, letter, method);
+            g <= longest
+                && ends.iter().any(|&e| other(e))
+                && ends.iter().all(|&e| good(e) || other(e))
+        };
+        let changed = match meddling {
+            Meddling::SingleLinesOnly => line && g > 1,
+            Meddling::LineTooLong => g == longest + 1 && ends.into_iter().all(good),
+            Meddling::LineTooShort => line && g == longest,
+            Meddling::LineFromAgreed => from(b'F', 5),
+            Meddling::LineFromZeroed => from(b'A', 1),
+            Meddling::LineEndsAtMidnight => line && run.start / day < (run.end - 1) / day,
+            Meddling::LineRoundsUpWhenFalling => match ends {
+                [Some(l), Some(r)] if line && records[run.start][5] == 2 => {
+                    let fall = i64::from(value(l)) - i64::from(value(r));
+                    fall > 0 && fall % (g as i64 + 1) != 0
+                }
+                _ => false,
+            },
+            _ => false,
+        };
+        if changed {
+            table[6 * run.start] ^= 1;
+        }
     }
 }
 
