@@ -20,15 +20,17 @@ enum Kind {
     Ordinary,
     AllGap,
     AlternateGaps,
+    Lines,
     NoReferences,
     SomeAgreed,
     AllAgreed,
 }
 
-const KINDS: [(Kind, &str); 6] = [
+const KINDS: [(Kind, &str); 7] = [
     (Kind::Ordinary, "ordinary"),
     (Kind::AllGap, "all gap"),
     (Kind::AlternateGaps, "alternate gaps"),
+    (Kind::Lines, "two-hour lines"),
     (Kind::NoReferences, "no references"),
     (Kind::SomeAgreed, "some agreed"),
     (Kind::AllAgreed, "all agreed"),
@@ -45,21 +47,24 @@ struct Sample {
 }
 
 impl Kind {
-    fn delivered(self, slot: usize) -> bool {
+    fn delivered(self, slot: usize, interval: u32) -> bool {
+        let longest = 120 / interval as usize;
         match self {
             // Single losses and, now and then, a short run.
             Kind::Ordinary | Kind::SomeAgreed => slot % 97 != 40 && slot % 1009 > 4,
             Kind::AllGap | Kind::AllAgreed => false,
             Kind::AlternateGaps => slot.is_multiple_of(2),
-            // The same two of three positions are lost every day: no neighbours, no weeks.
-            Kind::NoReferences => slot.is_multiple_of(3),
+            // Each run as long as a line may be.
+            Kind::Lines => slot.is_multiple_of(longest + 1),
+            // The same positions are lost every day, more than two hours: no line, no weeks.
+            Kind::NoReferences => slot.is_multiple_of(2 * longest),
         }
     }
 
     /// Whether office and skipper settled the slot.
-    fn agreed(self, slot: usize) -> bool {
+    fn agreed(self, slot: usize, interval: u32) -> bool {
         match self {
-            Kind::SomeAgreed => !self.delivered(slot) && slot.is_multiple_of(2),
+            Kind::SomeAgreed => !self.delivered(slot, interval) && slot.is_multiple_of(2),
             Kind::AllAgreed => true,
             _ => false,
         }
@@ -87,7 +92,7 @@ impl Sample {
         let shape = head.shape().expect("a head in bounds");
         let day = shape.slots_a_day;
         let deliveries: Vec<Delivery> = (0..shape.slots)
-            .filter(|&slot| kind.delivered(slot))
+            .filter(|&slot| kind.delivered(slot, interval))
             .map(|slot| Delivery {
                 slot: slot as u32,
                 version: 1,
@@ -99,7 +104,7 @@ impl Sample {
         for &delivery in &deliveries {
             Second.deliver(head, &mut lists, delivery);
         }
-        for slot in (0..shape.slots).filter(|&slot| kind.agreed(slot)) {
+        for slot in (0..shape.slots).filter(|&slot| kind.agreed(slot, interval)) {
             let agreement = Agreement {
                 slot: slot as u32,
                 version: 1,
