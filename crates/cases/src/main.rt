@@ -9,6 +9,7 @@ fn main() {
     files::whole();
     outcomes::demands();
     outcomes::linear();
+    outcomes::lines();
     outcomes::references();
     files::dial();
     outcomes::scaled();

@@ -43,6 +43,33 @@ pub fn linear() {
     );
 }
 
+// Two hours of half hours are filled, half an hour more is not.
+pub fn lines() {
+    let falling = [[1, 10, 11, 10, 0], [1, 14, 15, 4, 0]];
+    let three = [11, 12, 13];
+    show(
+        b"10, three slots, 4:",
+        books::head_of(1, 30, 1),
+        &falling,
+        &three,
+    );
+    let two_hours = [[1, 10, 11, 10, 0], [1, 15, 16, 20, 0]];
+    let longer = [[1, 10, 11, 10, 0], [1, 16, 17, 20, 0]];
+    let ends = [11, 14];
+    show(
+        b"four half hours:",
+        books::head_of(1, 30, 1),
+        &two_hours,
+        &ends,
+    );
+    show(
+        b"five half hours:",
+        books::head_of(1, 30, 1),
+        &longer,
+        &ends,
+    );
+}
+
 // Slot 10 of the last of 29 days is a partial interval; `rows` has slot 10 of the days 7, 14, 21 and 28 before it.
 fn week_case(label: &[u8], rows: &[[u32; 5]]) {
     let slots = [1354];
@@ -103,8 +130,8 @@ pub fn slips() {
         [1, 346, 347, 1000, 0],
     ];
     week_case(b"averaging over slots that failed:", &failed);
-    let gaps = [[1, 10, 11, 7, 0], [1, 13, 14, 10, 0]];
-    let slots = [11, 12];
+    let gaps = [[1, 10, 11, 7, 0], [4, 12, 1, 9, 0], [1, 14, 15, 10, 0]];
+    let slots = [11, 12, 13];
     show(
         b"a linear fill from a filled neighbour:",
         books::head_of(1, 30, 1),
