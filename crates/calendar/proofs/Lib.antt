@@ -4,3 +4,4 @@ pub mod Closed
 pub mod Bounds
 pub mod Places
 pub mod Dates
+pub mod Sundays

@@ -53,3 +53,11 @@ dateOf n =
     let year = place yearLength 99 2000 n in
     let month = place (monthLength (year .at)) 11 1 (year .left) in
     record { year = year .at; month = month .at; day = month .left + 1 }
+
+-- Sunday is 0 and Saturday 6; day 0, 2000-01-01, was a Saturday (02, W3)
+abbrev pub weekday : ℕ → ℕ
+weekday n = (n + 6) % 7
+
+-- the days from day n back to the nearest Sunday strictly before it
+unfoldable pub toSunday : ℕ → ℕ
+toSunday n = cond (eqb (weekday n) 0) 7 (weekday n)

@@ -2,7 +2,7 @@
 ghost use mathlib.Core.Bool.{true};
 ghost use mathlib.Core.Path.{_≡_};
 ghost use Prim.Native.Nat.{_-_, _≤_, _<_};
-ghost use Rattle.calendar.specs.Calendar.{leap, monthLength, yearLength, daysBeforeMonth, daysBeforeYear, dayNumber, isDate, place, dateOf};
+ghost use Rattle.calendar.specs.Calendar.{leap, monthLength, yearLength, daysBeforeMonth, daysBeforeYear, dayNumber, isDate, place, dateOf, weekday, toSunday};
 
 pub struct Date {
     pub year: u32,
@@ -154,4 +154,24 @@ pub fn date_of(number: u32) -> Date
         month: month.at,
         day: month.left + 1,
     }
+}
+
+// Sunday is 0 and Saturday 6: 2000-01-01 was a Saturday (02, W3).
+pub fn weekday(number: u32) -> u32
+    requires { ⌜ number < 36525 ⌝ }
+    ensures { λ r. ⌜ r ≡ weekday number ⌝ }
+{
+    (number + 6) % 7
+}
+
+// The days back to the nearest Sunday strictly before a day.
+pub fn to_sunday(number: u32) -> u32
+    requires { ⌜ number < 36525 ⌝ }
+    ensures { λ r. ⌜ r ≡ toSunday number ⌝ }
+{
+    let past = weekday(number);
+    if past == 0 {
+        return 7;
+    }
+    past
 }
