@@ -13,7 +13,9 @@ use lib.Seq.{take-suc-set, take-nil}
 use Rattle.rules.specs.declared.Head.{Head}
 use Rattle.rules.specs.declared.Quality.the-variants.{S, N}
 use Rattle.rules.specs.Opening.{Slots, slotsPerDay}
-use Rattle.rules.specs.Filling.{total, slotsPerWeek, isReference, weeksBack, references, meanOf, fromReferences}
+use Rattle.rules.specs.Weeks.{firstBack, farthestBack, weeksWithin}
+use Rattle.rules.specs.Filling.{total, isReference, weeksBack, references, meanOf, fromReferences}
+use Rattle.rules.specs.Inner.Ways.{InBook}
 use Rattle.rules.proofs.Bounds.{Bounded}
 
 -- one more element
@@ -27,32 +29,45 @@ total-suc (x ∷ l) (suc i) = omega (arith, total-suc l i)
 pub total-next : (l : List ℕ) (i sum : ℕ) → sum ≡ total (take i l) → sum + getD l i 0 ≡ total (take (i + 1) l)
 total-next l i sum e = rw (e, add-one) (total-suc l i)
 
+-- the weeks counted are exactly those that are not too far
+pub week-within : (first farthest k : ℕ) → first ≤ 7 → (k < weeksWithin first farthest → first + 7 * k ≤ farthest) × (first + 7 * k ≤ farthest → k < weeksWithin first farthest)
+unfolding weeksWithin
+week-within first farthest k l = (λ x. omega arith, λ x. omega arith)
+
+-- a slot on no holiday keeps its 7, 14, .. 364 days
+pub no-holiday : (h : Head) (s : Slots) (holidays : List ℕ) (i : ℕ) → getD holidays (i / slotsPerDay h) 0 ≡ 0 → references h s holidays i ≡ take 4 (weeksBack h s holidays 7 i 52)
+unfolding references firstBack farthestBack weeksWithin
+no-holiday h s holidays i e = simp (eq-eqb _ _ e)
+
 -- the search for references: where it ends, and one week of it
-module _ (h : Head) (s : Slots) (holidays : List ℕ) (j : ℕ) where
-  weeks-none : weeksBack h s holidays j 0 ≡ []
+module _ (h : Head) (s : Slots) (holidays : List ℕ) (days j : ℕ) where
+  abbrev earlier : ℕ
+  earlier = j - days * slotsPerDay h
+
+  weeks-none : weeksBack h s holidays days j 0 ≡ []
   unfolding weeksBack
   weeks-none = refl
 
-  weeks-out : (k : ℕ) → j < slotsPerWeek h → weeksBack h s holidays j k ≡ []
+  weeks-out : (k : ℕ) → j < days * slotsPerDay h → weeksBack h s holidays days j k ≡ []
   unfolding weeksBack
   weeks-out zero p = refl
   weeks-out (suc k) p = simp (lt-ltb _ _ p)
 
-  weeks-found : (k : ℕ) → (k ≡ 0 → ⊥) → slotsPerWeek h ≤ j → isReference h s holidays (j - slotsPerWeek h) ≡ true → weeksBack h s holidays j k ≡ getD (s .values) (j - slotsPerWeek h) 0 ∷ weeksBack h s holidays (j - slotsPerWeek h) (k - 1)
+  weeks-found : (k : ℕ) → (k ≡ 0 → ⊥) → days * slotsPerDay h ≤ j → isReference h s holidays earlier ≡ true → weeksBack h s holidays days j k ≡ getD (s .values) earlier 0 ∷ weeksBack h s holidays 7 earlier (k - 1)
   unfolding weeksBack
   weeks-found zero n p e = absurd (n refl)
   weeks-found (suc k) n p e = simp (le-ltb _ _ p, e, sub-one)
 
-  weeks-passed : (k : ℕ) → (k ≡ 0 → ⊥) → slotsPerWeek h ≤ j → isReference h s holidays (j - slotsPerWeek h) ≡ false → weeksBack h s holidays j k ≡ weeksBack h s holidays (j - slotsPerWeek h) (k - 1)
+  weeks-passed : (k : ℕ) → (k ≡ 0 → ⊥) → days * slotsPerDay h ≤ j → isReference h s holidays earlier ≡ false → weeksBack h s holidays days j k ≡ weeksBack h s holidays 7 earlier (k - 1)
   unfolding weeksBack
   weeks-passed zero n p e = absurd (n refl)
   weeks-passed (suc k) n p e = simp (le-ltb _ _ p, e, sub-one)
 
--- seven days before a slot
-week-before : (n at : ℕ) → 0 < n → 7 * n ≤ at → at / n ≡ (at - 7 * n) / n + 7
-week-before n at p l =
-    let e : at ≡ at - 7 * n + 7 * n = omega arith in
-    ap (λ (x : ℕ). x / n) e ∙ add-mul-div-right (at - 7 * n) 7 p
+-- some days before a slot
+days-before : (n days at : ℕ) → 0 < n → days * n ≤ at → at / n ≡ (at - days * n) / n + days
+days-before n days at p l =
+    let e : at ≡ at - days * n + days * n = omega arith in
+    ap (λ (x : ℕ). x / n) e ∙ add-mul-div-right (at - days * n) days p
 
 module _ (h : Head) (w : Bounded h) where
   abbrev n : ℕ
@@ -61,28 +76,25 @@ module _ (h : Head) (w : Bounded h) where
   positive : 0 < n
   positive = omega (arith, w .day-low)
 
-  week-low : (at : ℕ) → 7 ≤ at / n → slotsPerWeek h ≤ at
-  unfolding slotsPerWeek
-  week-low at l = le-div-iff-mul-le positive .0 l
+  days-low : (days at : ℕ) → days ≤ at / n → days * n ≤ at
+  days-low days at l = le-div-iff-mul-le positive .0 l
 
-  week-out : (at : ℕ) → at / n < 7 → at < slotsPerWeek h
-  unfolding slotsPerWeek
-  week-out at l = div-lt-iff-lt-mul positive .0 l
+  days-out : (days at : ℕ) → at / n < days → at < days * n
+  days-out days at l = div-lt-iff-lt-mul positive .0 l
 
-  week-on : (at : ℕ) → slotsPerWeek h ≤ at → at / n ≡ (at - slotsPerWeek h) / n + 7
-  unfolding slotsPerWeek
-  week-on at l = week-before n at positive l
+  days-on : (days at : ℕ) → days * n ≤ at → at / n ≡ (at - days * n) / n + days
+  days-on days at l = days-before n days at positive l
 
   -- no week before the book's first is looked at
-  weeks-enough : (s : Slots) (holidays : List ℕ) (r k at : ℕ) → 7 * r ≤ at / n → r ≤ k → (r < k → at / n < 7 * r + 7) → weeksBack h s holidays at k ≡ weeksBack h s holidays at r
+  weeks-enough : (s : Slots) (holidays : List ℕ) (r k days at : ℕ) → days + 7 * r ≤ at / n + 7 → r ≤ k → (r < k → at / n < days + 7 * r) → weeksBack h s holidays days at k ≡ weeksBack h s holidays days at r
   unfolding weeksBack
-  weeks-enough s holidays zero zero at p q o = refl
-  weeks-enough s holidays zero (suc k) at p q o = weeks-out h s holidays at (suc k) (week-out at (omega (arith, o (omega arith))))
-  weeks-enough s holidays (suc r) zero at p q o = absurd (omega arith)
-  weeks-enough s holidays (suc r) (suc k) at p q o =
-      let l = week-low at (omega arith) in
-      let d = week-on at l in
-      let e = weeks-enough s holidays r k (at - slotsPerWeek h) (omega arith) (omega arith) (λ x. omega (arith, o (omega arith))) in
+  weeks-enough s holidays zero zero days at p q o = refl
+  weeks-enough s holidays zero (suc k) days at p q o = weeks-out h s holidays days at (suc k) (days-out days at (omega (arith, o (omega arith))))
+  weeks-enough s holidays (suc r) zero days at p q o = absurd (omega arith)
+  weeks-enough s holidays (suc r) (suc k) days at p q o =
+      let l = days-low days at (omega arith) in
+      let d = days-on days at l in
+      let e = weeks-enough s holidays r k 7 (at - days * n) (omega arith) (omega arith) (λ x. omega (arith, o (omega arith))) in
       rw e
 
 -- n values are kept, and room is left for 4 - n of the list's
@@ -103,59 +115,64 @@ pub kept-full : (l rest : List ℕ) (n : ℕ) → n ≡ 4 → kept l n rest ≡ 
 unfolding kept
 kept-full l rest n e = rw e (simp append-nil)
 
--- the search between two weeks: `count` references are found, and the rest are those before slot `at` of day `day`
-pub record Searching (h : Head) (s : Slots) (holidays : List ℕ) (slot week : ℕ) (found : List ℕ) (count at day weeks : ℕ) : Type 0 where
+-- the search between two weeks: `count` references are found, and the rest are `days` days, or `step` slots, before slot `at` of day `day` and in the weeks before
+pub record Searching (h : Head) (s : Slots) (holidays : List ℕ) (slot week : ℕ) (found : List ℕ) (count at day days step weeks : ℕ) : Type 0 where
   pub room : count < 4
   pub near : at ≤ slot
   pub on : day ≡ at / slotsPerDay h
-  pub reach : 7 * weeks ≤ day
-  pub step : week ≡ slotsPerWeek h
+  pub short : days ≤ 7
+  pub reach : days + 7 * weeks ≤ day + 7
+  pub seven : week ≡ 7 * slotsPerDay h
+  pub long : step ≡ days * slotsPerDay h
   pub four : length found ≡ 4
-  pub rest : kept found count (weeksBack h s holidays at weeks) ≡ references h s holidays slot
+  pub rest : kept found count (weeksBack h s holidays days at weeks) ≡ references h s holidays slot
 
 module _ (h : Head) (w : Bounded h) (s : Slots) (holidays : List ℕ) (slot week : ℕ) where
-  pub search-starts : (day weeks : ℕ) → week ≡ slotsPerWeek h → day ≡ slot / slotsPerDay h → (7 * weeks ≤ day) × (weeks ≤ 52) × (weeks < 52 → day < 7 * weeks + 7)
-      → Searching h s holidays slot week (0 ∷ 0 ∷ 0 ∷ 0 ∷ []) 0 slot day weeks
+  pub search-starts : (day first step weeks : ℕ) → week ≡ 7 * slotsPerDay h → step ≡ first * slotsPerDay h → day ≡ slot / slotsPerDay h → first ≡ firstBack h holidays day → InBook first (farthestBack holidays day) day weeks
+      → Searching h s holidays slot week (0 ∷ 0 ∷ 0 ∷ 0 ∷ []) 0 slot day first step weeks
   unfolding kept references
-  search-starts day weeks e d (p, q, o) =
-      let f = weeks-enough h w s holidays weeks 52 slot (rw d at p) q (rw d at o) in
-      record { room = lit< tt; near = le-refl slot; on = d; reach = p; step = e; four = refl; rest = rw f }
+  search-starts day first step weeks v l d e b =
+      let f = weeks-enough h w s holidays weeks (weeksWithin first (farthestBack holidays day)) first slot (rw d at (b .inside)) (b .within) (λ x. rw d at (b .all x)) in
+      record { room = lit< tt; near = le-refl slot; on = d; short = b .short; reach = b .inside; seven = v; long = l; four = refl; rest = rw (← d, ← e, f) }
 
-  module _ {found : List ℕ} {count at day weeks : ℕ} (i : Searching h s holidays slot week found count at day weeks) where
+  module _ {found : List ℕ} {count at day days step weeks : ℕ} (i : Searching h s holidays slot week found count at day days step weeks) where
     pub search-spent : weeks ≡ 0 → take count found ≡ references h s holidays slot
     search-spent z =
-        let e : kept found count (weeksBack h s holidays at 0) ≡ references h s holidays slot = rw z at (i .rest) in
-        sym (kept-nil found count) ∙ (rw (weeks-none h s holidays at) at e)
+        let e : kept found count (weeksBack h s holidays days at 0) ≡ references h s holidays slot = rw z at (i .rest) in
+        sym (kept-nil found count) ∙ (rw (weeks-none h s holidays days at) at e)
 
     module _ (more : weeks ≡ 0 → ⊥) where
-      pub week-inside : 7 ≤ day
-      week-inside = omega (arith, i .reach)
+      abbrev next : ℕ
+      next = at - step
 
-      within : slotsPerWeek h ≤ at
-      within = week-low h w at (rw (i .on) at week-inside)
+      pub day-inside : days ≤ day
+      day-inside = omega (arith, i .reach)
 
-      pub slot-inside : week ≤ at
-      slot-inside = rw (i .step) within
+      within : days * slotsPerDay h ≤ at
+      within = days-low h w days at (rw (i .on) at day-inside)
 
-      pub day-on : day - 7 ≡ (at - week) / slotsPerDay h
-      day-on = rw (i .step, i .on) (omega (arith, week-on h w at within))
+      pub slot-inside : step ≤ at
+      slot-inside = rw (i .long) within
 
-      pub search-passed : isReference h s holidays (at - week) ≡ false → Searching h s holidays slot week found count (at - week) (day - 7) (weeks - 1)
+      pub day-on : day - days ≡ next / slotsPerDay h
+      day-on = rw (i .long, i .on) (omega (arith, days-on h w days at within))
+
+      pub search-passed : isReference h s holidays next ≡ false → Searching h s holidays slot week found count next (day - days) 7 week (weeks - 1)
       search-passed e =
-          let e′ : isReference h s holidays (at - slotsPerWeek h) ≡ false = rw (i .step) at e in
-          record { room = i .room; near = omega arith; on = day-on; reach = omega (arith, i .reach); step = i .step; four = i .four; rest = rw (i .step, ← weeks-passed h s holidays at weeks more within e′) (i .rest) }
+          let e′ : isReference h s holidays (at - days * slotsPerDay h) ≡ false = rw (i .long) at e in
+          record { room = i .room; near = omega arith; on = day-on; short = le-refl 7; reach = omega (arith, i .reach); seven = i .seven; long = i .seven; four = i .four; rest = rw (i .long, ← weeks-passed h s holidays days at weeks more within e′) (i .rest) }
 
-      found-rest : isReference h s holidays (at - week) ≡ true → kept (set found count (getD (s .values) (at - week) 0)) (count + 1) (weeksBack h s holidays (at - week) (weeks - 1)) ≡ references h s holidays slot
+      found-rest : isReference h s holidays next ≡ true → kept (set found count (getD (s .values) next 0)) (count + 1) (weeksBack h s holidays 7 next (weeks - 1)) ≡ references h s holidays slot
       found-rest e =
-          let e′ : isReference h s holidays (at - slotsPerWeek h) ≡ true = rw (i .step) at e in
+          let e′ : isReference h s holidays (at - days * slotsPerDay h) ≡ true = rw (i .long) at e in
           let p : count < length found = omega arith in
-          rw (i .step) (sym (kept-more found _ count _ (i .room) p) ∙ (rw (weeks-found h s holidays at weeks more within e′) at (i .rest)))
+          rw (i .long) (sym (kept-more found _ count _ (i .room) p) ∙ (rw (weeks-found h s holidays days at weeks more within e′) at (i .rest)))
 
-      pub search-found : isReference h s holidays (at - week) ≡ true → (count + 1 ≡ 4 → ⊥) → Searching h s holidays slot week (set found count (getD (s .values) (at - week) 0)) (count + 1) (at - week) (day - 7) (weeks - 1)
-      search-found e n = record { room = omega arith; near = omega arith; on = day-on; reach = omega (arith, i .reach); step = i .step; four = simp length-set (i .four); rest = found-rest e }
+      pub search-found : isReference h s holidays next ≡ true → (count + 1 ≡ 4 → ⊥) → Searching h s holidays slot week (set found count (getD (s .values) next 0)) (count + 1) next (day - days) 7 week (weeks - 1)
+      search-found e x = record { room = omega arith; near = omega arith; on = day-on; short = le-refl 7; reach = omega (arith, i .reach); seven = i .seven; long = i .seven; four = simp length-set (i .four); rest = found-rest e }
 
-      pub search-ended : isReference h s holidays (at - week) ≡ true → count + 1 ≡ 4 → take (count + 1) (set found count (getD (s .values) (at - week) 0)) ≡ references h s holidays slot
-      search-ended e n = sym (kept-full (set found count (getD (s .values) (at - week) 0)) (weeksBack h s holidays (at - week) (weeks - 1)) (count + 1) n) ∙ found-rest e
+      pub search-ended : isReference h s holidays next ≡ true → count + 1 ≡ 4 → take (count + 1) (set found count (getD (s .values) next 0)) ≡ references h s holidays slot
+      search-ended e x = sym (kept-full (set found count (getD (s .values) next 0)) (weeksBack h s holidays 7 next (weeks - 1)) (count + 1) x) ∙ found-rest e
 
 -- no reference, or the mean
 pub from-none : (xs : List ℕ) → length xs ≡ 0 → fromReferences xs ≡ record { value = 0; quality = N; method = 0 }

@@ -3,7 +3,7 @@ use mathlib.Core.Bool.{Bool, true, false, cond, false≢true}
 use mathlib.Core.List.{List, [], _∷_}
 use mathlib.Core.Logic.{⊎-elim}
 use mathlib.Core.Path.{_≡_, refl}
-use Prim.Native.Nat.{ℕ, zero, suc, _-_, _*_, _≤_, zero-le}
+use Prim.Native.Nat.{ℕ, zero, suc, _+_, _-_, _*_, _/_, _≤_, _<_, zero-le}
 use native.Mathlib.Nat.{div-le-of-le-mul}
 use native.Mathlib.Omega.{arith}
 use borrow.Author.Tests.{ltb-false}
@@ -11,9 +11,10 @@ use lib.Dec.{ltb, eqb}
 use lib.ListN.{length, getD, take}
 use Rattle.rules.specs.declared.Head.{Head}
 use Rattle.rules.specs.declared.tests.Cause.the-variants.{Nothing, Gap, TimeChange, Partial, Demand}
-use Rattle.rules.specs.Opening.{Slots, Agreed, limitOf}
+use Rattle.rules.specs.Opening.{Slots, Agreed, limitOf, slotsPerDay}
 use Rattle.rules.specs.Tests.{isGood, timeChangeBit, partialBit, causeOf, causeAt, goodAt}
-use Rattle.rules.specs.Filling.{isReference, slotsPerWeek, weeksBack, references, total, meanOf, isLinear, linearValue, fromReferences, filledAt}
+use Rattle.rules.specs.Weeks.{firstBack, farthestBack, weeksWithin}
+use Rattle.rules.specs.Filling.{isReference, weeksBack, references, total, meanOf, isLinear, linearValue, fromReferences, filledAt}
 use Rattle.rules.specs.Spans.{isS, substitutedIn}
 use Rattle.rules.specs.Inner.Lent.{AgreedLow}
 use Rattle.rules.proofs.Logic.{and-parts, either}
@@ -69,15 +70,16 @@ module _ (h : Head) (b : Bounded h) (s : Slots) where
     unfolding isReference
     reference-small j e = good-small j (and-parts _ _ (and-parts _ _ e .0) .0)
 
-    weeks-small : (k j : ℕ) → small (weeksBack h s holidays j k)
+    weeks-small : (k days j : ℕ) → small (weeksBack h s holidays days j k)
     unfolding weeksBack
-    weeks-small zero j = tt
-    weeks-small (suc k) j =
-        let r = weeks-small k (j - slotsPerWeek h) in
+    weeks-small zero days j = tt
+    weeks-small (suc k) days j =
+        let i = j - days * slotsPerDay h in
+        let r = weeks-small k 7 i in
         ⊎-elim (λ e. rw e tt) (λ e. rw e (
-        ⊎-elim (λ f. rw f (reference-small (j - slotsPerWeek h) f, r)) (λ f. rw f r)
-        (either (isReference h s holidays (j - slotsPerWeek h)))))
-        (either (ltb j (slotsPerWeek h)))
+        ⊎-elim (λ f. rw f (reference-small i f, r)) (λ f. rw f r)
+        (either (isReference h s holidays i))))
+        (either (ltb j (days * slotsPerDay h)))
 
     mean-small : (xs : List ℕ) → small xs → fromReferences xs .value ≤ 35000
     unfolding fromReferences meanOf
@@ -85,7 +87,11 @@ module _ (h : Head) (b : Bounded h) (s : Slots) where
 
     references-small : (i : ℕ) → fromReferences (references h s holidays i) .value ≤ 35000
     unfolding references
-    references-small i = mean-small (take 4 (weeksBack h s holidays i 52)) (small-take 4 (weeksBack h s holidays i 52) (weeks-small 52 i))
+    references-small i =
+        let d = i / slotsPerDay h in
+        let first = firstBack h holidays d in
+        let k = weeksWithin first (farthestBack holidays d) in
+        mean-small (take 4 (weeksBack h s holidays first i k)) (small-take 4 (weeksBack h s holidays first i k) (weeks-small k first i))
 
   module _ (a : Agreed) (holidays : List ℕ) (i : ℕ) where
     pub substituted-small : substitutedIn (filledAt h s a holidays i) ≤ 35000

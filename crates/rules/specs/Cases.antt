@@ -1,7 +1,7 @@
 -- 01's starred cases and those of 02, as one table of tests. `proofs/Cases.antt` computes that every one passes.
 use mathlib.Core.Bool.{Bool, not, _&&_}
 use mathlib.Core.List.{List, [], _∷_, _++_}
-use Prim.Native.Nat.{ℕ}
+use Prim.Native.Nat.{ℕ, _*_, _-_}
 use lib.Dec.{eqb}
 use lib.ListN.{replicate}
 use Rattle.calendar.specs.Calendar.{dayNumber}
@@ -10,7 +10,7 @@ use Rattle.rules.specs.declared.Outcome.{Outcome}
 use Rattle.rules.specs.declared.Quality.{Quality}
 use Rattle.rules.specs.Opening.{Slots, Cells, headOk}
 use Rattle.rules.specs.Tests.{goodAt}
-use Rattle.rules.specs.Filling.{isLinear, linearValue, isReference, meanOf}
+use Rattle.rules.specs.Filling.{isLinear, linearValue, isReference, references, total, meanOf}
 use Rattle.rules.specs.Spans.{isA, isF, advance, actual, stateOf, outcomeAt}
 
 -- a head of interval 30, kind 1 and tolerance 0
@@ -90,6 +90,12 @@ abbrev pub lineGives : ℕ → ℕ → ℕ → ℕ → ℕ → ℕ → Bool
 lineGives interval l g r j value =
     lineFills interval l g r j && eqb (linearValue (headOf interval 1) (lineDay l g r) [] j) value
 
+-- a book from Sunday 2024-05-05 on of which slot 0 alone has come, with these holiday cells on its first day and on day d: slot 0 is the one reference at position 0 of day d (02, W3)
+abbrev pub takesSunday : ℕ → ℕ → ℕ → Bool
+takesSunday first last d =
+    eqb (total (references (headOn 2024 5 5 400) (record { values = 620 ∷ []; versions = 1 ∷ []; statuses = 0 ∷ [] })
+    (first ∷ (replicate (d - 1) 0 ++ (last ∷ []))) (48 * d))) 620
+
 unfoldable pub cases : List Bool
 cases =
     passes 1 30 20000 ∷ not (passes 1 30 20001)
@@ -115,4 +121,8 @@ cases =
     ∷ agreedHas 2 50 isA 0
     ∷ eqb (actual (headOn 2024 5 1 1) agreedDay 0 1) 690
     ∷ eqb (stateOf (headOn 2024 5 1 1) agreedDay 0 1) 0
+    ∷ takesSunday 0 1 1 ∷ takesSunday 0 1 2 ∷ takesSunday 0 1 3 ∷ takesSunday 0 1 4 ∷ takesSunday 0 1 5 ∷ takesSunday 0 1 6 ∷ takesSunday 0 1 7
+    ∷ not (takesSunday 0 0 6) ∷ takesSunday 0 0 7
+    ∷ takesSunday 0 1 370 ∷ not (takesSunday 0 1 371)
+    ∷ not (takesSunday 1 1 6)
     ∷ []

@@ -11,6 +11,7 @@ use Rattle.rules.specs.declared.Quality.the-variants.{A, S, F, N}
 use Rattle.rules.specs.Lists.{every}
 use Rattle.rules.specs.Opening.{Slots, Agreed, slotsPerDay, slotCount}
 use Rattle.rules.specs.Tests.{isGap, outageBit, goodAt}
+use Rattle.rules.specs.Weeks.{firstBack, farthestBack, weeksWithin}
 
 -- 1. Outage zero: slot i is delivered with the outage bit
 unfoldable pub outageAt : List ℕ → List ℕ → ℕ → Bool
@@ -91,22 +92,20 @@ unfoldable pub isReference : Head → Slots → List ℕ → ℕ → Bool
 isReference h s holidays j =
     goodAt h s j && not (outageBit (getD (s .statuses) j 0)) && eqb (getD holidays (j / slotsPerDay h) 0) 0
 
--- from a slot to the same position 7 days earlier
-unfoldable pub slotsPerWeek : Head → ℕ
-slotsPerWeek h = 7 * slotsPerDay h
+-- the values of the references `days` days before slot j and each week before that, k weeks in all, in the book, nearest first
+unfoldable pub weeksBack : Head → Slots → List ℕ → ℕ → ℕ → ℕ → List ℕ
+weeksBack h s holidays days j zero = []
+weeksBack h s holidays days j (suc k) =
+    let i = j - days * slotsPerDay h in
+    let rest = weeksBack h s holidays 7 i k in
+    cond (ltb j (days * slotsPerDay h)) [] (cond (isReference h s holidays i) (getD (s .values) i 0 ∷ rest) rest)
 
--- the values of the references 1 to k weeks before slot j in the book, nearest first
-unfoldable pub weeksBack : Head → Slots → List ℕ → ℕ → ℕ → List ℕ
-weeksBack h s holidays j zero = []
-weeksBack h s holidays j (suc k) =
-    cond (ltb j (slotsPerWeek h)) []
-    (cond (isReference h s holidays (j - slotsPerWeek h))
-    (getD (s .values) (j - slotsPerWeek h) 0 ∷ weeksBack h s holidays (j - slotsPerWeek h) k)
-    (weeksBack h s holidays (j - slotsPerWeek h) k))
-
--- the nearest four, up to 364 days earlier
+-- the nearest four, from the days that the slot's own day decides
 unfoldable pub references : Head → Slots → List ℕ → ℕ → List ℕ
-references h s holidays i = take 4 (weeksBack h s holidays i 52)
+references h s holidays i =
+    let d = i / slotsPerDay h in
+    let first = firstBack h holidays d in
+    take 4 (weeksBack h s holidays first i (weeksWithin first (farthestBack holidays d)))
 
 unfoldable pub total : List ℕ → ℕ
 total [] = 0

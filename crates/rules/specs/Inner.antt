@@ -1,5 +1,6 @@
 -- What the contracts of inner functions say. No definition of 01's rules stands here.
 pub mod Lent
+pub mod Ways
 pub mod Fills
 pub mod Summaries
 pub mod Stretches

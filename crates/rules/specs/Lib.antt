@@ -1,6 +1,7 @@
 pub mod Lists
 pub mod Opening
 pub mod Tests
+pub mod Weeks
 pub mod Filling
 pub mod Spans
 pub mod Inner

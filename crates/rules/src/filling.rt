@@ -6,6 +6,7 @@ use crate::linear;
 use crate::linear::Line;
 use crate::opening;
 use crate::tests;
+use crate::weeks;
 ghost use mathlib.Core.Bool.{false};
 ghost use mathlib.Core.Path.{_≡_};
 ghost use Prim.Native.Nat.{_+_, _*_, _/_, _<_, _≤_};
@@ -50,16 +51,6 @@ fn is_reference(
     holidays[day] == 0
 }
 
-// The weeks that a search from day `day` goes back: up to 364 days.
-fn weeks_back(day: usize) -> usize
-    ensures { λ r. ⌜ (7 * r ≤ day) × (r ≤ 52) × (r < 52 → day < 7 * r + 7) ⌝ }
-{
-    if 364 <= day {
-        return 52;
-    }
-    day / 7
-}
-
 // The references of slot `slot`: the search stops at the fourth.
 pub fn find_references(
     head: Head,
@@ -78,14 +69,19 @@ pub fn find_references(
     let mut count: usize = 0;
     let mut at = slot;
     let mut day = slot / n;
-    let mut weeks = weeks_back(day);
+    let way = weeks::way_back(head, holidays, day);
+    let mut days = way.first;
+    let mut step = days * n;
+    let mut left = way.weeks;
     'weeks: loop {
-        if weeks == 0 {
+        if left == 0 {
             break 'weeks;
         }
-        at -= week;
-        day -= 7;
-        weeks -= 1;
+        at -= step;
+        day -= days;
+        step = week;
+        days = 7;
+        left -= 1;
         if is_reference(head, values, versions, statuses, holidays, day, at) {
             found[count] = values[at];
             count += 1;

@@ -8,6 +8,7 @@ pub mod readings;
 pub mod spans;
 pub mod stretch;
 pub mod tests;
+pub mod weeks;
 
 // The five figures of a book's opening, which every later call is given; the first day is three of these fields.
 pub struct Head {

@@ -1,19 +1,19 @@
 -- `filling::find_references`. The loop's invariant is `Searching`; its measure is the weeks left.
-use borrow.Author.Needs.{needs}
 use mathlib.Core.Path.{sym, _∙_}
+use native.Mathlib.Nat.{mul-le-mul}
 use native.Mathlib.Omega.{arith}
-use Rattle.rules.specs.Filling.{slotsPerWeek}
+use borrow.Author.Needs.{needs}
 use Rattle.rules.specs.Inner.Lent.{slots}
-use Rattle.rules.proofs.Bounds.{bounded, count-high}
-use Rattle.rules.proofs.References.{Searching, search-starts, search-spent, week-inside, slot-inside, day-on, search-passed, search-found, search-ended}
+use Rattle.rules.proofs.Bounds.{bounded, count-high, day-below}
+use Rattle.rules.proofs.References.{Searching, search-starts, search-spent, day-inside, slot-inside, day-on, search-passed, search-found, search-ended}
 use Rattle.rules.proofs.filling.find_references.Statement.{statement}
 use Rattle.rules.proofs.filling.find_references.Tie as tie
 
 abbrev Inv-weeks : tie.InvT-weeks
-Inv-weeks head values versions statuses holidays slot n week found₀ count₀ at₀ day₀ weeks₀ found count at day weeks = Searching head (slots values versions statuses) holidays slot week found count at day weeks
+Inv-weeks head values versions statuses holidays slot n week found₀ count₀ at₀ day₀ days₀ step₀ left₀ found count at day days step left = Searching head (slots values versions statuses) holidays slot week found count at day days step left
 
 abbrev μ-weeks : tie.MeasureT-weeks
-μ-weeks head values versions statuses holidays slot n week found₀ count₀ at₀ day₀ weeks₀ found count at day weeks = weeks
+μ-weeks head values versions statuses holidays slot n week found₀ count₀ at₀ day₀ days₀ step₀ left₀ found count at day days step left = left
 
 slots-per-day-requires : tie.Need-slots-per-day-requires Inv-weeks μ-weeks
 slots-per-day-requires c κs = search needs
@@ -24,21 +24,23 @@ mul-week c = rw (c .slots-per-day .ensures) (omega (arith, bounded (c .before .b
 div-day : tie.Need-div-day Inv-weeks μ-weeks
 div-day c = rw (c .slots-per-day .ensures) (omega (arith, bounded (c .before .before .before .before .before .args .head) (c .before .before .before .before .before .pre .0 .fitted .head)))
 
-weeks-back-requires : tie.Need-weeks-back-requires Inv-weeks μ-weeks
-weeks-back-requires c κs = search needs
+way-back-requires : tie.Need-way-back-requires Inv-weeks μ-weeks
+way-back-requires c κs = (c .before .before .before .before .before .pre .0 .fitted .head, c .before .before .before .before .before .pre .0 .holidays, rw (c .slots-per-day .ensures) (day-below _ (bounded (c .before .before .before .before .before .args .head) (c .before .before .before .before .before .pre .0 .fitted .head)) _ (c .before .before .before .before .before .pre .1)))
+
+mul-step : tie.Need-mul-step Inv-weeks μ-weeks
+mul-step c = rw (c .before .slots-per-day .ensures) (omega (arith, mul-le-mul (c .way-back .ensures .1 .short) (bounded (c .before .before .before .before .before .before .args .head) (c .before .before .before .before .before .before .pre .0 .fitted .head) .day-high)))
 
 weeks-holds : tie.Need-weeks-holds Inv-weeks μ-weeks
-unfolding slotsPerWeek
-weeks-holds c = search-starts _ (bounded (c .before .before .before .before .before .before .args .head) (c .before .before .before .before .before .before .pre .0 .fitted .head)) _ _ _ _ _ _ (rw (c .before .slots-per-day .ensures)) (rw (c .before .slots-per-day .ensures)) (c .weeks-back .ensures)
+weeks-holds c = search-starts _ (bounded (c .before .before .before .before .before .before .args .head) (c .before .before .before .before .before .before .pre .0 .fitted .head)) _ _ _ _ _ _ _ _ (rw (c .before .slots-per-day .ensures)) (rw (c .before .slots-per-day .ensures)) (rw (c .before .slots-per-day .ensures)) (c .way-back .ensures .0) (c .way-back .ensures .1)
 
 sub-at : tie.Need-sub-at Inv-weeks μ-weeks
 sub-at c = slot-inside _ (bounded (c .before .before .before .before .before .before .before .before .args .head) (c .before .before .before .before .before .before .before .before .pre .0 .fitted .head)) _ _ _ _ (c .before .weeks .inv) (c .weeks-test .left)
 
 sub-day : tie.Need-sub-day Inv-weeks μ-weeks
-sub-day c = week-inside _ (bounded (c .before .before .before .before .before .before .before .before .args .head) (c .before .before .before .before .before .before .before .before .pre .0 .fitted .head)) _ _ _ _ (c .before .weeks .inv) (c .weeks-test .left)
+sub-day c = day-inside _ (bounded (c .before .before .before .before .before .before .before .before .args .head) (c .before .before .before .before .before .before .before .before .pre .0 .fitted .head)) _ _ _ _ (c .before .weeks .inv) (c .weeks-test .left)
 
-sub-weeks : tie.Need-sub-weeks Inv-weeks μ-weeks
-sub-weeks c = omega arith
+sub-left : tie.Need-sub-left Inv-weeks μ-weeks
+sub-left c = omega arith
 
 is-reference-requires : tie.Need-is-reference-requires Inv-weeks μ-weeks
 is-reference-requires c κs = (c .before .before .before .before .before .before .before .before .pre .0, omega arith, day-on _ (bounded (c .before .before .before .before .before .before .before .before .args .head) (c .before .before .before .before .before .before .before .before .pre .0 .fitted .head)) _ _ _ _ (c .before .weeks .inv) (c .weeks-test .left))
@@ -74,10 +76,7 @@ returns : tie.Need-returns Inv-weeks μ-weeks
 returns c = (omega arith, search-spent _ (bounded (c .before .before .before .before .before .before .before .before .args .head) (c .before .before .before .before .before .before .before .before .pre .0 .fitted .head)) _ _ _ _ (c .before .weeks .inv) (c .weeks-test .taken))
 
 returns-2 : tie.Need-returns-2 Inv-weeks μ-weeks
-returns-2 c = (
-  omega arith,
-  search-ended _ (bounded (c .before .before .before .before .before .before .before .before .before .before .before .before .args .head) (c .before .before .before .before .before .before .before .before .before .before .before .before .pre .0 .fitted .head)) _ _ _ _ (c .before .before .before .before .before .weeks .inv) (c .before .before .before .before .weeks-test .left) (sym (c .before .before .before .is-reference .ensures) ∙ c .before .before .if1 .taken) (c .if2 .taken),
-)
+returns-2 c = (omega arith, search-ended _ (bounded (c .before .before .before .before .before .before .before .before .before .before .before .before .args .head) (c .before .before .before .before .before .before .before .before .before .before .before .before .pre .0 .fitted .head)) _ _ _ _ (c .before .before .before .before .before .weeks .inv) (c .before .before .before .before .weeks-test .left) (sym (c .before .before .before .is-reference .ensures) ∙ c .before .before .if1 .taken) (c .if2 .taken))
 
 pub find-references-spec : {M : Type 1} → statement M
 find-references-spec =
@@ -88,11 +87,12 @@ find-references-spec =
     slots-per-day-requires
     mul-week
     div-day
-    weeks-back-requires
+    way-back-requires
+    mul-step
     weeks-holds
     sub-at
     sub-day
-    sub-weeks
+    sub-left
     is-reference-requires
     mul-found
     shared-slice-read-found
