@@ -1,4 +1,4 @@
-//! The rules of 01, W1 and W2 once more, each slot and span for itself, as the sentences have them.
+//! The rules of 01, W1, W2 and W3 once more, each slot and span for itself, as the sentences have them.
 //!
 //! Slow (scaling sums a whole span anew for each of its slots): it is what `rules`
 //! is held against, in all but the largest books.
@@ -82,20 +82,28 @@ impl<'a> Definition<'a> {
         Some(weighed / (from_before + to_after))
     }
 
+    /// Whether a day may give references to a later one, `back` days on.
+    fn refers(&self, day: usize, back: usize) -> bool {
+        if self.cells.holidays[day] == 0 {
+            return back.is_multiple_of(7) && back <= 364;
+        }
+        // Day 1, 2000-01-02, was a Sunday.
+        let sunday = (self.shape.first_day as usize + day - back) % 7 == 1;
+        sunday && back <= 370
+    }
+
     fn same_day(&self, slot: usize) -> Option<u64> {
         let position = slot % self.shape.slots_a_day;
         let day = slot / self.shape.slots_a_day;
         let mut sum = 0;
         let mut found = 0;
-        let mut back = 7;
-        while back <= 364 && back <= day && found < 4 {
+        for back in (1..=day).filter(|&back| self.refers(day, back)) {
             let earlier = (day - back) * self.shape.slots_a_day + position;
             let holiday = self.cells.holidays[day - back] == 1;
-            if self.good(earlier) && !self.bit(earlier, 1) && !holiday {
+            if self.good(earlier) && !self.bit(earlier, 1) && !holiday && found < 4 {
                 sum += u64::from(self.cells.values[earlier]);
                 found += 1;
             }
-            back += 7;
         }
         (found > 0).then(|| sum / found)
     }

@@ -1,5 +1,5 @@
-//! 01, Tests of a slot, Filling and Spans, with W1's agreed values and W2's line: from
-//! the cells to the outcomes.
+//! 01, Tests of a slot, Filling and Spans, with W1's agreed values, W2's line and W3's
+//! Sundays: from the cells to the outcomes.
 
 use std::ops::Range;
 
@@ -17,6 +17,10 @@ pub const AGREED: u8 = 5;
 
 /// A line fills this many minutes at most.
 pub const LINE_MINUTES: usize = 120;
+
+/// How many days back references lie at most, of an ordinary day and of a holiday.
+pub const FARTHEST: usize = 364;
+pub const FARTHEST_SUNDAY: usize = 370;
 
 /// The cells of a book, of the lengths its head asks for.
 #[derive(Clone, Copy, Debug)]
@@ -236,18 +240,40 @@ pub fn on_line(l: u32, r: u32, j: usize, g: usize) -> u32 {
     (i64::from(l) + rise.div_euclid(g as i64 + 1)) as u32
 }
 
-/// Rule 3: up to four values of the same position, whole weeks earlier, nearest day first.
+/// Rule 3: up to four values of the same position on earlier days, nearest day first.
 pub fn references(shape: &Shape, cells: &Cells, causes: &[Option<Cause>], slot: usize) -> Vec<u32> {
-    (1..=52)
-        .map_while(|week| slot.checked_sub(week * 7 * shape.slots_a_day))
+    reference_slots(shape, cells, causes, slot)
+        .map(|earlier| cells.values[earlier])
+        .take(4)
+        .collect()
+}
+
+/// Every slot that counts as a reference, nearest day first.
+pub fn reference_slots(
+    shape: &Shape,
+    cells: &Cells,
+    causes: &[Option<Cause>],
+    slot: usize,
+) -> impl Iterator<Item = usize> {
+    let day = slot / shape.slots_a_day;
+    let (nearest, farthest) = if cells.holidays[day] == 0 {
+        (7, FARTHEST)
+    } else {
+        (sunday_back(shape.first_day as usize + day), FARTHEST_SUNDAY)
+    };
+    (nearest..=farthest)
+        .step_by(7)
+        .map_while(move |back| slot.checked_sub(back * shape.slots_a_day))
         .filter(|&earlier| {
             causes[earlier].is_none()
                 && cells.statuses[earlier] & OUTAGE == 0
                 && cells.holidays[earlier / shape.slots_a_day] == 0
         })
-        .map(|earlier| cells.values[earlier])
-        .take(4)
-        .collect()
+}
+
+/// How many days the nearest Sunday lies before a day, 1 to 7; day 0 was a Saturday.
+pub fn sunday_back(day_number: usize) -> usize {
+    (day_number + 5) % 7 + 1
 }
 
 /// The mean rounded down; none of no values.

@@ -177,12 +177,6 @@ fn references_skip_holidays_outages_and_failed_weeks() {
     assert_eq!(test.slot(target), (375, 'S', 3));
     test.holiday(21);
     assert_eq!(test.slot(target), (1400 / 3, 'S', 3));
-    test.holiday(28);
-    assert_eq!(
-        test.slot(target),
-        (1400 / 3, 'S', 3),
-        "its own day may be a holiday"
-    );
     test.redeliver(at(14, 30), 200, 2);
     assert_eq!(test.slot(target), (600, 'S', 3));
     test.redeliver(at(7, 30), 20_001, 0);
