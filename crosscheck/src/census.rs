@@ -1,9 +1,9 @@
 //! Which classes the slots and spans of a published book fall in.
 
-use crate::counts::{Counts, NUMBERS};
+use crate::counts::{Counts, HOLIDAYS, LATE_HOLIDAYS, NUMBERS};
 use crate::file;
 use crate::head::Shape;
-use crate::rules::{self, Cause, Cells, Quality, Slot, Span, State};
+use crate::rules::{self, Cause, Cells, FARTHEST_SUNDAY, Quality, Slot, Span, State};
 use crate::run_census::Runs;
 
 /// A book's cells with what the rules made of them.
@@ -185,8 +185,9 @@ impl Census<'_> {
 
     /// A slot that outage zero and linear passed by.
     fn references(&mut self, slot: usize) {
-        let found = rules::references(self.shape, self.cells, &self.causes, slot).len();
-        self.counts.add("references", NUMBERS[found]);
+        let referring = rules::reference_slots(self.shape, self.cells, &self.causes, slot);
+        let found: Vec<usize> = referring.take(4).collect();
+        self.counts.add("references", NUMBERS[found.len()]);
         if slot > 0 && slot + 1 < self.shape.slots {
             let filled_neighbour = [slot - 1, slot + 1].into_iter().any(|other| {
                 self.causes[other].is_some() && self.filled[other].quality != Quality::None
@@ -200,23 +201,82 @@ impl Census<'_> {
             self.counts
                 .add_if(no_line, "agreed", "no line from an agreed neighbour");
         }
+        if self.holiday(slot) {
+            self.sundays(slot, &found);
+        } else {
+            self.weeks(slot, found.len());
+        }
+    }
+
+    /// An ordinary day's slot, with so many references.
+    fn weeks(&mut self, slot: usize, found: usize) {
         let earlier = |week: usize| slot.checked_sub(week * 7 * self.shape.slots_a_day);
         if let Some(oldest) = earlier(52) {
-            let reference =
-                self.causes[oldest].is_none() && !self.outage(oldest) && !self.holiday(oldest);
-            self.counts
-                .add_if(reference && found == 1, "references", "only 52 weeks back");
+            let only = found == 1 && self.refers(oldest);
+            self.counts.add_if(only, "references", "only 52 weeks back");
         }
         if let Some(oldest) = earlier(53) {
-            let reference = self.causes[oldest].is_none();
-            self.counts
-                .add_if(reference && found == 0, "references", "only 53 weeks back");
+            let none = found == 0 && self.refers(oldest);
+            self.counts.add_if(none, "references", "only 53 weeks back");
         }
         if let Some(week) = earlier(1) {
             self.skipped(week);
             let agreed = self.is_agreed(week);
             self.counts
                 .add_if(agreed, "agreed", "no reference from an agreed week");
+        }
+    }
+
+    /// Good, without an outage, on no holiday.
+    fn refers(&self, slot: usize) -> bool {
+        self.causes[slot].is_none() && !self.outage(slot) && !self.holiday(slot)
+    }
+
+    /// A holiday's slot, with the references found.
+    fn sundays(&mut self, slot: usize, found: &[usize]) {
+        let (n, day) = (self.shape.slots_a_day, slot / self.shape.slots_a_day);
+        let k = rules::sunday_back(self.shape.first_day as usize + day);
+        self.counts.add(HOLIDAYS[k - 1], NUMBERS[found.len()]);
+        if day >= FARTHEST_SUNDAY {
+            self.counts.add(LATE_HOLIDAYS[k - 1], NUMBERS[found.len()]);
+        }
+        let earlier = |days: usize| slot.checked_sub(days * n);
+        let refers = |days: usize| earlier(days).is_some_and(|other| self.refers(other));
+        let used = |days: usize| earlier(days).is_some_and(|other| found.contains(&other));
+        let none = found.is_empty();
+        // How far back the search went.
+        let searched = match found {
+            [_, _, _, last] => (slot - last) / n,
+            _ => FARTHEST_SUNDAY.min(day),
+        };
+        let passed = |holiday: bool| {
+            let mut sundays = (k..=searched).step_by(7).filter_map(earlier);
+            sundays.any(|other| match self.causes[other] {
+                None => self.holiday(other) == holiday && !self.refers(other),
+                Some(_) => false,
+            })
+        };
+        let occurred = [
+            (used(370), "370 days back"),
+            (used(370) && found.len() == 1, "only 370 days back"),
+            ((365..370).any(used), "365 to 369 days back"),
+            (k == 7 && used(364), "364 days back, of a Sunday"),
+            (k == 7 && none && refers(371), "none 371 days back"),
+            (
+                none && refers(k + 53 * 7),
+                "none from the 54th or a Sunday's 53rd",
+            ),
+            (passed(true), "a holiday passed over"),
+            (passed(false), "an outage passed over"),
+            (k > day, "no Sunday in the book"),
+            (k < 7 && none && refers(7), "none from its own weekday"),
+            (
+                k < 7 && !none && !refers(7),
+                "where the week before has none",
+            ),
+        ];
+        for (occurred, name) in occurred {
+            self.counts.add_if(occurred, "Sundays", name);
         }
     }
 

@@ -141,6 +141,36 @@ const CLASSES: &[(&str, &[&str])] = &[
             "only 53 weeks back",
         ],
     ),
+    (HOLIDAYS[0], FOUND),
+    (HOLIDAYS[1], FOUND),
+    (HOLIDAYS[2], FOUND),
+    (HOLIDAYS[3], FOUND),
+    (HOLIDAYS[4], FOUND),
+    (HOLIDAYS[5], FOUND),
+    (HOLIDAYS[6], FOUND),
+    (LATE_HOLIDAYS[0], FOUND),
+    (LATE_HOLIDAYS[1], FOUND),
+    (LATE_HOLIDAYS[2], FOUND),
+    (LATE_HOLIDAYS[3], FOUND),
+    (LATE_HOLIDAYS[4], FOUND),
+    (LATE_HOLIDAYS[5], FOUND),
+    (LATE_HOLIDAYS[6], FOUND),
+    (
+        "Sundays",
+        &[
+            "370 days back",
+            "only 370 days back",
+            "365 to 369 days back",
+            "364 days back, of a Sunday",
+            "none 371 days back",
+            "none from the 54th or a Sunday's 53rd",
+            "a holiday passed over",
+            "an outage passed over",
+            "no Sunday in the book",
+            "none from its own weekday",
+            "where the week before has none",
+        ],
+    ),
     (
         "earlier week skipped",
         &["holiday", "outage", "gap", "failed"],
@@ -245,6 +275,31 @@ const CLASSES: &[(&str, &[&str])] = &[
 pub const NUMBERS: &[&str] = &[
     "0", "1", "2", "3", "4", "5", "6", "7", "8", "9", "10", "11", "12", "13", "14", "15", "16",
     "17", "18", "19", "20", "21", "22", "23", "24", "25",
+];
+
+/// References found.
+const FOUND: &[&str] = NUMBERS.split_at(5).0;
+
+/// Groups of holidays' slots by weekday, from the one that has a Sunday just before it.
+pub const HOLIDAYS: [&str; 7] = [
+    "references of a holiday, Monday",
+    "references of a holiday, Tuesday",
+    "references of a holiday, Wednesday",
+    "references of a holiday, Thursday",
+    "references of a holiday, Friday",
+    "references of a holiday, Saturday",
+    "references of a holiday, Sunday",
+];
+
+/// The same, in books with 370 days before the holiday.
+pub const LATE_HOLIDAYS: [&str; 7] = [
+    "references of a late holiday, Monday",
+    "references of a late holiday, Tuesday",
+    "references of a late holiday, Wednesday",
+    "references of a late holiday, Thursday",
+    "references of a late holiday, Friday",
+    "references of a late holiday, Saturday",
+    "references of a late holiday, Sunday",
 ];
 
 /// g from 1 to one more than the longest line of L 5.

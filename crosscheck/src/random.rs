@@ -4,7 +4,10 @@ use crate::calls::{Act, Book, Call, List, Lists, Room};
 use crate::head::{DIAL, Head, Shape};
 use crate::heads;
 use crate::rng::Rng;
-use crate::rules::{self, Cause, LINE_MINUTES, OUTAGE, PARTIAL, Quality, Slot, TIME_CHANGE};
+use crate::rules::{
+    self, Cause, FARTHEST, FARTHEST_SUNDAY, LINE_MINUTES, OUTAGE, PARTIAL, Quality, Slot,
+    TIME_CHANGE,
+};
 use crate::side::{Answer, Second, apply};
 
 /// A book gets at most about this many deliveries, so that most run in a moment.
@@ -239,15 +242,31 @@ impl Maker {
 
     fn keep_some_days(&mut self, delivered: &mut [bool]) {
         let n = self.shape.slots_a_day;
-        let early = 1 + self.rng.below(self.shape.days.min(9));
-        let ways = if self.shape.days > 364 { 2 } else { 6 };
-        match self.rng.below(ways) {
+        let mut early = 1 + self.rng.below(self.shape.days.min(9));
+        let long = self.shape.days > FARTHEST;
+        if long && self.rng.one_in(2) {
+            early = 30;
+        }
+        // 0 to 2 are below; 3 keeps all.
+        let ways: &[u32] = if long {
+            &[0, 1, 3]
+        } else {
+            &[0, 2, 3, 3, 3, 3]
+        };
+        match self.rng.pick(ways) {
             0 => {
                 // The first days only, so that references lie far back.
                 let late = self.rng.below(3);
                 for (day, slots) in delivered.chunks_mut(n).enumerate() {
                     let last_day = day + 1 == self.shape.days;
                     slots.fill(day < early || last_day && late == 0);
+                }
+            }
+            1 => {
+                // Few slots, so that few weeks of a year have one.
+                let few = self.rng.pick(&[8, 16, 40]);
+                for delivered in delivered {
+                    *delivered = self.rng.one_in(few);
                 }
             }
             2 => {
@@ -509,9 +528,16 @@ impl Maker {
     fn holidays(&mut self, opened: usize) {
         let days = self.shape.days;
         let many = self.rng.pick(&[0, 1, 3, days / 3, days]);
-        for _ in 0..many {
-            let day = self.rng.below(days) as u32;
-            let call = self.call(Act::Holiday { day });
+        let mut feasts: Vec<usize> = (0..many).map(|_| self.rng.below(days)).collect();
+        // Days with a whole year of Sundays before them.
+        let late = self.rng.pick(&[0, 1, 1, 2]);
+        for day in FARTHEST_SUNDAY..days {
+            if self.rng.one_in(late) {
+                feasts.push(day);
+            }
+        }
+        for day in feasts {
+            let call = self.call(Act::Holiday { day: day as u32 });
             self.insert_anywhere(opened, call);
         }
     }

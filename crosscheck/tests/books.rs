@@ -57,9 +57,16 @@ enum Meddling {
     LineFromAgreed,
     LineFromZeroed,
     LineEndsAtMidnight,
+    HolidayKeepsItsWeekday,
+    AllDaysLookLikeSundays,
+    SundaysADayOff,
+    HolidaySundaysCount,
+    SundaysOf364Days,
+    SundaysOf371Days,
+    SundaysOf372Days,
 }
 
-const ALL: [Meddling; 26] = [
+const ALL: [Meddling; 30] = [
     Meddling::FillsNothing,
     Meddling::FirstDeliveryOnly,
     Meddling::ConstantFile,
@@ -86,6 +93,17 @@ const ALL: [Meddling; 26] = [
     Meddling::LineFromAgreed,
     Meddling::LineFromZeroed,
     Meddling::LineEndsAtMidnight,
+    Meddling::HolidayKeepsItsWeekday,
+    Meddling::AllDaysLookLikeSundays,
+    Meddling::SundaysADayOff,
+    Meddling::HolidaySundaysCount,
+];
+
+/// Found in books of 400 days only.
+const FAR: [Meddling; 3] = [
+    Meddling::SundaysOf364Days,
+    Meddling::SundaysOf371Days,
+    Meddling::SundaysOf372Days,
 ];
 
 impl Side for Meddled {
@@ -155,7 +173,11 @@ impl Side for Meddled {
             Meddling::AgreedIsNeighbourAndReference => name_agreed(head, lists, file),
             Meddling::MadeUpCounts => file[length as usize - 24] ^= 1,
             Meddling::WritesBehindTheFile => behind.fill(0),
-            _ => meddle_lines(self.0, head, &mut file[..6 * lists.values.len()]),
+            _ => {
+                let table = &mut file[..6 * lists.values.len()];
+                meddle_lines(self.0, head, table);
+                meddle_references(self.0, head, lists, table);
+            }
         }
         answer
     }
@@ -283,11 +305,67 @@ fn meddle_lines(meddling: Meddling, head: Head, table: &mut [u8]) {
     }
 }
 
+/// Changes the records that a build with this slip would fill from other references.
+fn meddle_references(meddling: Meddling, head: Head, lists: &Lists, table: &mut [u8]) {
+    let Ok(shape) = head.shape() else {
+        return;
+    };
+    let cells = lists.cells();
+    let causes = rules::causes(&shape, &cells);
+    let n = shape.slots_a_day;
+    for slot in 0..shape.slots {
+        let record = &mut table[6 * slot..6 * slot + 6];
+        if !matches!((record[4], record[5]), (b'S', 3 | 19) | (b'N', 0)) {
+            continue;
+        }
+        let day = slot / n;
+        let holiday = cells.holidays[day] != 0;
+        let k = rules::sunday_back(shape.first_day as usize + day);
+        let (nearest, farthest) = match meddling {
+            Meddling::HolidayKeepsItsWeekday if holiday => (7, 364),
+            Meddling::AllDaysLookLikeSundays if !holiday => (k, 370),
+            Meddling::SundaysADayOff if holiday => (k % 7 + 1, 370),
+            Meddling::HolidaySundaysCount if holiday => (k, 370),
+            Meddling::SundaysOf364Days if holiday => (k, 364),
+            Meddling::SundaysOf371Days if holiday => (k, 371),
+            Meddling::SundaysOf372Days if holiday => (k, 372),
+            _ => continue,
+        };
+        let refers = |&earlier: &usize| {
+            let counts = meddling == Meddling::HolidaySundaysCount;
+            causes[earlier].is_none()
+                && cells.statuses[earlier] & rules::OUTAGE == 0
+                && (counts || cells.holidays[earlier / n] == 0)
+        };
+        let meddled = (nearest..=farthest)
+            .step_by(7)
+            .map_while(|back| slot.checked_sub(back * n))
+            .filter(refers);
+        let usual = rules::reference_slots(&shape, &cells, &causes, slot);
+        if !meddled.take(4).eq(usual.take(4)) {
+            record[0] ^= 1;
+        }
+    }
+}
+
+/// The books of 400 days and L 30 among the large ones of a seed.
+#[test]
+fn far_meddled_builds_are_found() {
+    for meddling in FAR {
+        let mut counts = Counts::default();
+        let found = [207, 607, 807, 1207, 1607, 1807]
+            .map(|index| random::book(1, index))
+            .iter()
+            .any(|book| run(book, Some(&Meddled(meddling)), &mut counts).is_err());
+        assert!(found, "{meddling:?}");
+    }
+}
+
 #[test]
 fn meddled_builds_are_found() {
     for meddling in ALL {
         let mut counts = Counts::default();
-        let found = (0..100).map(|index| random::book(8, index)).any(|book| {
+        let found = (0..300).map(|index| random::book(8, index)).any(|book| {
             book.slots < 3000 && run(&book, Some(&Meddled(meddling)), &mut counts).is_err()
         });
         assert!(found, "{meddling:?}");
