@@ -348,15 +348,17 @@ fn meddle_references(meddling: Meddling, head: Head, lists: &Lists, table: &mut 
     }
 }
 
-/// The books of 400 days and L 30 among the large ones of a seed.
 #[test]
 fn far_meddled_builds_are_found() {
+    // The large books of 400 days and L 30.
+    let large = |index: &u64| matches!(index / 100 % 10, 2 | 6 | 8);
     for meddling in FAR {
         let mut counts = Counts::default();
-        let found = [207, 607, 807, 1207, 1607, 1807]
+        let found = (7..6000)
+            .step_by(100)
+            .filter(large)
             .map(|index| random::book(1, index))
-            .iter()
-            .any(|book| run(book, Some(&Meddled(meddling)), &mut counts).is_err());
+            .any(|book| run(&book, Some(&Meddled(meddling)), &mut counts).is_err());
         assert!(found, "{meddling:?}");
     }
 }
