@@ -1,6 +1,7 @@
 pub mod Logic
 pub mod Table
 pub mod Closed
+pub mod Starts
 pub mod Bounds
 pub mod Places
 pub mod Dates

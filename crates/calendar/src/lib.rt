@@ -4,6 +4,12 @@ ghost use mathlib.Core.Path.{_≡_};
 ghost use Prim.Native.Nat.{_-_, _≤_, _<_};
 ghost use Rattle.calendar.specs.Calendar.{leap, monthLength, yearLength, daysBeforeMonth, daysBeforeYear, dayNumber, isDate, place, dateOf, weekday, toSunday};
 
+// The days before each month, January to December: an ordinary year's, then a leap year's (02, W4).
+const MONTH_STARTS: [[u32; 12]; 2] = [
+    [0, 31, 59, 90, 120, 151, 181, 212, 243, 273, 304, 334],
+    [0, 31, 60, 91, 121, 152, 182, 213, 244, 274, 305, 335],
+];
+
 pub struct Date {
     pub year: u32,
     pub month: u32,
@@ -90,16 +96,9 @@ pub fn days_before_month(year: u32, month: u32) -> u32
     requires { ⌜ (1 ≤ month) × (month ≤ 12) ⌝ }
     ensures { λ r. ⌜ r ≡ daysBeforeMonth year (month - 1) ⌝ }
 {
-    let months = month - 1;
-    if months < 2 {
-        return 31 * months;
-    }
-    // From March on the lengths repeat every five months of 153 days; the 9 puts March after 59 days.
-    let days = (153 * months - 9) / 5;
-    if is_leap(year) {
-        return days + 1;
-    }
-    days
+    let row = is_leap(year) as usize;
+    let column = (month - 1) as usize;
+    MONTH_STARTS[row][column]
 }
 
 pub fn day_number(year: u32, month: u32, day: u32) -> u32
@@ -126,21 +125,27 @@ fn year_at(number: u32) -> Place
     Place { at: at, left: left }
 }
 
-// The month of a day of the year.
+// The month of a day of the year: the last that starts on it or before.
 fn month_at(year: Place) -> Place
     ensures { λ r. ⌜ r ≡ place (monthLength (year .at)) 11 1 (year .left) ⌝ }
 {
     let mut at: u32 = 1;
-    let mut left = year.left;
+    let mut start: u32 = 0;
     while at < 12 {
-        let length = month_length(year.at, at);
-        if left < length {
-            return Place { at: at, left: left };
+        let next = days_before_month(year.at, at + 1);
+        if year.left < next {
+            return Place {
+                at: at,
+                left: year.left - start,
+            };
         }
-        left -= length;
+        start = next;
         at += 1;
     }
-    Place { at: at, left: left }
+    Place {
+        at: at,
+        left: year.left - start,
+    }
 }
 
 pub fn date_of(number: u32) -> Date

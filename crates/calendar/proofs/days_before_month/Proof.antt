@@ -1,57 +1,58 @@
--- `days_before_month` computes the closed form.
-use mathlib.Core.Path.{sym, _∙_}
+-- `days_before_month` reads an entry of the table.
+use mathlib.Core.Bool.{Bool, true, false}
 use Prim.Native.Nat.{_<_, _-_}
-use native.Mathlib.Nat.{add-zero}
 use native.Mathlib.Omega.{arith}
-use borrow.Author.Tests.{lt-ltb, le-ltb}
 use borrow.Author.Needs.{needs}
-use Rattle.calendar.proofs.Closed.{months-before}
+use lib.Dec.{lit<}
+use mir.Val.{boolByte}
+use Rattle.calendar.proofs.Starts.{each-entry}
 use Rattle.calendar.proofs.days_before_month.Statement.{statement}
 use Rattle.calendar.proofs.days_before_month.Tie as tie
 
-sub-months : tie.Need-sub-months
-sub-months c = search needs
-
-mul-result : tie.Need-mul-result
-mul-result c = search needs
-
-returns : tie.Need-returns
-returns c =
-    let h : c .before .args .month - 1 < 12 = omega arith in
-    simp (months-before, lt-ltb _ _ (c .if1 .taken))
-
-mul-days : tie.Need-mul-days
-mul-days c = search needs
-
-sub-days : tie.Need-sub-days
-sub-days c = search needs
+row-high : (b : Bool) → boolByte b < 2
+row-high true = lit< tt
+row-high false = lit< tt
 
 is-leap-requires : tie.Need-is-leap-requires
 is-leap-requires c κs = search needs
 
-add-result : tie.Need-add-result
-add-result c = search needs
+cast-row : tie.Need-cast-row
+cast-row c = search needs
 
-returns-2 : tie.Need-returns-2
-returns-2 c =
-    let h : c .before .before .before .args .month - 1 < 12 = omega arith in
-    simp (months-before, le-ltb _ _ (c .before .before .if1 .left), sym (c .before .is-leap .ensures) ∙ c .if2 .taken)
+sub-column : tie.Need-sub-column
+sub-column c = search needs
 
-returns-3 : tie.Need-returns-3
-returns-3 c =
-    let h : c .before .before .before .args .month - 1 < 12 = omega arith in
-    simp (months-before, le-ltb _ _ (c .before .before .if1 .left), sym (c .before .is-leap .ensures) ∙ c .if2 .left, add-zero)
+cast-column : tie.Need-cast-column
+cast-column c = search needs
+
+mul-result : tie.Need-mul-result
+mul-result c = record { fits = omega (arith, row-high (c .is-leap .result)) }
+
+mul-result-2 : tie.Need-mul-result-2
+mul-result-2 c = search needs
+
+index-1-result : tie.Need-index-1-result
+index-1-result c = row-high (c .is-leap .result)
+
+index-2-result : tie.Need-index-2-result
+index-2-result c = search needs
+
+returns : tie.Need-returns
+returns c =
+    let a = c .before .before .args in
+    let h : a .month - 1 < 12 = omega arith in
+    rw (c .before .is-leap .ensures) (each-entry (a .year) (a .month - 1) h)
 
 pub days-before-month-spec : {M : Type 1} → statement M
 days-before-month-spec =
     tie.close
     (tie.spec
-    sub-months
-    mul-result
-    returns
-    mul-days
-    sub-days
     is-leap-requires
-    add-result
-    returns-2
-    returns-3)
+    cast-row
+    sub-column
+    cast-column
+    mul-result
+    mul-result-2
+    index-1-result
+    index-2-result
+    returns)

@@ -1,31 +1,42 @@
--- `month_at`. What is left to place is placed from the present month on.
-use mathlib.Core.Path.{_≡_, sym, _∙_}
+-- `month_at`. What is left of the day past the present month's start is placed from that month on.
+use mathlib.Core.Path.{_≡_, refl, sym, _∙_}
 use Prim.Native.Nat.{_-_, _≤_, _<_}
+use native.Mathlib.Nat.{sub-zero}
 use native.Mathlib.Omega.{arith}
 use borrow.Author.Needs.{needs}
-use Rattle.calendar.specs.Calendar.{monthLength, place}
+use Rattle.calendar.specs.Calendar.{monthLength, sum, daysBeforeMonth, place}
 use Rattle.calendar.proofs.Places.{place-here, place-next}
+use Rattle.calendar.proofs.Starts.{next-start}
 use Rattle.calendar.proofs.month_at.Statement.{statement}
 use Rattle.calendar.proofs.month_at.Tie as tie
 
 abbrev Inv-loop : tie.InvT-loop
-Inv-loop year at₀ left₀ at left = (at ≤ 12) × (place (monthLength (year .at)) 11 1 (year .left) ≡ place (monthLength (year .at)) (12 - at) at left)
+Inv-loop year at₀ start₀ at start =
+    (1 ≤ at) × (at ≤ 12) × (start ≡ daysBeforeMonth (year .at) (at - 1)) × (start ≤ year .left)
+    × (place (monthLength (year .at)) 11 1 (year .left) ≡ place (monthLength (year .at)) (12 - at) at (year .left - start))
 
 abbrev μ-loop : tie.MeasureT-loop
-μ-loop year at₀ left₀ at left = 12 - at
+μ-loop year at₀ start₀ at start = 12 - at
 
 loop-holds : tie.Need-loop-holds Inv-loop μ-loop
-loop-holds c = search needs
+unfolding daysBeforeMonth sum
+loop-holds c = (omega arith, omega arith, refl, omega arith, rw sub-zero)
 
-month-length-requires : tie.Need-month-length-requires Inv-loop μ-loop
-month-length-requires c κs = search needs
+add-days-before-month : tie.Need-add-days-before-month Inv-loop μ-loop
+add-days-before-month c = search needs
+
+days-before-month-requires : tie.Need-days-before-month-requires Inv-loop μ-loop
+days-before-month-requires c κs = search needs
+
+sub-t7 : tie.Need-sub-t7 Inv-loop μ-loop
+sub-t7 c = search needs
 
 returns : tie.Need-returns Inv-loop μ-loop
 returns c =
-    let l = c .before .before .before .loop in
-    let f = monthLength (c .before .before .before .before .args .year .at) in
-    let h : l .left < f (l .at) = omega arith in
-    sym (l .inv .1 ∙ place-here f _ _ _ h)
+    let l = c .before .before .before .before .before .loop in
+    let y = c .before .before .before .before .before .before .args .year in
+    let h : y .left - l .start < monthLength (y .at) (l .at) = omega (arith, next-start (y .at) (l .at) (l .inv .0)) in
+    sym (l .inv .4 ∙ place-here (monthLength (y .at)) _ _ _ h)
 
 add-at : tie.Need-add-at Inv-loop μ-loop
 add-at c = search needs
@@ -35,17 +46,23 @@ loop-less c = search needs
 
 loop-again : tie.Need-loop-again Inv-loop μ-loop
 loop-again c =
-    let l = c .before .before .before .loop in
-    let f = monthLength (c .before .before .before .before .args .year .at) in
-    let h : f (l .at) ≤ l .left = omega arith in
-    (omega arith, l .inv .1 ∙ rw (c .before .month-length .ensures) (place-next f 12 (l .at) (l .left) (omega arith) h))
+    let l = c .before .before .before .before .loop in
+    let y = c .before .before .before .before .before .args .year in
+    let n = c .before .before .days-before-month in
+    let s = next-start (y .at) (l .at) (l .inv .0) in
+    let h : monthLength (y .at) (l .at) ≤ y .left - l .start = omega arith in
+    let e : y .left - l .start - monthLength (y .at) (l .at) ≡ y .left - n .result = omega arith in
+    (omega arith, omega arith, n .ensures, omega arith, l .inv .4 ∙ place-next (monthLength (y .at)) 12 (l .at) (y .left - l .start) (omega arith) h ∙ rw e)
+
+sub-t8 : tie.Need-sub-t8 Inv-loop μ-loop
+sub-t8 c = search needs
 
 returns-2 : tie.Need-returns-2 Inv-loop μ-loop
 unfolding place
 returns-2 c =
-    let l = c .before .loop in
+    let l = c .before .before .loop in
     let e : 12 - l .at ≡ 0 = omega arith in
-    sym (l .inv .1 ∙ rw e)
+    sym (l .inv .4 ∙ rw e)
 
 pub month-at-spec : {M : Type 1} → statement M
 month-at-spec =
@@ -54,9 +71,12 @@ month-at-spec =
     Inv-loop
     μ-loop
     loop-holds
-    month-length-requires
+    add-days-before-month
+    days-before-month-requires
+    sub-t7
     returns
     add-at
     loop-less
     loop-again
+    sub-t8
     returns-2)
