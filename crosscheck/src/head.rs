@@ -11,10 +11,13 @@ pub const MOST_TOLERANCE: u32 = 1_000_000;
 /// An eight-digit dial shows 0 to `DIAL - 1`.
 pub const DIAL: u32 = 100_000_000;
 
-const MONTH_DAYS: [[u32; 12]; 2] = [
-    [31, 28, 31, 30, 31, 30, 31, 31, 30, 31, 30, 31],
-    [31, 29, 31, 30, 31, 30, 31, 31, 30, 31, 30, 31],
+/// W4: the days before each month, of ordinary years and of leap years.
+pub const DAYS_BEFORE: [[u32; 12]; 2] = [
+    [0, 31, 59, 90, 120, 151, 181, 212, 243, 273, 304, 334],
+    [0, 31, 60, 91, 121, 152, 182, 213, 244, 274, 305, 335],
 ];
+
+const YEAR_DAYS: [u32; 2] = [365, 366];
 
 /// The head, as every call is given it; any numbers, in bounds or not.
 #[derive(Clone, Copy, Debug, PartialEq, Eq)]
@@ -94,12 +97,13 @@ fn is_leap(year: u32) -> bool {
     year.is_multiple_of(4) && (!year.is_multiple_of(100) || year.is_multiple_of(400))
 }
 
-fn months_of(year: u32) -> &'static [u32; 12] {
-    &MONTH_DAYS[usize::from(is_leap(year))]
+/// The days before each month of a year.
+fn before_months(year: u32) -> &'static [u32; 12] {
+    &DAYS_BEFORE[usize::from(is_leap(year))]
 }
 
 fn year_days(year: u32) -> u32 {
-    months_of(year).iter().sum()
+    YEAR_DAYS[usize::from(is_leap(year))]
 }
 
 /// The number of a day from 2000-01-01 to 2099-12-31; none for any other.
@@ -107,16 +111,16 @@ pub fn day_number(year: u32, month: u32, day: u32) -> Option<u32> {
     if !(2000..=2099).contains(&year) || !(1..=12).contains(&month) {
         return None;
     }
-    let months = months_of(year);
+    let before = before_months(year);
     let month = month as usize - 1;
-    if !(1..=months[month]).contains(&day) {
+    let after = before.get(month + 1).copied().unwrap_or(year_days(year));
+    if !(1..=after - before[month]).contains(&day) {
         return None;
     }
     // From 2000 to 2099 every fourth year is a leap year, 2000 the first.
     let years = year - 2000;
     let leap_days = years.div_ceil(4);
-    let before: u32 = months[..month].iter().sum();
-    Some(365 * years + leap_days + before + day - 1)
+    Some(365 * years + leap_days + before[month] + day - 1)
 }
 
 /// Year, month and day of a day number up to `LAST_DAY`.
@@ -127,12 +131,10 @@ pub fn date(number: u32) -> (u32, u32, u32) {
         left -= year_days(year);
         year += 1;
     }
-    let mut month = 0;
-    while left >= months_of(year)[month] {
-        left -= months_of(year)[month];
-        month += 1;
-    }
-    (year, month as u32 + 1, left + 1)
+    // The last month that has begun; the first begins with no days before it.
+    let before = before_months(year);
+    let month = before.iter().filter(|&&days| days <= left).count();
+    (year, month as u32, left - before[month - 1] + 1)
 }
 
 #[cfg(test)]
