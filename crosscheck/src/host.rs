@@ -2,6 +2,7 @@
 
 use crate::book::Filed;
 use crate::calls::Lists;
+use crate::date_tries::Books;
 use crate::dial_tries::Dials;
 use crate::head::Head;
 use crate::reader::Figures;
@@ -417,6 +418,12 @@ fn filed(code: u32) -> Answer {
         number => Answer::Refused(number.into()),
     }
 }
+
+/// The host's opening and publishing.
+pub const BOOKS: Books = Books {
+    open: |head, lists| Host.open(head, lists),
+    publish: |head, lists, out| Host.publish(head, lists, out),
+};
 
 impl Side for Host {
     fn open(&self, head: Head, lists: &mut Lists) -> Answer {

@@ -6,7 +6,7 @@
 //! What it is held against: `plain`, `definition`, `acceptance`, and `host` when linked.
 //! The comparison: `calls`, `random`, `heads`, `damage`, `side`, `run`, `shrink`, `counts`, `census`,
 //! `run_census`;
-//! the smaller ones of 02: `tries`, `dial_tries`, `strips_tries`, `stays_tries`.
+//! the smaller ones of 02: `tries`, `dial_tries`, `strips_tries`, `stays_tries`, `date_tries`.
 #![deny(unsafe_code)]
 
 pub mod acceptance;
@@ -15,6 +15,7 @@ pub mod calls;
 pub mod census;
 pub mod counts;
 pub mod damage;
+pub mod date_tries;
 pub mod definition;
 pub mod dial;
 pub mod dial_tries;
