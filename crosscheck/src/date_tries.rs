@@ -1,9 +1,13 @@
 //! Compares every date's answer, W4, with a calendar that is walked day by day and
 //! with another build.
 
+use std::io::{self, Write};
+use std::process::{Command, Stdio};
+
 use crate::calls::Lists;
 use crate::file::TRAILER_BYTES;
 use crate::head::{self, Head};
+use crate::line;
 use crate::side::{Answer, Second, Side};
 use crate::tries::Tally;
 
@@ -72,6 +76,32 @@ type Date = (u32, u32, u32);
 /// Goes through every date and the impossible ones, and stops at a difference.
 pub fn all(other: Option<Books>, tally: &mut Tally) -> Result<(), String> {
     in_years(|_| true, other, tally)
+}
+
+/// The way back: runs a program on the file of each date's book, as the second build
+/// writes it, and compares the date in its line.
+pub fn shown(program: &str) -> Result<(), String> {
+    for number in 0..36_525 {
+        let date = head::date(number);
+        let file = file(SECOND, date)?;
+        let expected = line::line(&file) + "\n";
+        let written = run(program, &file).map_err(|error| format!("{program}: {error}"))?;
+        if written != expected.as_bytes() {
+            let written = String::from_utf8_lossy(&written);
+            return Err(format!("{date:?}: {program} wrote {written}"));
+        }
+    }
+    Ok(())
+}
+
+/// What a program writes of a file on its standard input.
+fn run(program: &str, file: &[u8]) -> io::Result<Vec<u8>> {
+    let mut child = Command::new(program)
+        .stdin(Stdio::piped())
+        .stdout(Stdio::piped())
+        .spawn()?;
+    child.stdin.take().expect("piped").write_all(file)?;
+    Ok(child.wait_with_output()?.stdout)
 }
 
 /// The same for some of the years, counting the days of the others.
@@ -229,6 +259,16 @@ impl Check<'_> {
 
 /// The first day's number in the file of a book of this one day, with nothing delivered.
 fn published(side: Books, date: Date) -> Result<u32, String> {
+    let out = file(side, date)?;
+    let trailer = LENGTH - TRAILER_BYTES;
+    Ok(u32::from(u16::from_le_bytes([
+        out[trailer],
+        out[trailer + 1],
+    ])))
+}
+
+/// The file of a date's book.
+fn file(side: Books, date: Date) -> Result<[u8; LENGTH], String> {
     let head = head(date, 1);
     let mut lists = Lists::unopened(SLOTS, 1);
     let opened = (side.open)(head, &mut lists);
@@ -240,11 +280,7 @@ fn published(side: Books, date: Date) -> Result<u32, String> {
     if answer != Answer::Length(LENGTH as u64) {
         return Err(format!("{date:?} published: {answer:?}"));
     }
-    let trailer = LENGTH - TRAILER_BYTES;
-    Ok(u32::from(u16::from_le_bytes([
-        out[trailer],
-        out[trailer + 1],
-    ])))
+    Ok(out)
 }
 
 #[cfg(test)]

@@ -14,13 +14,16 @@ const OTHER: Option<Books> = Some(crosscheck::host::BOOKS);
 const OTHER: Option<Books> = None;
 
 fn main() -> ExitCode {
-    if std::env::args().len() > 1 {
-        eprintln!("dates");
+    let mut arguments = std::env::args().skip(1);
+    let program = arguments.next();
+    if arguments.next().is_some() {
+        eprintln!("dates [PROGRAM]");
         return ExitCode::from(2);
     }
     let start = Instant::now();
     let mut tally = Tally::new(CLASSES);
-    if let Err(what) = date_tries::all(OTHER, &mut tally) {
+    let back = |()| program.as_deref().map_or(Ok(()), date_tries::shown);
+    if let Err(what) = date_tries::all(OTHER, &mut tally).and_then(back) {
         println!("difference: {what}");
         return ExitCode::from(1);
     }
@@ -37,7 +40,12 @@ fn main() -> ExitCode {
         "compared with {against} in {:.1} s",
         start.elapsed().as_secs_f64()
     );
-    println!("0 differences in all 36525 dates");
+    match program {
+        Some(program) => {
+            println!("0 differences in all 36525 dates, there and, by {program}, back")
+        }
+        None => println!("0 differences in all 36525 dates"),
+    }
     if missing.is_empty() {
         ExitCode::SUCCESS
     } else {
