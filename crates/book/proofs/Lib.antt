@@ -9,6 +9,5 @@ pub mod Order
 pub mod Soundness
 pub mod Cleared
 pub mod Fits
-pub mod Looked
 pub mod OneNumber
 pub mod EachCall

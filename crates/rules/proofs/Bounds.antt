@@ -1,14 +1,14 @@
 -- What a good head bounds.
-use mathlib.Core.Bool.{Bool, true, false, cond}
+use mathlib.Core.Bool.{true}
 use mathlib.Core.Logic.{⊎-elim}
 use mathlib.Core.Path.{_≡_, refl}
 use Prim.Native.Nat.{ℕ, _+_, _*_, _/_, _^_, _≤_, _<_}
-use native.Mathlib.Nat.{mul-le-mul, mul-comm, le-pred-of-lt, div-lt-iff-lt-mul}
+use native.Mathlib.Nat.{mul-le-mul, mul-comm, le-refl, le-pred-of-lt, div-lt-iff-lt-mul}
 use native.Mathlib.Omega.{arith}
 use borrow.Author.Tests.{leb-true, eqb-true}
 use lib.Dec.{eqb, lit≤}
 use Rattle.rules.specs.declared.Head.{Head}
-use Rattle.rules.specs.Opening.{firstDay, intervalOk, dayTests, headTests, headOk, slotsPerDay, slotCount, limitOf}
+use Rattle.rules.specs.Opening.{firstDay, intervalOk, dayTests, headTests, headOk, slotsPerDay, slotCount}
 use Rattle.rules.proofs.Logic.{or-parts, passed}
 
 pub record Bounded (h : Head) : Type 0 where
@@ -17,7 +17,9 @@ pub record Bounded (h : Head) : Type 0 where
   pub days-low : 1 ≤ h .days
   pub days-high : h .days ≤ 400
   pub last-day : firstDay h + h .days ≤ 36525
+  pub limit-high : h .limit ≤ 1000000
   pub tolerance-high : h .tolerance ≤ 1000000
+  pub interval-good : intervalOk (h .interval) ≡ true
   pub day-low : 48 ≤ slotsPerDay h
   pub day-high : slotsPerDay h ≤ 288
 
@@ -32,6 +34,14 @@ interval-bounds interval e =
     of : (l : ℕ) → eqb interval l ≡ true → 5 ≤ l → l ≤ 30 → 48 ≤ 1440 / l → 1440 / l ≤ 288 → (5 ≤ interval) × (interval ≤ 30) × (48 ≤ 1440 / interval) × (1440 / interval ≤ 288)
     of l x p q r s = rw (eqb-true interval l x) (p, q, r, s)
 
+-- the slots of at most 400 days, each with an interval at 1,000,000 W
+caps : (l days : ℕ) → intervalOk l ≡ true → days ≤ 400 → 1440 / l * days * (1000000 * l / 60) ≤ 9600000000
+unfolding intervalOk
+caps l days e m =
+    ⊎-elim (λ x. rw (eqb-true l 5 x) (omega arith))
+    (λ d. ⊎-elim (λ x. rw (eqb-true l 15 x) (omega arith)) (λ x. rw (eqb-true l 30 x) (omega arith)) (or-parts (eqb l 15) (eqb l 30) d))
+    (or-parts _ _ e)
+
 module _ (h : Head) where
   pub bounded : headOk h ≡ true → Bounded h
   unfolding headOk slotsPerDay
@@ -44,6 +54,8 @@ module _ (h : Head) where
         days-low = leb-true _ _ (passed (dayTests h) d 1);
         days-high = leb-true _ _ (passed (dayTests h) d 2);
         last-day = leb-true _ _ (passed (dayTests h) d 3);
+        limit-high = leb-true _ _ (passed (headTests h) e 3);
+        interval-good = passed (headTests h) e 0;
         tolerance-high = leb-true _ _ (passed (headTests h) e 4);
         day-low = l .2;
         day-high = l .3;
@@ -59,14 +71,30 @@ module _ (h : Head) where
   unfolding slotCount
   count-high b = mul-le-mul (b .day-high) (b .days-high)
 
-  -- a good value is at most 35,000 Wh
-  pub limit-high : Bounded h → limitOf h * h .interval ≤ 2100000
-  unfolding limitOf
-  limit-high b = mul-le-mul (kinds (eqb (h .kind) 1)) (b .interval-high)
-    where
-      kinds : (k : Bool) → cond k 40000 70000 ≤ 70000
-      kinds true = lit≤ tt
-      kinds false = lit≤ tt
+  -- the most that a good slot can hold: an interval at 1,000,000 W
+  pub cap : ℕ
+  cap = 1000000 * h .interval / 60
+
+  -- 500,000 Wh
+  pub cap-high : Bounded h → cap ≤ 500000
+  unfolding cap
+  cap-high b = omega (arith, b .interval-high)
+
+  pub cap-low : Bounded h → 1 ≤ cap
+  unfolding cap
+  cap-low b = omega (arith, b .interval-low)
+
+  -- all slots together: 9,600,000,000 Wh
+  pub cap-all : Bounded h → slotCount h * cap ≤ 9600000000
+  unfolding cap slotCount slotsPerDay
+  cap-all b = caps (h .interval) (h .days) (b .interval-good) (b .days-high)
+
+  -- what a good slot can hold
+  pub good-cap : Bounded h → (v : ℕ) → v * 60 ≤ h .limit * h .interval → v ≤ cap
+  unfolding cap
+  good-cap b v p =
+      let q : h .limit * h .interval ≤ 1000000 * h .interval = mul-le-mul (b .limit-high) (le-refl _) in
+      omega arith
 
 -- a product of two 32-bit numbers fits 64 bits
 pub product : {a b : ℕ} → a < 2 ^ 32 → b < 2 ^ 32 → a * b < 2 ^ 64

@@ -1,6 +1,8 @@
 pub mod Logic
 pub mod Lists
 pub mod Sums
+pub mod Looked
+pub mod Tables
 pub mod Bounds
 pub mod Floors
 pub mod Runs

@@ -4,7 +4,7 @@ use mathlib.Core.List.{List}
 use mathlib.Core.Logic.{⊎-elim}
 use mathlib.Core.Path.{_≡_, refl, sym, ap, _∙_}
 use Prim.Native.Nat.{ℕ, zero, suc, _+_, _-_, _≤_, _<_, zero-le}
-use native.Mathlib.Nat.{add-zero, add-suc, mul-le-mul, le-refl}
+use native.Mathlib.Nat.{add-zero, add-suc, mul-le-mul, le-refl, le-trans}
 use native.Mathlib.Numerals.{add-one}
 use native.Mathlib.Omega.{arith}
 use borrow.Author.Tests.{ltb-true, le-leb, lt-leb}
@@ -18,7 +18,7 @@ use Rattle.rules.specs.Tests.{goodAt}
 use Rattle.rules.specs.Filling.{inRun, runBefore, runFrom, runLength, isLinear, lineValue, linearValue}
 use Rattle.rules.specs.Inner.Fills.{zeroAt, zeroBefore, bareLine, fullLine, lineThrough, lineAt, lineBefore, endTests, lengthWithin, Drawn, fillsAt}
 use Rattle.rules.proofs.Logic.{either, passed}
-use Rattle.rules.proofs.Bounds.{Bounded}
+use Rattle.rules.proofs.Bounds.{Bounded, cap-high}
 use Rattle.rules.proofs.Runs.{before-low, before-none, before-on, from-on, place-within, start-kept, length-kept, linear-kept, start-first, length-first, linear-first, linear-tells}
 use Rattle.rules.proofs.Small.{good-small}
 use Rattle.rules.proofs.Outages.{zero-on}
@@ -149,8 +149,8 @@ module _ (h : Head) (s : Slots) (v : List ℕ) where
         record {
           place = place-within h s v i l e;
           length = omega (arith, w .short, mul-le-mul (le-refl (runLength h s v i)) (b .interval-low));
-          left = good-small h b s _ (w .left-good);
-          right = good-small h b s _ (w .right-good);
+          left = le-trans (good-small h b s _ (w .left-good)) (cap-high h b);
+          right = le-trans (good-small h b s _ (w .right-good)) (cap-high h b);
         }
 
     pub line-fills : 0 < p .length → (isLinear h s v i ≡ true) × Drawn p × (lineValue (p .left) (p .right) (p .place) (p .length) ≡ linearValue h s v i)

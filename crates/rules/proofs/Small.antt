@@ -1,24 +1,24 @@
--- A good or S value is at most 35,000 Wh, any filled value 99,999,999.
+-- A good or S value is at most what an interval holds at 1,000,000 W, any filled value 99,999,999.
 use mathlib.Core.Bool.{Bool, true, false, cond, false≢true}
 use mathlib.Core.List.{List, [], _∷_}
 use mathlib.Core.Logic.{⊎-elim}
 use mathlib.Core.Path.{_≡_, refl}
 use Prim.Native.Nat.{ℕ, zero, suc, _+_, _-_, _*_, _/_, _≤_, _<_, zero-le}
-use native.Mathlib.Nat.{div-le-of-le-mul}
+use native.Mathlib.Nat.{div-le-of-le-mul, suc-mul, add-comm, add-le-add}
 use native.Mathlib.Omega.{arith}
 use borrow.Author.Tests.{ltb-false}
 use lib.Dec.{ltb, eqb}
 use lib.ListN.{length, getD, take}
 use Rattle.rules.specs.declared.Head.{Head}
 use Rattle.rules.specs.declared.tests.Cause.the-variants.{Nothing, Gap, TimeChange, Partial, Demand}
-use Rattle.rules.specs.Opening.{Slots, Agreed, limitOf, slotsPerDay}
+use Rattle.rules.specs.Opening.{Slots, Agreed, slotsPerDay}
 use Rattle.rules.specs.Tests.{isGood, timeChangeBit, partialBit, causeOf, causeAt, goodAt}
 use Rattle.rules.specs.Weeks.{firstBack, farthestBack, weeksWithin}
 use Rattle.rules.specs.Filling.{isReference, weeksBack, references, total, meanOf, isLinear, linearValue, fromReferences, filledAt}
 use Rattle.rules.specs.Spans.{isS, substitutedIn}
 use Rattle.rules.specs.Inner.Lent.{AgreedLow}
 use Rattle.rules.proofs.Logic.{and-parts, either}
-use Rattle.rules.proofs.Bounds.{Bounded, limit-high}
+use Rattle.rules.proofs.Bounds.{Bounded, cap, cap-high, good-cap}
 use Rattle.rules.proofs.Floors.{line-small}
 use Rattle.rules.proofs.Runs.{place-low, linear-tells}
 use Rattle.rules.proofs.Fillings.{filled-by}
@@ -35,42 +35,42 @@ pub cond-small : (t : Bool) (x m : ℕ) → x ≤ m → cond t x 0 ≤ m
 cond-small true x m p = p
 cond-small false x m p = zero-le
 
--- every value of a list is small
-abbrev small : List ℕ → Type 0
-small [] = Unit {0}
-small (x ∷ xs) = (x ≤ 35000) × small xs
+-- every value of a list is at most m
+abbrev small : ℕ → List ℕ → Type 0
+small m [] = Unit {0}
+small m (x ∷ xs) = (x ≤ m) × small m xs
 
-small-take : (n : ℕ) (xs : List ℕ) → small xs → small (take n xs)
-small-take zero xs p = tt
-small-take (suc n) [] p = tt
-small-take (suc n) (x ∷ xs) p = (p .0, small-take n xs (p .1))
+small-take : (m n : ℕ) (xs : List ℕ) → small m xs → small m (take n xs)
+small-take m zero xs p = tt
+small-take m (suc n) [] p = tt
+small-take m (suc n) (x ∷ xs) p = (p .0, small-take m n xs (p .1))
 
-small-total : (xs : List ℕ) → small xs → total xs ≤ length xs * 35000
+small-total : (m : ℕ) (xs : List ℕ) → small m xs → total xs ≤ length xs * m
 unfolding total
-small-total [] p = zero-le
-small-total (x ∷ xs) p = omega (arith, small-total xs (p .1), p .0)
+small-total m [] p = zero-le
+small-total m (x ∷ xs) p = rw (suc-mul (length xs) m, add-comm (length xs * m) m) (add-le-add (p .0) (small-total m xs (p .1)))
 
 module _ (h : Head) (b : Bounded h) (s : Slots) where
-  pub good-small : (i : ℕ) → goodAt h s i ≡ true → getD (s .values) i 0 ≤ 35000
+  pub good-small : (i : ℕ) → goodAt h s i ≡ true → getD (s .values) i 0 ≤ cap h
   unfolding goodAt causeAt causeOf
   good-small i e =
       let x = getD (s .statuses) i 0 in
-      let p : getD (s .values) i 0 * 60 ≤ limitOf h * h .interval =
+      let p : getD (s .values) i 0 * 60 ≤ h .limit * h .interval =
       ltb-false _ _ (last-test (eqb (getD (s .versions) i 0) 0) (timeChangeBit x) (partialBit x) _ e) in
-      omega (arith, limit-high h b)
+      good-cap h b _ p
 
-  line-low : (agreed : List ℕ) (i : ℕ) → isLinear h s agreed i ≡ true → linearValue h s agreed i ≤ 35000
+  line-low : (agreed : List ℕ) (i : ℕ) → isLinear h s agreed i ≡ true → linearValue h s agreed i ≤ cap h
   unfolding linearValue
   line-low agreed i e =
       let w = linear-tells h s agreed i e in
-      line-small _ _ _ _ 35000 (place-low h s agreed i) (good-small _ (w .left-good)) (good-small _ (w .right-good))
+      line-small _ _ _ _ (cap h) (place-low h s agreed i) (good-small _ (w .left-good)) (good-small _ (w .right-good))
 
   module _ (holidays : List ℕ) where
-    reference-small : (j : ℕ) → isReference h s holidays j ≡ true → getD (s .values) j 0 ≤ 35000
+    reference-small : (j : ℕ) → isReference h s holidays j ≡ true → getD (s .values) j 0 ≤ cap h
     unfolding isReference
     reference-small j e = good-small j (and-parts _ _ (and-parts _ _ e .0) .0)
 
-    weeks-small : (k days j : ℕ) → small (weeksBack h s holidays days j k)
+    weeks-small : (k days j : ℕ) → small (cap h) (weeksBack h s holidays days j k)
     unfolding weeksBack
     weeks-small zero days j = tt
     weeks-small (suc k) days j =
@@ -81,25 +81,25 @@ module _ (h : Head) (b : Bounded h) (s : Slots) where
         (either (isReference h s holidays i))))
         (either (ltb j (days * slotsPerDay h)))
 
-    mean-small : (xs : List ℕ) → small xs → fromReferences xs .value ≤ 35000
+    mean-small : (xs : List ℕ) → small (cap h) xs → fromReferences xs .value ≤ cap h
     unfolding fromReferences meanOf
-    mean-small xs p = ⊎-elim (λ e. rw e zero-le) (λ e. rw e (div-le-of-le-mul (length xs) (small-total xs p))) (either (eqb (length xs) 0))
+    mean-small xs p = ⊎-elim (λ e. rw e zero-le) (λ e. rw e (div-le-of-le-mul (length xs) (small-total (cap h) xs p))) (either (eqb (length xs) 0))
 
-    references-small : (i : ℕ) → fromReferences (references h s holidays i) .value ≤ 35000
+    references-small : (i : ℕ) → fromReferences (references h s holidays i) .value ≤ cap h
     unfolding references
     references-small i =
         let d = i / slotsPerDay h in
         let first = firstBack h holidays d in
         let k = weeksWithin first (farthestBack holidays d) in
-        mean-small (take 4 (weeksBack h s holidays first i k)) (small-take 4 (weeksBack h s holidays first i k) (weeks-small k first i))
+        mean-small (take 4 (weeksBack h s holidays first i k)) (small-take (cap h) 4 (weeksBack h s holidays first i k) (weeks-small k first i))
 
   module _ (a : Agreed) (holidays : List ℕ) (i : ℕ) where
-    pub substituted-small : substitutedIn (filledAt h s a holidays i) ≤ 35000
+    pub substituted-small : substitutedIn (filledAt h s a holidays i) ≤ cap h
     substituted-small =
-        filled-by (λ o. substitutedIn o ≤ 35000) h s a holidays i (λ _. zero-le) zero-le zero-le (line-low (a .versions) i)
+        filled-by (λ o. substitutedIn o ≤ cap h) h s a holidays i (λ _. zero-le) zero-le zero-le (line-low (a .versions) i)
         (cond-small (isS (fromReferences (references h s holidays i) .quality)) _ _ (references-small holidays i))
 
     pub filled-low : AgreedLow a → filledAt h s a holidays i .value ≤ 99999999
     filled-low low =
-        filled-by (λ o. o .value ≤ 99999999) h s a holidays i (λ g. omega (arith, good-small i g)) (omega (arith, low i)) zero-le
-        (λ g. omega (arith, line-low (a .versions) i g)) (omega (arith, references-small holidays i))
+        filled-by (λ o. o .value ≤ 99999999) h s a holidays i (λ g. omega (arith, good-small i g, cap-high h b)) (omega (arith, low i)) zero-le
+        (λ g. omega (arith, line-low (a .versions) i g, cap-high h b)) (omega (arith, references-small holidays i, cap-high h b))

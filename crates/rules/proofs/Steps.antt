@@ -3,7 +3,7 @@ use mathlib.Core.Bool.{Bool, true, false, cond, and-true, and-false}
 use mathlib.Core.Option.{Option, none, some}
 use mathlib.Core.Path.{_≡_, refl, sym, ap, ap₂, _∙_}
 use Prim.Native.Nat.{ℕ, suc, _+_, _-_, _*_, _/_, _≤_, _<_}
-use native.Mathlib.Nat.{le-div-iff-mul-le, div-lt-iff-lt-mul, add-zero}
+use native.Mathlib.Nat.{le-div-iff-mul-le, div-lt-iff-lt-mul, add-zero, mul-le-mul, le-refl, le-trans}
 use native.Mathlib.Numerals.{add-one}
 use native.Mathlib.Omega.{arith}
 use borrow.Author.Tests.{ne-eqb}
@@ -21,7 +21,7 @@ use Rattle.rules.specs.Inner.Summaries.{scaledBy, Scales}
 use Rattle.rules.specs.Inner.Stretches.{unscaledTo, scalingAt, spanStretch, stretchOf, stretchOn, stretchAt, carriedAt, scales, fitOutcome, fitNext, Fits, beginsAt}
 use Rattle.rules.specs.Inner.Fills.{fillsAt}
 use Rattle.rules.specs.Inner.Passes.{passAt, settled, SteppedAt}
-use Rattle.rules.proofs.Bounds.{Bounded, count-high}
+use Rattle.rules.proofs.Bounds.{Bounded, cap, cap-low, cap-all}
 use Rattle.rules.proofs.Boundaries.{last-tells, next-tells}
 use Rattle.rules.proofs.Forms.{filled-form, method-low}
 use Rattle.rules.proofs.Places.{span-end, slots-within}
@@ -141,20 +141,21 @@ module _ (h : Head) (w : Bounded h) (b : Cells) (i : ℕ) where
       go false q = rw (q, scaling-kept first last l m q)
 
   module _ (first last : ℕ) where
-    e-small : (j : ℕ) → e h b first last j ≤ 35000
+    e-small : (j : ℕ) → e h b first last j ≤ cap h
     unfolding e
     e-small j = go (isS (filled h b first last j .quality)) (allZero h b first last) _ (substituted-small h w (b .slots) (b .agreed) (b .holidays) j)
       where
-        go : (q z : Bool) (v : ℕ) → cond q v 0 ≤ 35000 → cond q (cond z 1 v) 0 ≤ 35000
-        go true true v l = lit≤ tt
+        go : (q z : Bool) (v : ℕ) → cond q v 0 ≤ cap h → cond q (cond z 1 v) 0 ≤ cap h
+        go true true v l = cap-low h w
         go true false v l = l
         go false z v l = l
 
     -- E fits, and with it the running sums
-    shape-high : first ≤ last → last ≤ h .days → E h b first last ≤ 4032000000
+    shape-high : first ≤ last → last ≤ h .days → E h b first last ≤ 9600000000
     unfolding E start slotsIn
     shape-high l m =
-        omega (arith, sum-small (e h b first last) 35000 e-small (start h b first last) (slotsIn h b first last), slots-within h first last l m, count-high h w)
+        let n : (last - first) * slotsPerDay h ≤ slotCount h = omega (arith, slots-within h first last l m) in
+        le-trans (le-trans (sum-small (e h b first last) (cap h) e-small (first * slotsPerDay h) ((last - first) * slotsPerDay h)) (mul-le-mul n (le-refl _))) (cap-all h w)
 
     room : start h b first last ≤ i → i < start h b first last + slotsIn h b first last → isS (filled h b first last i .quality) ≡ true
         → P h b first last i + (filled h b first last i .value + cond (allZero h b first last) 1 0) ≤ E h b first last

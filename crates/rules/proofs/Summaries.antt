@@ -3,7 +3,7 @@ use mathlib.Core.Bool.{Bool, true, false, cond, _||_, or-false, or-true}
 use mathlib.Core.List.{List}
 use mathlib.Core.Path.{_≡_, refl, sym, ap, _∙_}
 use Prim.Native.Nat.{ℕ, zero, suc, _+_, _*_, _≤_, zero-le}
-use native.Mathlib.Nat.{add-zero, add-le-add, suc-mul}
+use native.Mathlib.Nat.{add-zero, add-le-add, suc-mul, mul-le-mul, le-refl, le-trans}
 use native.Mathlib.Numerals.{add-one}
 use native.Mathlib.Omega.{arith}
 use lib.Dec.{lit≤}
@@ -13,12 +13,12 @@ use Rattle.rules.specs.declared.Quality.{Quality}
 use Rattle.rules.specs.declared.Quality.the-variants.{A, S, F, N}
 use Rattle.rules.specs.declared.spans.Summary.{Summary}
 use Rattle.rules.specs.Lists.{sum, any}
-use Rattle.rules.specs.Opening.{Slots, Agreed}
+use Rattle.rules.specs.Opening.{Slots, Agreed, slotCount}
 use Rattle.rules.specs.Filling.{filledAt}
 use Rattle.rules.specs.Spans.{isA, isS, isF}
 use Rattle.rules.specs.Inner.Lent.{AgreedLow}
 use Rattle.rules.specs.Inner.Summaries.{summaryOf, actualAdded, addedTo}
-use Rattle.rules.proofs.Bounds.{Bounded}
+use Rattle.rules.proofs.Bounds.{Bounded, cap, cap-all, count-high}
 use Rattle.rules.proofs.Small.{cond-small, substituted-small, filled-low}
 
 -- a sum of small terms
@@ -47,13 +47,15 @@ module _ (h : Head) (s : Slots) (agreed : Agreed) (holidays : List ℕ) (a k : �
         sum-small _ 99999999
         (λ i. cond-small (isA (filledAt h s agreed holidays i .quality) || isF (filledAt h s agreed holidays i .quality)) _ _ (filled-low h b s agreed holidays i low)) a k
 
-    substituted-low : summaryOf h s agreed holidays a k .substituted ≤ k * 35000
+    substituted-low : summaryOf h s agreed holidays a k .substituted ≤ k * cap h
     unfolding summaryOf
-    substituted-low = sum-small _ 35000 (λ i. substituted-small h b s agreed holidays i) a k
+    substituted-low = sum-small _ (cap h) (λ i. substituted-small h b s agreed holidays i) a k
 
-    pub summary-fits : AgreedLow agreed → k ≤ 115200 → (m : Summary) → m ≡ summaryOf h s agreed holidays a k
-        → (m .actual ≤ 11519999884800) × (m .substituted ≤ 4032000000) × (m .count ≤ 115200)
-    summary-fits low l m e = rw e (omega (arith, actual-low low), omega (arith, substituted-low), omega (arith, count-small))
+    pub summary-fits : AgreedLow agreed → k ≤ slotCount h → (m : Summary) → m ≡ summaryOf h s agreed holidays a k
+        → (m .actual ≤ 11519999884800) × (m .substituted ≤ 9600000000) × (m .count ≤ 115200)
+    summary-fits low l m e =
+        let n = count-high h b in
+        rw e (omega (arith, actual-low low), le-trans (le-trans substituted-low (mul-le-mul l (le-refl _))) (cap-all h b), omega (arith, count-small))
 
 -- `spans::add` goes by the slot's quality
 module _ (m : Summary) (o : Outcome) where

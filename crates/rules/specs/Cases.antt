@@ -13,20 +13,20 @@ use Rattle.rules.specs.Tests.{goodAt}
 use Rattle.rules.specs.Filling.{isLinear, linearValue, isReference, references, total, meanOf}
 use Rattle.rules.specs.Spans.{isA, isF, advance, actual, stateOf, outcomeAt}
 
--- a head of interval 30, kind 1 and tolerance 0
+-- a head of interval 30, limit 40,000 and tolerance 0
 abbrev pub headOn : ℕ → ℕ → ℕ → ℕ → Head
 headOn year month day days =
-    record { year = year; month = month; day = day; days = days; interval = 30; kind = 1; tolerance = 0 }
+    record { year = year; month = month; day = day; days = days; interval = 30; limit = 40000; tolerance = 0 }
 
 -- a head of one day and tolerance 0
 abbrev pub headOf : ℕ → ℕ → Head
-headOf interval kind =
-    record { year = 2024; month = 5; day = 1; days = 1; interval = interval; kind = kind; tolerance = 0 }
+headOf interval limit =
+    record { year = 2024; month = 5; day = 1; days = 1; interval = interval; limit = limit; tolerance = 0 }
 
 -- a delivery of this value with status 0 is good
 abbrev pub passes : ℕ → ℕ → ℕ → Bool
-passes kind interval value =
-    goodAt (headOf interval kind) (record { values = value ∷ []; versions = 1 ∷ []; statuses = 0 ∷ [] }) 0
+passes limit interval value =
+    goodAt (headOf interval limit) (record { values = value ∷ []; versions = 1 ∷ []; statuses = 0 ∷ [] }) 0
 
 -- a delivery of this value with this status is a reference
 abbrev pub refers : ℕ → ℕ → Bool
@@ -83,12 +83,12 @@ lineDay l g r = record {
 
 -- the line fills its j-th gap
 abbrev pub lineFills : ℕ → ℕ → ℕ → ℕ → ℕ → Bool
-lineFills interval l g r j = isLinear (headOf interval 1) (lineDay l g r) [] j
+lineFills interval l g r j = isLinear (headOf interval 40000) (lineDay l g r) [] j
 
 -- with this value
 abbrev pub lineGives : ℕ → ℕ → ℕ → ℕ → ℕ → ℕ → Bool
 lineGives interval l g r j value =
-    lineFills interval l g r j && eqb (linearValue (headOf interval 1) (lineDay l g r) [] j) value
+    lineFills interval l g r j && eqb (linearValue (headOf interval 40000) (lineDay l g r) [] j) value
 
 -- a book from Sunday 2024-05-05 on of which slot 0 alone has come, with these holiday cells on its first day and on day d: slot 0 is the one reference at position 0 of day d (02, W3)
 abbrev pub takesSunday : ℕ → ℕ → ℕ → Bool
@@ -98,9 +98,9 @@ takesSunday first last d =
 
 unfoldable pub cases : List Bool
 cases =
-    passes 1 30 20000 ∷ not (passes 1 30 20001)
-    ∷ passes 1 5 3333 ∷ not (passes 1 5 3334)
-    ∷ passes 2 30 30000 ∷ not (passes 2 30 40000)
+    passes 40000 30 20000 ∷ not (passes 40000 30 20001)
+    ∷ passes 40000 5 3333 ∷ not (passes 40000 5 3334)
+    ∷ passes 70000 30 30000 ∷ not (passes 70000 30 40000)
     ∷ lineGives 30 7 1 10 1 8
     ∷ lineGives 30 10 3 4 1 8 ∷ lineGives 30 10 3 4 2 7 ∷ lineGives 30 10 3 4 3 5
     ∷ lineGives 15 100 3 104 1 101 ∷ lineGives 15 100 3 104 2 102 ∷ lineGives 15 100 3 104 3 103

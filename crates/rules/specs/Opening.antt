@@ -1,5 +1,5 @@
 -- The head of a book, its slots and its cells (01, Opening).
-use mathlib.Core.Bool.{Bool, cond, _||_}
+use mathlib.Core.Bool.{Bool, _||_}
 use mathlib.Core.List.{List, [], _∷_}
 use Prim.Native.Nat.{ℕ, _+_, _*_, _/_}
 use lib.Dec.{leb, eqb}
@@ -23,12 +23,13 @@ dayTests h =
     ∷ leb (firstDay h + h .days) 36525
     ∷ []
 
+-- the demand limit is 1 to 1,000,000 W (02, W5)
 abbrev pub headTests : Head → List Bool
 headTests h =
     intervalOk (h .interval)
     ∷ every (dayTests h)
-    ∷ leb 1 (h .kind)
-    ∷ leb (h .kind) 2
+    ∷ leb 1 (h .limit)
+    ∷ leb (h .limit) 1000000
     ∷ leb (h .tolerance) 1000000
     ∷ []
 
@@ -42,10 +43,6 @@ slotsPerDay h = 1440 / h .interval
 -- N = n × D: slots of the book
 unfoldable pub slotCount : Head → ℕ
 slotCount h = slotsPerDay h * h .days
-
--- the demand limit in W: kind 1 is single phase, kind 2 three phase (000, 4.1a)
-unfoldable pub limitOf : Head → ℕ
-limitOf h = cond (eqb (h .kind) 1) 40000 70000
 
 -- the three lent lists of slots
 pub record Slots : Type 0 where

@@ -7,7 +7,7 @@ use lib.ListN.{getD}
 use Rattle.rules.specs.declared.Head.{Head}
 use Rattle.rules.specs.declared.tests.Cause.{Cause}
 use Rattle.rules.specs.declared.tests.Cause.the-variants.{Nothing, Gap, TimeChange, Partial, Demand}
-use Rattle.rules.specs.Opening.{Slots, limitOf}
+use Rattle.rules.specs.Opening.{Slots}
 
 -- version 0: nothing came for slot i
 unfoldable pub isGap : List ℕ → ℕ → Bool
@@ -32,7 +32,7 @@ causeOf limit interval version value status =
     (cond (ltb (limit * interval) (value * 60)) Demand Nothing)))
 
 unfoldable pub causeAt : Head → Slots → ℕ → Cause
-causeAt h s i = causeOf (limitOf h) (h .interval) (getD (s .versions) i 0) (getD (s .values) i 0) (getD (s .statuses) i 0)
+causeAt h s i = causeOf (h .limit) (h .interval) (getD (s .versions) i 0) (getD (s .values) i 0) (getD (s .statuses) i 0)
 
 -- a slot without a cause is good
 abbrev pub isGood : Cause → Bool

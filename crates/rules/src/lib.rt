@@ -1,6 +1,7 @@
 // The rules of document 01: opening bounds, tests of a slot, filling, spans.
 pub mod filling;
 pub mod fills;
+pub mod limits;
 pub mod linear;
 pub mod opening;
 pub mod pass;
@@ -10,14 +11,14 @@ pub mod stretch;
 pub mod tests;
 pub mod weeks;
 
-// The five figures of a book's opening, which every later call is given; the first day is three of these fields.
+// The five figures of a book's opening, which every later call is given; the first day is three of these fields, and the demand limit stands in the kind's stead.
 pub struct Head {
     pub year: u32,
     pub month: u32,
     pub day: u32,
     pub days: u32,
     pub interval: u32,
-    pub kind: u32,
+    pub limit: u32,
     pub tolerance: u32,
 }
 

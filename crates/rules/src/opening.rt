@@ -3,7 +3,7 @@ use crate::Head;
 ghost use mathlib.Core.Path.{_≡_};
 ghost use mathlib.Core.Bool.{true};
 ghost use Rattle.rules.specs.Lists.{every};
-ghost use Rattle.rules.specs.Opening.{intervalOk, dayTests, headOk, firstDay, limitOf, slotsPerDay, slotCount};
+ghost use Rattle.rules.specs.Opening.{intervalOk, dayTests, headOk, firstDay, slotsPerDay, slotCount};
 
 pub fn is_interval(interval: u32) -> bool
     ensures { λ r. ⌜ r ≡ intervalOk interval ⌝ }
@@ -43,10 +43,10 @@ pub fn head_ok(head: Head) -> bool
     if !are_days(head) {
         return false;
     }
-    if head.kind < 1 {
+    if head.limit < 1 {
         return false;
     }
-    if 2 < head.kind {
+    if 1000000 < head.limit {
         return false;
     }
     head.tolerance <= 1000000
@@ -58,13 +58,6 @@ pub fn first_day(head: Head) -> u32
     ensures { λ r. ⌜ r ≡ firstDay head ⌝ }
 {
     calendar::day_number(head.year, head.month, head.day)
-}
-
-// The demand limit in W.
-pub fn limit(head: Head) -> u32
-    ensures { λ r. ⌜ r ≡ limitOf head ⌝ }
-{
-    if head.kind == 1 { 40000 } else { 70000 }
 }
 
 // Slots a day.

@@ -53,9 +53,9 @@ fn add_actual(sum: Summary, value: u64) -> Summary
     }
 }
 
-// One slot more, of at most 115,200: an A or F value is at most 99,999,999 Wh, an S value 35,000 Wh.
+// One slot more, of at most 115,200: an A or F value is at most 99,999,999 Wh, all S values together 9,600,000,000 Wh.
 fn add(sum: Summary, slot: Outcome) -> Summary
-    requires { ⌜ (sum .actual ≤ 11519999884800) × (sum .substituted ≤ 4032000000) × (sum .count ≤ 115200) ⌝ }
+    requires { ⌜ (sum .actual ≤ 11519999884800) × (sum .substituted ≤ 9600000000) × (sum .count ≤ 115200) ⌝ }
     ensures { λ r. ⌜ r ≡ addedTo sum slot ⌝ }
 {
     let value = slot.value as u64;
@@ -172,7 +172,7 @@ pub fn state_of(sum: Summary, r: u64, tolerance: u64) -> u8
 
 // floor(t × c / e).
 fn share_of(t: u64, c: u64, e: u64) -> u64
-    requires { ⌜ (t < 100000000) × (c ≤ 4032000000) × (0 < e) ⌝ }
+    requires { ⌜ (t < 100000000) × (c ≤ 9600000000) × (0 < e) ⌝ }
     ensures { λ r. ⌜ r ≡ share t c e ⌝ }
 {
     t * c / e
@@ -180,7 +180,7 @@ fn share_of(t: u64, c: u64, e: u64) -> u64
 
 // The new value of a slot before which the running sum is `p`, and with which it is `c`.
 fn new_value(t: u64, p: u64, c: u64, e: u64) -> u32
-    requires { ⌜ (t < 100000000) × (p ≤ c) × (c ≤ e) × (e ≤ 4032000000) × (0 < e) ⌝ }
+    requires { ⌜ (t < 100000000) × (p ≤ c) × (c ≤ e) × (e ≤ 9600000000) × (0 < e) ⌝ }
     ensures { λ r. ⌜ r ≡ share t c e - share t p e ⌝ }
 {
     (share_of(t, c, e) - share_of(t, p, e)) as u32

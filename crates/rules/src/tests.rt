@@ -1,6 +1,5 @@
 // The tests of a slot (01, Tests of a slot).
 use crate::Head;
-use crate::opening;
 ghost use mathlib.Core.Path.{_≡_};
 ghost use Prim.Native.Nat.{_<_};
 ghost use Rattle.rules.specs.Opening.{slotCount};
@@ -54,7 +53,7 @@ pub fn is_good(head: Head, values: &[u32], versions: &[u32], statuses: &[u8], at
         return false;
     }
     is_nothing(cause_of(
-        opening::limit(head),
+        head.limit,
         head.interval,
         versions[at],
         values[at],

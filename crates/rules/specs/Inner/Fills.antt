@@ -73,8 +73,8 @@ lengthWithin h s agreed i =
 pub record Drawn (l : Line) : Type 0 where
   pub place : l .place ≤ l .length
   pub length : l .length ≤ 24
-  pub left : l .left ≤ 35000
-  pub right : l .right ≤ 35000
+  pub left : l .left ≤ 500000
+  pub right : l .right ≤ 500000
 
 unfoldable pub fillsAt : Head → Slots → List ℕ → ℕ → Fills
 fillsAt h s agreed i =

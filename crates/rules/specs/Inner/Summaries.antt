@@ -69,5 +69,5 @@ scaledBy value by =
 pub record Scales (value : ℕ) (by : Scaling) : Type 0 where
   pub t-low : by .t < 100000000
   pub room : by .passed + (value + by .extra) ≤ by .whole
-  pub whole-high : by .whole ≤ 4032000000
+  pub whole-high : by .whole ≤ 9600000000
   pub whole-low : 0 < by .whole

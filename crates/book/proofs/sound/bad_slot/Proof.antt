@@ -8,7 +8,7 @@ use lib.ListN.{length}
 use Rattle.rules.specs.Lists.{any}
 use Rattle.rules.specs.Inner.Lent.{slots}
 use Rattle.book.specs.Cells.{slotFaultAt}
-use Rattle.book.proofs.Looked.{none-yet, none-on, one-found}
+use Rattle.rules.proofs.Looked.{none-yet, none-on, one-found}
 use Rattle.book.proofs.sound.bad_slot.Statement.{statement}
 use Rattle.book.proofs.sound.bad_slot.Tie as tie
 

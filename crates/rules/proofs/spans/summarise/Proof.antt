@@ -54,7 +54,7 @@ delivered-requires c κs = search needs
 add-requires : tie.Need-add-requires Inv-loop μ-loop
 add-requires c κs = let a = c .before .before .before .before .before .before .before .before .before .before .before .before .before .before .args in
     let w = bounded (a .head) (c .before .before .before .before .before .before .before .before .before .before .before .before .before .before .pre .0 .fitted .head) in
-    summary-fits (a .head) _ _ _ _ _ w (c .before .before .before .before .before .before .before .before .before .before .before .before .before .before .pre .1 .low) (omega (arith, count-high (a .head) w)) _ (c .before .before .before .before .before .before .loop .inv .3)
+    summary-fits (a .head) _ _ _ _ _ w (c .before .before .before .before .before .before .before .before .before .before .before .before .before .before .pre .1 .low) (omega arith) _ (c .before .before .before .before .before .before .loop .inv .3)
 
 outage-zero-requires : tie.Need-outage-zero-requires Inv-loop μ-loop
 outage-zero-requires c κs = (omega arith, omega arith, rw (c .before .before .before .before .before .before .before .before .before .before .before .pre .0 .fitted .versions) (c .before .before .before .loop .inv .1))
@@ -67,7 +67,7 @@ fill-cause-requires c κs = let a = c .before .before .before .before .before .b
 add-requires-2 : tie.Need-add-requires-2 Inv-loop μ-loop
 add-requires-2 c κs = let a = c .before .before .before .before .before .before .before .before .before .before .before .before .before .before .args in
     let w = bounded (a .head) (c .before .before .before .before .before .before .before .before .before .before .before .before .before .before .pre .0 .fitted .head) in
-    summary-fits (a .head) _ _ _ _ _ w (c .before .before .before .before .before .before .before .before .before .before .before .before .before .before .pre .1 .low) (omega (arith, c .before .before .before .before .before .loop-test .taken, c .before .before .before .before .before .before .before .before .before .before .before .before .before .before .pre .2, count-high (a .head) w)) _ (c .before .before .before .before .before .before .loop .inv .3)
+    summary-fits (a .head) _ _ _ _ _ w (c .before .before .before .before .before .before .before .before .before .before .before .before .before .before .pre .1 .low) (omega (arith, c .before .before .before .before .before .loop-test .taken, c .before .before .before .before .before .before .before .before .before .before .before .before .before .before .pre .2)) _ (c .before .before .before .before .before .before .loop .inv .3)
 
 add-k : tie.Need-add-k Inv-loop μ-loop
 add-k c = omega arith

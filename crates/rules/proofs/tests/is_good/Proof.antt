@@ -16,9 +16,6 @@ returns : tie.Need-returns
 unfolding goodAt causeAt causeOf
 returns c = simp (eq-eqb _ _ (c .if1 .taken))
 
-limit-requires : tie.Need-limit-requires
-limit-requires c κs = search needs
-
 mul-cause-of : tie.Need-mul-cause-of
 mul-cause-of c = search needs
 
@@ -42,7 +39,7 @@ is-nothing-requires c κs = search needs
 
 returns-2 : tie.Need-returns-2
 unfolding goodAt causeAt
-returns-2 c = c .is-nothing .ensures ∙ (rw (c .before .cause-of .ensures, c .before .before .before .before .before .limit .ensures))
+returns-2 c = c .is-nothing .ensures ∙ (rw (c .before .cause-of .ensures))
 
 pub is-good-spec : {M : Type 1} → statement M
 is-good-spec =
@@ -51,7 +48,6 @@ is-good-spec =
     mul-if1
     shared-slice-read-if1
     returns
-    limit-requires
     mul-cause-of
     shared-slice-read-cause-of
     mul-cause-of-2

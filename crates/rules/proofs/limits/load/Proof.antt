@@ -1,0 +1,49 @@
+-- `limits::load`: 13 before 1, then the limit at the place.
+use mathlib.Core.Path.{sym, _∙_}
+use borrow.Author.Tests.{le-leb, lt-leb, not-true, not-false}
+use Rattle.rules.specs.Limits.{loadAnswer}
+use borrow.Author.Needs.{needs}
+use Rattle.rules.proofs.limits.load.Statement.{statement}
+use Rattle.rules.proofs.limits.load.Tie as tie
+use Rattle.rules.proofs.limits.table_ok.Reads as table-ok-reads
+
+table-ok-requires : tie.Need-table-ok-requires
+table-ok-requires c κs = search needs
+
+returns : tie.Need-returns
+unfolding loadAnswer
+returns c = rw (sym (c .before .table-ok .ensures) ∙ not-true _ (c .if1 .taken))
+
+returns-2 : tie.Need-returns-2
+unfolding loadAnswer
+returns-2 c = rw (sym (c .before .before .table-ok .ensures) ∙ not-false _ (c .before .if1 .left), lt-leb _ _ (c .if2 .taken))
+
+returns-3 : tie.Need-returns-3
+unfolding loadAnswer
+returns-3 c = rw (sym (c .before .before .before .table-ok .ensures) ∙ not-false _ (c .before .before .if1 .left), le-leb _ _ (c .before .if2 .left), lt-leb _ _ (c .if3 .taken))
+
+sub-t6 : tie.Need-sub-t6
+sub-t6 c = search needs
+
+mul-t7 : tie.Need-mul-t7
+mul-t7 c = search needs
+
+shared-slice-read-t9 : tie.Need-shared-slice-read-t9
+shared-slice-read-t9 c = search needs
+
+returns-4 : tie.Need-returns-4
+unfolding loadAnswer
+returns-4 c = rw (sym (c .before .before .before .before .table-ok .ensures) ∙ not-false _ (c .before .before .before .if1 .left), le-leb _ _ (c .before .before .if2 .left), le-leb _ _ (c .before .if3 .left))
+
+pub load-spec : {M : Type 1} → statement M
+load-spec =
+    tie.close
+    (tie.spec
+    table-ok-requires
+    returns
+    returns-2
+    returns-3
+    sub-t6
+    mul-t7
+    shared-slice-read-t9
+    returns-4)
