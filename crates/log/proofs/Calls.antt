@@ -5,14 +5,16 @@ use mathlib.Core.Path.{_≡_, refl, sym, ap, _∙_}
 use Prim.Native.Nat.{ℕ, _-_, _≤_, _<_, min}
 use native.Mathlib.Omega.{arith}
 use borrow.Author.Tests.{eq-eqb, ne-eqb, lt-ltb, le-ltb}
-use lib.ListN.{length, getD, take, drop, List·getD-map}
+use lib.ListN.{length, getD, take, drop, length-map, List·getD-map}
 use lib.Seq.{getD-take, length-take-le, take-length}
 use Rattle.log.specs.declared.number.Date.the-variants as date
-use Rattle.log.specs.declared.line.Line.the-variants.{Passed, Open, Fill, NoCall}
+use Rattle.log.specs.declared.line.Line.the-variants.{Passed, Table, Open, Fill, NoCall}
+use Rattle.log.specs.declared.limits.Limits.{Limits}
 use Rattle.book.specs.declared.calls.Call.the-variants.{Delivery, Agreed, Holiday, Register}
 use Rattle.log.specs.Numbers.{valueAfter, valueOf, isDate, dateOf, yearPart, monthPart, dayPart}
 use Rattle.log.specs.Words.{words, same, areNumbers}
-use Rattle.log.specs.Line.{openWord, deliveryWord, holidayWord, registerWord, agreedWord, openOf, deliveryOf, holidayOf, registerOf, agreedOf, callOf, withoutCr, isPassed, lineOf}
+use Rattle.log.specs.Line.{openWord, deliveryWord, holidayWord, registerWord, agreedWord, openOf, deliveryOf, holidayOf, registerOf, agreedOf, callOf, withoutCr, isPassed, areLimits, limitsOf, bare, limitsEntry, wordsEntry, entryOf, limitsWord}
+use Rattle.log.proofs.Tables.{some-limits}
 
 -- ---- Fields
 
@@ -138,6 +140,36 @@ module _ (ws : List (List ℕ)) (word : List ℕ) (fields : List (List ℕ)) (e 
           unfolding callOf
           call-none t = rw (e, o, d, h, r, t)
 
+-- ---- A table of limits
+
+module _ (fields : List (List ℕ)) (r : Limits) (e : r ≡ cond (areLimits fields) (limitsOf (map valueOf fields)) (limitsOf [])) where
+  pub is-table : (r .count ≡ 0 → ⊥) → record { line = Table; limits = r } ≡ limitsEntry fields
+  unfolding limitsEntry
+  is-table n = go (areLimits fields) e
+    where
+      go : (t : Bool) → r ≡ cond t (limitsOf (map valueOf fields)) (limitsOf [])
+          → record { line = Table; limits = r } ≡ cond t (record { line = Table; limits = limitsOf (map valueOf fields) }) (bare NoCall)
+      go true f = ap (λ (x : Limits). record { line = Table; limits = x }) f
+      go false f = absurd (n (ap (λ (x : Limits). x .count) f))
+
+  pub no-table : r .count ≡ 0 → bare NoCall ≡ limitsEntry fields
+  unfolding limitsEntry
+  no-table n = go (areLimits fields) refl e
+    where
+      go : (t : Bool) → areLimits fields ≡ t → r ≡ cond t (limitsOf (map valueOf fields)) (limitsOf [])
+          → bare NoCall ≡ cond t (record { line = Table; limits = limitsOf (map valueOf fields) }) (bare NoCall)
+      go true a f = absurd (omega (arith, some-limits fields a, length-map fields valueOf, ap (λ (x : Limits). x .count) f))
+      go false a f = refl
+
+module _ (ws : List (List ℕ)) (word : List ℕ) (fields : List (List ℕ)) (e : ws ≡ word ∷ fields) where
+  pub entry-table : same word limitsWord ≡ true → limitsEntry fields ≡ wordsEntry ws
+  unfolding wordsEntry
+  entry-table t = rw (e, t)
+
+  pub entry-bare : same word limitsWord ≡ false → bare (callOf ws) ≡ wordsEntry ws
+  unfolding wordsEntry
+  entry-bare t = rw (e, t)
+
 -- ---- The line's end, comments, and the longest line
 
 pub cr-empty : (bytes : List ℕ) → length bytes ≡ 0 → withoutCr bytes ≡ take 0 bytes
@@ -154,8 +186,8 @@ unfolding withoutCr
 cr-none bytes n = rw (ne-eqb _ _ n, take-length)
 
 module _ (bytes : List ℕ) (n : ℕ) (l : n ≤ length bytes) (cut : withoutCr bytes ≡ take n bytes) where
-  pub line-empty : n ≡ 0 → Passed ≡ lineOf bytes
-  unfolding lineOf isPassed
+  pub line-empty : n ≡ 0 → bare Passed ≡ entryOf bytes
+  unfolding entryOf isPassed
   line-empty e = rw (cut, e)
 
   module _ (some : n ≡ 0 → ⊥) where
@@ -168,15 +200,15 @@ module _ (bytes : List ℕ) (n : ℕ) (l : n ≤ length bytes) (cut : withoutCr 
     first : getD (take n bytes) 0 0 ≡ getD bytes 0 0
     first = let k : 0 < n = omega arith in getD-take n bytes 0 0 k
 
-    pub line-comment : getD bytes 0 0 ≡ 35 → Passed ≡ lineOf bytes
-    unfolding lineOf isPassed
+    pub line-comment : getD bytes 0 0 ≡ 35 → bare Passed ≡ entryOf bytes
+    unfolding entryOf isPassed
     line-comment e = rw (cut, ne-eqb _ _ some′, first, eq-eqb _ _ e)
 
     module _ (c : getD bytes 0 0 ≡ 35 → ⊥) where
-      pub line-long : 255 < n → NoCall ≡ lineOf bytes
-      unfolding lineOf isPassed
+      pub line-long : 255 < n → bare NoCall ≡ entryOf bytes
+      unfolding entryOf isPassed
       line-long k = rw (cut, ne-eqb _ _ some′, first, ne-eqb _ _ c, long, lt-ltb _ _ k)
 
-      pub line-call : n ≤ 255 → callOf (words (take n bytes)) ≡ lineOf bytes
-      unfolding lineOf isPassed
+      pub line-call : n ≤ 255 → wordsEntry (words (take n bytes)) ≡ entryOf bytes
+      unfolding entryOf isPassed
       line-call k = rw (cut, ne-eqb _ _ some′, first, ne-eqb _ _ c, long, le-ltb _ _ k)

@@ -1,4 +1,5 @@
 pub mod Reading
 pub mod Splitting
 pub mod Fields
+pub mod Tables
 pub mod Calls

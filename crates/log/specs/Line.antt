@@ -1,12 +1,14 @@
 -- Which lines of a log are calls, and which call.
 use mathlib.Core.Bool.{Bool, cond, _&&_, _||_}
-use mathlib.Core.List.{List, [], _∷_}
+use mathlib.Core.List.{List, [], _∷_, _++_, map}
 use Prim.Native.Nat.{ℕ, _-_, min}
-use lib.Dec.{ltb, eqb}
-use lib.ListN.{length, getD, take}
-use Rattle.rules.specs.declared.Head.{Head}
+use lib.Dec.{leb, ltb, eqb}
+use lib.ListN.{length, getD, take, replicate}
+use Rattle.log.specs.declared.line.Opening.{Opening}
 use Rattle.log.specs.declared.line.Line.{Line}
-use Rattle.log.specs.declared.line.Line.the-variants.{Passed, Open, Fill, NoCall}
+use Rattle.log.specs.declared.line.Line.the-variants.{Passed, Table, Open, Fill, NoCall}
+use Rattle.log.specs.declared.limits.Limits.{Limits}
+use Rattle.log.specs.declared.line.Entry.{Entry}
 use Rattle.book.specs.declared.calls.Call.the-variants.{Delivery, Agreed, Holiday, Register}
 use Rattle.log.specs.Numbers.{valueOf, isDate, yearPart, monthPart, dayPart}
 use Rattle.log.specs.Words.{words, same, areNumbers}
@@ -32,8 +34,8 @@ abbrev pub value : List (List ℕ) → ℕ → ℕ
 value fields i = valueOf (getD fields i [])
 
 -- date, days, interval, kind, tolerance
-abbrev pub headOf : List ℕ → List (List ℕ) → Head
-headOf date fields = record {
+abbrev pub openingOf : List ℕ → List (List ℕ) → Opening
+openingOf date fields = record {
   year = valueOf (yearPart date);
   month = valueOf (monthPart date);
   day = valueOf (dayPart date);
@@ -45,7 +47,7 @@ headOf date fields = record {
 
 unfoldable pub openOf : List (List ℕ) → Line
 openOf [] = NoCall
-openOf (date ∷ fields) = cond (isDate date && areNumbers 4 fields) (Open (headOf date fields)) NoCall
+openOf (date ∷ fields) = cond (isDate date && areNumbers 4 fields) (Open (openingOf date fields)) NoCall
 
 -- slot, version, value, status; the call takes a byte as status, so one over 255 is given as 255: both are over 7 and refused with 5
 unfoldable pub deliveryOf : List (List ℕ) → Line
@@ -83,8 +85,30 @@ withoutCr bytes = cond (eqb (getD bytes (length bytes - 1) 0) 13) (take (length 
 unfoldable pub isPassed : List ℕ → Bool
 isPassed line = eqb (length line) 0 || eqb (getD line 0 0) 35
 
+-- `limits` in ASCII, and 1 to 24 numbers (02, W5)
+abbrev pub limitsWord : List ℕ
+limitsWord = 108 ∷ 105 ∷ 109 ∷ 105 ∷ 116 ∷ 115 ∷ []
+
+unfoldable pub areLimits : List (List ℕ) → Bool
+areLimits fields = leb 1 (length fields) && leb (length fields) 24 && areNumbers (length fields) fields
+
+-- a table in 24 places, zeros behind it
+abbrev pub limitsOf : List ℕ → Limits
+limitsOf table = record { values = table ++ replicate (24 - length table) 0; count = length table }
+
+-- a line with no table
+abbrev pub bare : Line → Entry
+bare line = record { line = line; limits = limitsOf [] }
+
+unfoldable pub limitsEntry : List (List ℕ) → Entry
+limitsEntry fields = cond (areLimits fields) (record { line = Table; limits = limitsOf (map valueOf fields) }) (bare NoCall)
+
+unfoldable pub wordsEntry : List (List ℕ) → Entry
+wordsEntry [] = bare NoCall
+wordsEntry (word ∷ fields) = cond (same word limitsWord) (limitsEntry fields) (bare (callOf (word ∷ fields)))
+
 -- the bytes of a line without its LF
-unfoldable pub lineOf : List ℕ → Line
-lineOf bytes =
-    cond (isPassed (withoutCr bytes)) Passed
-    (cond (ltb 255 (length (withoutCr bytes))) NoCall (callOf (words (withoutCr bytes))))
+unfoldable pub entryOf : List ℕ → Entry
+entryOf bytes =
+    cond (isPassed (withoutCr bytes)) (bare Passed)
+    (cond (ltb 255 (length (withoutCr bytes))) (bare NoCall) (wordsEntry (words (withoutCr bytes))))

@@ -1,4 +1,5 @@
 // Text logs: one call a line.
+pub mod limits;
 pub mod line;
 pub mod number;
 pub mod pieces;

@@ -1,23 +1,42 @@
-// One line of a log: passed over, a call, or no call.
+// One line of a log: passed over, a table of limits, a call, or neither.
+use crate::limits;
+use crate::limits::Limits;
 use crate::number;
 use crate::number::Date;
 use crate::pieces;
 use crate::words;
 use book::calls::Call;
-use rules::Head;
 ghost use mathlib.Core.Path.{_≡_};
 ghost use Prim.Native.Nat.{_≤_, min};
 ghost use lib.ListN.{length};
 ghost use Rattle.log.specs.Words.{words as wordsOf};
-ghost use Rattle.log.specs.Line.{openOf, deliveryOf, holidayOf, registerOf, agreedOf, callOf, lineOf};
+ghost use Rattle.log.specs.Line.{openOf, deliveryOf, holidayOf, registerOf, agreedOf, callOf, bare as bareOf, limitsEntry, wordsEntry, entryOf};
 ghost use Rattle.log.specs.Inner.Parsing.{piecesAfter, cutAt};
+
+// The figures of an opening. Its kind is a place in a table of demand limits.
+pub struct Opening {
+    pub year: u32,
+    pub month: u32,
+    pub day: u32,
+    pub days: u32,
+    pub interval: u32,
+    pub kind: u32,
+    pub tolerance: u32,
+}
 
 // What a line is.
 pub enum Line {
     Passed,
-    Open(Head),
+    Table,
+    Open(Opening),
     Fill(Call),
     NoCall,
+}
+
+// A line, and the table where it is one.
+pub struct Entry {
+    pub line: Line,
+    pub limits: Limits,
 }
 
 fn status_byte(status: u32) -> u8
@@ -43,7 +62,7 @@ fn open_after(line: &[u8], end: usize) -> Line
     if !fields.good {
         return Line::NoCall;
     }
-    Line::Open(Head {
+    Line::Open(Opening {
         year,
         month,
         day,
@@ -148,19 +167,52 @@ fn without_cr(bytes: &[u8]) -> usize
     bytes.len()
 }
 
+// A line with no table.
+pub fn bare(line: Line) -> Entry
+    ensures { λ r. ⌜ r ≡ bareOf line ⌝ }
+{
+    let limits = limits::none();
+    Entry { line, limits }
+}
+
+// The fields after `limits`, which ends at `end`.
+fn limits_entry(line: &[u8], end: usize) -> Entry
+    requires { ⌜ end ≤ length (now line) ⌝ }
+    ensures { λ r. ⌜ r ≡ limitsEntry (piecesAfter 32 (now (line .entry)) end) ⌝ }
+{
+    let limits = limits::limits_after(line, end);
+    if limits.count == 0 {
+        return bare(Line::NoCall);
+    }
+    Entry {
+        line: Line::Table,
+        limits,
+    }
+}
+
+fn words_entry(line: &[u8]) -> Entry
+    ensures { λ r. ⌜ r ≡ wordsEntry (wordsOf (now (line .entry))) ⌝ }
+{
+    let end = pieces::end_of(line, 0, b' ');
+    if words::is_same(&line[..end], b"limits") {
+        return limits_entry(line, end);
+    }
+    bare(call_of(line))
+}
+
 // What the bytes of a line, without its LF, are.
-pub fn line_of(bytes: &[u8]) -> Line
-    ensures { λ r. ⌜ r ≡ lineOf (now (bytes .entry)) ⌝ }
+pub fn entry_of(bytes: &[u8]) -> Entry
+    ensures { λ r. ⌜ r ≡ entryOf (now (bytes .entry)) ⌝ }
 {
     let n = without_cr(bytes);
     if n == 0 {
-        return Line::Passed;
+        return bare(Line::Passed);
     }
     if bytes[0] == b'#' {
-        return Line::Passed;
+        return bare(Line::Passed);
     }
     if 255 < n {
-        return Line::NoCall;
+        return bare(Line::NoCall);
     }
-    call_of(&bytes[..n])
+    words_entry(&bytes[..n])
 }

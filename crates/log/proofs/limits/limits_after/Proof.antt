@@ -1,0 +1,104 @@
+-- `limits::limits_after`: the numbers passed stand in front of zeros, and the words left follow.
+use borrow.Author.Needs.{needs}
+use mathlib.Core.Path.{sym, _∙_}
+use Prim.Native.Nat.{_≤_, _-_}
+use native.Mathlib.Omega.{arith}
+use lib.ListN.{length}
+use Rattle.log.specs.Inner.Parsing.{piecesAfter}
+use Rattle.log.proofs.Splitting.{pieces}
+use Rattle.log.proofs.Fields.{no-words, more-words}
+use Rattle.log.proofs.Tables.{Passed, none-passed, passed-too-many, passed-not, passed-next, passed-all}
+use Rattle.log.proofs.limits.limits_after.Statement.{statement}
+use Rattle.log.proofs.limits.limits_after.Tie as tie
+use Rattle.log.proofs.limits.none.Reads as none-reads
+use Rattle.log.proofs.number.number_of.Reads as number-of-reads
+use Rattle.log.proofs.pieces.end_of.Reads as end-of-reads
+
+abbrev Inv-loop : tie.InvT-loop
+Inv-loop line end values₀ count₀ at₀ values count at = (at ≤ length line) × Passed (piecesAfter 32 line end) (piecesAfter 32 line at) values count
+
+abbrev μ-loop : tie.MeasureT-loop
+μ-loop line end values₀ count₀ at₀ values count at = length line - at
+
+loop-holds : tie.Need-loop-holds Inv-loop μ-loop
+loop-holds c = (search needs, none-passed _)
+
+none-requires : tie.Need-none-requires Inv-loop μ-loop
+none-requires c κs = search needs
+
+returns : tie.Need-returns Inv-loop μ-loop
+returns c = c .none .ensures ∙ passed-too-many _ (c .before .before .before .before .before .args .line .now) _ (c .before .before .before .loop .at) _ (c .before .before .loop-test .taken) (c .before .before .before .loop .inv .1) (c .before .if1 .taken)
+
+add-from : tie.Need-add-from Inv-loop μ-loop
+add-from c = search needs
+
+end-of-requires : tie.Need-end-of-requires Inv-loop μ-loop
+end-of-requires c κs = search needs
+
+sub-number-of : tie.Need-sub-number-of Inv-loop μ-loop
+sub-number-of c = search needs
+
+part-number-of-start : tie.Need-part-number-of-start Inv-loop μ-loop
+part-number-of-start c = search needs
+
+part-number-of-end : tie.Need-part-number-of-end Inv-loop μ-loop
+part-number-of-end c = search needs
+
+number-of-requires : tie.Need-number-of-requires Inv-loop μ-loop
+number-of-requires c κs = search needs
+
+enum-known-value : tie.Need-enum-known-value Inv-loop μ-loop
+enum-known-value c = search needs
+
+enum-told : tie.Need-enum-told Inv-loop μ-loop
+enum-told c = search needs
+
+none-requires-2 : tie.Need-none-requires-2 Inv-loop μ-loop
+none-requires-2 c κs = search needs
+
+returns-2 : tie.Need-returns-2 Inv-loop μ-loop
+returns-2 c = c .none2 .ensures ∙ passed-not _ _ _ _ _ _ (c .before .before .before .before .before .before .before .before .loop .inv .1) (more-words (c .before .before .before .before .before .before .before .before .before .before .args .line .now) (c .before .before .before .before .before .before .before .before .loop .at) (c .before .before .before .before .before .before .before .loop-test .taken) ∙ pieces 32 _ _ (c .before .before .before .before .before .end-of .result) (c .before .before .before .before .before .end-of .ensures .2)) (sym (c .before .before .before .number-of .ensures) ∙ c .before .enum-told .given .1)
+
+mul-values : tie.Need-mul-values Inv-loop μ-loop
+mul-values c = search needs
+
+array-write-values : tie.Need-array-write-values Inv-loop μ-loop
+array-write-values c = omega (arith, c .before .before .before .before .before .before .before .before .loop .inv .1 .few, c .before .before .before .before .before .before .if1 .left)
+
+add-count : tie.Need-add-count Inv-loop μ-loop
+add-count c = omega (arith, c .before .before .before .before .before .before .before .before .loop .inv .1 .few)
+
+loop-less : tie.Need-loop-less Inv-loop μ-loop
+loop-less c = omega (arith, c .before .before .before .before .before .end-of .ensures .0, c .before .before .before .before .before .end-of .ensures .1)
+
+loop-again : tie.Need-loop-again Inv-loop μ-loop
+loop-again c = (c .before .before .before .before .before .end-of .ensures .1, passed-next _ _ _ _ _ _ (c .before .before .before .before .before .before .before .before .loop .inv .1) (more-words (c .before .before .before .before .before .before .before .before .before .before .args .line .now) (c .before .before .before .before .before .before .before .before .loop .at) (c .before .before .before .before .before .before .before .loop-test .taken) ∙ pieces 32 _ _ (c .before .before .before .before .before .end-of .result) (c .before .before .before .before .before .end-of .ensures .2)) (c .before .before .before .before .before .before .if1 .left) _ (sym (c .before .before .before .number-of .ensures) ∙ c .before .value .given .1))
+
+returns-3 : tie.Need-returns-3 Inv-loop μ-loop
+returns-3 c = passed-all _ _ _ _ (c .before .loop .inv .1) (no-words (c .before .before .before .args .line .now) (c .before .loop .at) (c .loop-test .left))
+
+pub limits-after-spec : {M : Type 1} → statement M
+limits-after-spec =
+    tie.close
+    (tie.spec
+    Inv-loop
+    μ-loop
+    loop-holds
+    none-requires
+    returns
+    add-from
+    end-of-requires
+    sub-number-of
+    part-number-of-start
+    part-number-of-end
+    number-of-requires
+    enum-known-value
+    enum-told
+    none-requires-2
+    returns-2
+    mul-values
+    array-write-values
+    add-count
+    loop-less
+    loop-again
+    returns-3)

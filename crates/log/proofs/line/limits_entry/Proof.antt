@@ -1,0 +1,23 @@
+-- `line::limits_entry`: a count of 0 is no table.
+use mathlib.Core.Path.{_∙_}
+use Rattle.log.proofs.Calls.{is-table, no-table}
+use borrow.Author.Needs.{needs}
+use Rattle.log.proofs.line.limits_entry.Statement.{statement}
+use Rattle.log.proofs.line.limits_entry.Tie as tie
+use Rattle.log.proofs.limits.limits_after.Reads as limits-after-reads
+use Rattle.log.proofs.line.bare.Reads as bare-reads
+
+limits-after-requires : tie.Need-limits-after-requires
+limits-after-requires c κs = search needs
+
+bare-requires : tie.Need-bare-requires
+bare-requires c κs = search needs
+
+returns : tie.Need-returns
+returns c = c .bare .ensures ∙ no-table _ _ (c .before .before .before .limits-after .ensures) (c .before .if1 .taken)
+
+returns-2 : tie.Need-returns-2
+returns-2 c = is-table _ _ (c .before .before .limits-after .ensures) (c .if1 .left)
+
+pub limits-entry-spec : {M : Type 1} → statement M
+limits-entry-spec = tie.close (tie.spec limits-after-requires bare-requires returns returns-2)

@@ -1,0 +1,55 @@
+-- `line::words_entry`: `limits`, or a call.
+use mathlib.Core.Path.{sym, ap, _∙_}
+use lib.Seq.{length-take-le}
+use Rattle.log.specs.Line.{bare}
+use Rattle.log.proofs.Splitting.{pieces}
+use Rattle.log.proofs.Calls.{first-word, entry-table, entry-bare}
+use borrow.Author.Needs.{needs}
+use Rattle.log.proofs.line.words_entry.Statement.{statement}
+use Rattle.log.proofs.line.words_entry.Tie as tie
+use Rattle.log.proofs.line.bare.Reads as bare-reads
+use Rattle.log.proofs.line.call_of.Reads as call-of-reads
+use Rattle.log.proofs.line.limits_entry.Reads as limits-entry-reads
+use Rattle.log.proofs.pieces.end_of.Reads as end-of-reads
+use Rattle.log.proofs.words.is_same.Reads as is-same-reads
+
+end-of-requires : tie.Need-end-of-requires
+end-of-requires c κs = search needs
+
+slice-aggregate-is-same : tie.Need-slice-aggregate-is-same
+slice-aggregate-is-same c = sym (length-take-le _ _ (c .before .end-of .ensures .1))
+
+slice-aggregate-is-same-2 : tie.Need-slice-aggregate-is-same-2
+slice-aggregate-is-same-2 c = search needs
+
+is-same-requires : tie.Need-is-same-requires
+is-same-requires c κs = search needs
+
+limits-entry-requires : tie.Need-limits-entry-requires
+limits-entry-requires c κs = search needs
+
+returns : tie.Need-returns
+returns c = c .limits-entry .ensures ∙ entry-table _ _ _ (first-word _ (c .before .before .before .before .before .end-of .result) _ (pieces 32 _ _ (c .before .before .before .before .before .end-of .result) (c .before .before .before .before .before .end-of .ensures .2))) (sym (c .before .before .is-same .ensures) ∙ c .before .if1 .taken)
+
+call-of-requires : tie.Need-call-of-requires
+call-of-requires c κs = search needs
+
+bare-requires : tie.Need-bare-requires
+bare-requires c κs = search needs
+
+returns-2 : tie.Need-returns-2
+returns-2 c = c .bare .ensures ∙ ap bare (c .before .call-of .ensures) ∙ entry-bare _ _ _ (first-word _ (c .before .before .before .before .before .before .end-of .result) _ (pieces 32 _ _ (c .before .before .before .before .before .before .end-of .result) (c .before .before .before .before .before .before .end-of .ensures .2))) (sym (c .before .before .before .is-same .ensures) ∙ c .before .before .if1 .left)
+
+pub words-entry-spec : {M : Type 1} → statement M
+words-entry-spec =
+    tie.close
+    (tie.spec
+    end-of-requires
+    slice-aggregate-is-same
+    slice-aggregate-is-same-2
+    is-same-requires
+    limits-entry-requires
+    returns
+    call-of-requires
+    bare-requires
+    returns-2)

@@ -1,0 +1,50 @@
+// The table of a line `limits` (02, W5).
+use crate::number;
+use crate::number::Number;
+use crate::pieces;
+ghost use mathlib.Core.Bool.{cond};
+ghost use mathlib.Core.List.{[], map};
+ghost use mathlib.Core.Path.{_≡_};
+ghost use Prim.Native.Nat.{_≤_};
+ghost use lib.ListN.{length};
+ghost use Rattle.log.specs.Numbers.{valueOf};
+ghost use Rattle.log.specs.Line.{areLimits, limitsOf};
+ghost use Rattle.log.specs.Inner.Parsing.{piecesAfter};
+
+// The first `count` values are a table; a count of 0 is none.
+pub struct Limits {
+    pub values: [u32; 24],
+    pub count: usize,
+}
+
+pub fn none() -> Limits
+    ensures { λ r. ⌜ r ≡ limitsOf [] ⌝ }
+{
+    Limits {
+        values: [0; 24],
+        count: 0,
+    }
+}
+
+// The words after the one that ends at `end`, where they are 1 to 24 numbers.
+pub fn limits_after(line: &[u8], end: usize) -> Limits
+    requires { ⌜ end ≤ length (now line) ⌝ }
+    ensures { λ r. ⌜ r ≡ cond (areLimits (piecesAfter 32 (now (line .entry)) end)) (limitsOf (map valueOf (piecesAfter 32 (now (line .entry)) end))) (limitsOf []) ⌝ }
+{
+    let mut values = [0u32; 24];
+    let mut count: usize = 0;
+    let mut at = end;
+    while at < line.len() {
+        if count == 24 {
+            return none();
+        }
+        let from = at + 1;
+        at = pieces::end_of(line, from, b' ');
+        let Number::Is(value) = number::number_of(&line[from..at]) else {
+            return none();
+        };
+        values[count] = value;
+        count += 1;
+    }
+    Limits { values, count }
+}
