@@ -128,8 +128,10 @@ fn main() {
     if !first.good {
         return;
     }
-    let line = first.line;
-    let sizes = program::sizes_of(line);
+    let entry = first.entry;
+    let line = entry.line;
+    let run = lead.run;
+    let sizes = program::sizes_of(run, line);
     let slots = sizes.slots;
     let days = sizes.days;
     let boundaries = sizes.boundaries;

@@ -1,4 +1,5 @@
 -- Bytes put into hand, and a step through a block.
+use mathlib.Core.Bool.{true}
 use mathlib.Core.List.{List, [], _∷_, _++_, map, append-assoc}
 use mathlib.Core.Path.{_≡_, sym, ap, _∙_}
 use Prim.Native.Nat.{ℕ, _+_, _-_, _≤_, _<_}
@@ -7,11 +8,11 @@ use native.Mathlib.Omega.{arith}
 use borrow.Author.Tests.{lt-ltb, le-ltb}
 use lib.ListN.{length, getD, take, drop, set, take-append-drop}
 use lib.Seq.{take-suc, take-suc-set, take-at, take-all, length-take-le, take-length}
-use Rattle.log.specs.declared.line.Line.{Line}
+use Rattle.log.specs.declared.line.Entry.{Entry}
 use Rattle.log.specs.Words.{split}
-use Rattle.log.specs.Line.{lineOf}
+use Rattle.log.specs.Line.{entryOf}
 use Rattle.rules.specs.Opening.{Cells}
-use Rattle.play.specs.declared.feed.Taken.the-variants.{Ended}
+use Rattle.play.specs.declared.feed.Taken.{Taken}
 use Rattle.play.specs.declared.play.Run.{Run}
 use Rattle.play.specs.Playing.{played, playedCells}
 use Rattle.play.specs.Log.{linesFrom, withAnswer, outcome}
@@ -51,23 +52,25 @@ module _ (block : List ℕ) (at end cap : ℕ) (hand hand′ : List ℕ) (room :
   line-goes-on e more =
       let no : length block ≤ end = omega arith in
       let grows : split 10 hand (drop at block ++ more) ≡ split 10 grown more = rw (le-ltb _ _ no) at (pieces hand more) in
-      ap (map lineOf) grows ∙ rw kept (sym (lines-alike (take cap grown) grown more (alike cap grown room)))
+      ap (map entryOf) grows ∙ rw kept (sym (lines-alike (take cap grown) grown more (alike cap grown room)))
 
   pub line-ends : end < length block → (more : List ℕ)
-      → linesFrom hand (drop at block ++ more) ≡ lineOf hand′ ∷ linesFrom [] (drop (end + 1) block ++ more)
+      → linesFrom hand (drop at block ++ more) ≡ entryOf hand′ ∷ linesFrom [] (drop (end + 1) block ++ more)
   unfolding linesFrom piecesFrom
   line-ends l more =
       let ends : split 10 hand (drop at block ++ more) ≡ grown ∷ split 10 [] (drop (end + 1) block ++ more) = rw (lt-ltb _ _ l) at (pieces hand more) in
-      ap (map lineOf) ends ∙ rw kept (ap (λ (x : Line). x ∷ map lineOf (split 10 [] (drop (end + 1) block ++ more))) (sym (now-alike (take cap grown) grown (alike cap grown room))))
+      ap (map entryOf) ends ∙ rw kept (ap (λ (x : Entry). x ∷ map entryOf (split 10 [] (drop (end + 1) block ++ more))) (sym (now-alike (take cap grown) grown (alike cap grown room))))
 
 -- a source in a block and a part that are as long
 pub held-as : {s : Source} {m n : ℕ} (m′ n′ : ℕ) → Held s m n → m ≡ m′ → n ≡ n′ → Held s m′ n′
 held-as m′ n′ h e f = record { order = h .order; inside = omega (arith, h .inside); room = omega (arith, h .room); held = omega (arith, h .held) }
 
 -- what a log comes to is what its line in hand does, and then what the bytes after it come to, wherever a block ends
-pub blocks-make-no-difference : (run : Run) (b : Cells) (block part part′ : List ℕ) (at count : ℕ) (line : Line) (next : ℕ)
-    → Stepped block at part part′ count (Ended line next) → (more : List ℕ)
+pub blocks-make-no-difference : (run : Run) (b : Cells) (block part part′ : List ℕ) (at count : ℕ) (r : Taken) → r .ended ≡ true
+    → Stepped block at part part′ count r → (more : List ℕ)
     → outcome run b (linesFrom (take count part) (drop at block ++ more))
-    ≡ withAnswer (played run b line .said) (outcome (played run b line .run) (playedCells run b line) (linesFrom [] (drop next block ++ more)))
+    ≡ withAnswer (played run b (r .entry) .said) (outcome (played run b (r .entry) .run) (playedCells run b (r .entry)) (linesFrom [] (drop (r .at) block ++ more)))
 unfolding outcome
-blocks-make-no-difference run b block part part′ at count line next s more = ap (outcome run b) (s .same more)
+blocks-make-no-difference run b block part part′ at count r e s more =
+    let line : linesFrom (take count part) (drop at block ++ more) ≡ r .entry ∷ linesFrom [] (drop (r .at) block ++ more) = rw e at (s .same more) in
+    ap (outcome run b) line

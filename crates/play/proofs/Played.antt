@@ -1,5 +1,6 @@
 -- The case of a line, of an answer and of a stage put into what a line comes to.
-use mathlib.Core.Path.{_≡_, sym, ap, _∙_}
+use mathlib.Core.Bool.{true, false, false≢true}
+use mathlib.Core.Path.{_≡_, refl, sym, ap, _∙_}
 use Prim.Native.Nat.{ℕ, _+_, _≤_, _<_}
 use borrow.Author.Tests.{lt-ltb, le-ltb}
 use Rattle.rules.specs.declared.Head.{Head}
@@ -9,12 +10,18 @@ use Rattle.book.specs.Answers.Answer.{refused}
 use Rattle.book.specs.Opening.{openAnswer, openAfter}
 use Rattle.log.specs.declared.line.Line.{Line}
 use Rattle.log.specs.declared.line.Line.the-variants as line
+use Rattle.log.specs.declared.line.Opening.{Opening}
+use Rattle.log.specs.declared.line.Entry.{Entry}
+use Rattle.log.specs.declared.limits.Limits.{Limits}
+use Rattle.rules.specs.Limits.{loadAnswer}
+use Rattle.rules.specs.declared.limits.Loaded.{Loaded}
+use Rattle.rules.specs.declared.limits.Loaded.the-variants as loaded
 use Rattle.play.specs.declared.play.Stage.{Stage}
 use Rattle.play.specs.declared.play.Stage.the-variants as stage
 use Rattle.play.specs.declared.play.Said.the-variants as said
 use Rattle.play.specs.declared.play.Run.{Run}
 use Rattle.play.specs.declared.play.Played.{Played}
-use Rattle.play.specs.Playing.{saidOf, counted, moved, stageOf, afterOpening, refusedAfter, afterFilling, playedClosed, closedCells, playedOpen, openCells, playedAt, played, cellsAt, playedCells}
+use Rattle.play.specs.Playing.{saidOf, counted, moved, quiet, stageOf, afterOpening, refusedAfter, afterFilling, tableOf, withTable, headWith, refusedWith, openedWith, cellsWith, isTable, playedClosed, closedCells, playedFirst, playedOpen, openCells, playedAt, played, cellsAt, playedCells}
 
 pub count-more : (n : ℕ) → n < 18446744073709551615 → n + 1 ≡ counted n
 unfolding counted
@@ -26,7 +33,7 @@ count-full n l = rw (le-ltb _ _ l)
 
 module _ (run : Run) (a x : Answer) (e : a ≡ x) where
   pub opened-as : (h : Head) (lines : ℕ) → lines ≡ counted (run .lines)
-      → record { run = record { stage = stageOf x; head = h; lines = lines; refused = run .refused }; said = saidOf x } ≡ afterOpening run h a
+      → record { run = record { stage = stageOf x; limits = run .limits; head = h; lines = lines; refused = run .refused }; said = saidOf x } ≡ afterOpening run h a
   unfolding afterOpening
   opened-as h lines f = rw (e, f)
 
@@ -37,24 +44,59 @@ module _ (run : Run) (a x : Answer) (e : a ≡ x) where
 
 pub refused-as : (run : Run) (a : Answer) (n : ℕ) → a ≡ refused n → (next : Run) (count : ℕ) → next ≡ moved run stage.Open
     → count ≡ counted (next .refused)
-    → record { run = record { stage = stage.Open; head = next .head; lines = next .lines; refused = count }; said = said.Refused n }
+    → record { run = record { stage = stage.Open; limits = next .limits; head = next .head; lines = next .lines; refused = count }; said = said.Refused n }
     ≡ afterFilling run a
 unfolding afterFilling moved
 refused-as run a n e next count f g = rw (e, g, f)
 
 module _ (run : Run) (b : Cells) (l : Line) (p : Played) (c : Cells) where
   module _ (x : Line) (e : l ≡ x) where
-    pub closed-as : p ≡ playedClosed run b x → c ≡ closedCells b x → (p ≡ playedClosed run b l) × (c ≡ closedCells b l)
+    pub closed-as : p ≡ playedClosed run b x → c ≡ closedCells run b x → (p ≡ playedClosed run b l) × (c ≡ closedCells run b l)
     closed-as f g = rw e (f, g)
 
     pub open-as : p ≡ playedOpen run b x → c ≡ openCells run b x → (p ≡ playedOpen run b l) × (c ≡ openCells run b l)
     open-as f g = rw e (f, g)
 
-  pub opening-as : (h : Head) (a : Answer) → l ≡ line.Open h → p ≡ afterOpening run h a → a ≡ openAnswer h b
-      → c ≡ openAfter h b → (p ≡ playedClosed run b l) × (c ≡ closedCells b l)
-  unfolding playedClosed closedCells
-  opening-as h a e f g k = closed-as (line.Open h) e (f ∙ ap (afterOpening run h) g) k
+module _ (run : Run) (b : Cells) (o : Opening) (a : Loaded) (p : Played) (c : Cells) where
+  pub loaded-as : (n : ℕ) (h : Head) (x : Answer) → a ≡ loaded.Limit n → h ≡ headWith o n → p ≡ afterOpening run h x → x ≡ openAnswer h b
+      → c ≡ openAfter h b → (p ≡ openedWith run b o a) × (c ≡ cellsWith b o a)
+  unfolding openedWith cellsWith
+  loaded-as n h x e k f g m = rw (e, ← k) (f ∙ ap (afterOpening run h) g, m)
 
-  pub stage-as : (s : Stage) → run .stage ≡ s → p ≡ playedAt s run b l → c ≡ cellsAt s run b l → (p ≡ played run b l) × (c ≡ playedCells run b l)
+  pub unloaded-as : (n : ℕ) → a ≡ loaded.Refused n → p ≡ refusedWith run n → c ≡ b → (p ≡ openedWith run b o a) × (c ≡ cellsWith b o a)
+  unfolding openedWith cellsWith
+  unloaded-as n e f g = rw e (f, g)
+
+module _ (run : Run) (limits : Limits) (a : Loaded) (n : ℕ) where
+  pub table-loads : a ≡ loaded.Limit n
+      → quiet (record { stage = run .stage; limits = limits; head = run .head; lines = run .lines; refused = run .refused }) stage.Limited ≡ withTable run limits a
+  unfolding withTable
+  table-loads e = rw e
+
+  pub table-refused : a ≡ loaded.Refused n → quiet run (stage.Refused n) ≡ withTable run limits a
+  unfolding withTable
+  table-refused e = rw e
+
+-- a table leaves the lists as they are
+table-cells : (run : Run) (b : Cells) (l : Line) → isTable l ≡ true → b ≡ closedCells run b l
+unfolding closedCells
+table-cells run b line.Passed e = refl
+table-cells run b line.Table e = refl
+table-cells run b (line.Open o) e = absurd (false≢true e)
+table-cells run b (line.Fill call) e = refl
+table-cells run b line.NoCall e = refl
+
+module _ (run : Run) (b : Cells) (x : Entry) (p : Played) (c : Cells) where
+  pub table-as : isTable (x .line) ≡ true → p ≡ withTable run (x .limits) (loadAnswer (tableOf (x .limits)) 1) → c ≡ b
+      → (p ≡ playedFirst run b x) × (c ≡ closedCells run b (x .line))
+  unfolding playedFirst
+  table-as e f g = (rw e f, g ∙ table-cells run b (x .line) e)
+
+  pub first-as : isTable (x .line) ≡ false → (p ≡ playedClosed run b (x .line)) → c ≡ closedCells run b (x .line)
+      → (p ≡ playedFirst run b x) × (c ≡ closedCells run b (x .line))
+  unfolding playedFirst
+  first-as e f g = (rw e f, g)
+
+  pub stage-as : (s : Stage) → run .stage ≡ s → p ≡ playedAt s run b x → c ≡ cellsAt s run b x → (p ≡ played run b x) × (c ≡ playedCells run b x)
   unfolding played playedCells
-  stage-as s e f g = (f ∙ ap (λ (x : Stage). playedAt x run b l) (sym e), g ∙ ap (λ (x : Stage). cellsAt x run b l) (sym e))
+  stage-as s e f g = (f ∙ ap (λ (y : Stage). playedAt y run b x) (sym e), g ∙ ap (λ (y : Stage). cellsAt y run b x) (sym e))

@@ -2,17 +2,17 @@
 use mathlib.Core.List.{List, [], _∷_, map}
 use Prim.Native.Nat.{ℕ}
 use Rattle.rules.specs.Opening.{Cells}
-use Rattle.log.specs.declared.line.Line.{Line}
+use Rattle.log.specs.declared.line.Entry.{Entry}
 use Rattle.play.specs.declared.play.Run.{Run}
 use Rattle.play.specs.declared.play.Said.{Said}
 use Rattle.play.specs.declared.play.Said.the-variants.{Nothing, Done, Stored, Late, Repeat, Refused}
 use Rattle.log.specs.Words.{split}
-use Rattle.log.specs.Line.{lineOf}
+use Rattle.log.specs.Line.{entryOf}
 use Rattle.play.specs.Playing.{played, playedCells}
 
 -- lines end in LF, the last one perhaps not; where it does, an empty line follows, which is passed over. The first line begins with `begun`
-unfoldable pub linesFrom : List ℕ → List ℕ → List Line
-linesFrom begun bytes = map lineOf (split 10 begun bytes)
+unfoldable pub linesFrom : List ℕ → List ℕ → List Entry
+linesFrom begun bytes = map entryOf (split 10 begun bytes)
 
 -- the run and the lists at the end, and the answers in order
 pub record Outcome : Type 0 where
@@ -29,6 +29,6 @@ withAnswer Late o = record { run = o .run; cells = o .cells; answers = Late ∷ 
 withAnswer Repeat o = record { run = o .run; cells = o .cells; answers = Repeat ∷ o .answers }
 withAnswer (Refused n) o = record { run = o .run; cells = o .cells; answers = Refused n ∷ o .answers }
 
-unfoldable pub outcome : Run → Cells → List Line → Outcome
+unfoldable pub outcome : Run → Cells → List Entry → Outcome
 outcome run b [] = record { run = run; cells = b; answers = [] }
 outcome run b (l ∷ ls) = withAnswer (played run b l .said) (outcome (played run b l .run) (playedCells run b l) ls)

@@ -1,7 +1,12 @@
 -- What a log comes to: its lines played one after another.
 use mathlib.Core.Bool.{Bool, true, false, cond}
+use mathlib.Core.List.{List, [], _∷_}
 use Prim.Native.Nat.{ℕ, _+_}
 use lib.Dec.{ltb}
+use lib.ListN.{take}
+use Rattle.rules.specs.Limits.{loadAnswer}
+use Rattle.rules.specs.declared.limits.Loaded.{Loaded}
+use Rattle.rules.specs.declared.limits.Loaded.the-variants as loaded
 use Rattle.rules.specs.declared.Head.{Head}
 use Rattle.rules.specs.Opening.{Cells}
 use Rattle.book.specs.Answers.{Answer}
@@ -11,6 +16,10 @@ use Rattle.book.specs.Filling.{answer, after}
 use Rattle.book.specs.Opening.{openAnswer, openAfter}
 use Rattle.log.specs.declared.line.Line.{Line}
 use Rattle.log.specs.declared.line.Line.the-variants as line
+use Rattle.log.specs.declared.line.Opening.{Opening}
+use Rattle.log.specs.declared.line.Entry.{Entry}
+use Rattle.log.specs.declared.limits.Limits.{Limits}
+use Rattle.log.specs.Line.{limitsOf}
 use Rattle.play.specs.declared.play.Stage.{Stage}
 use Rattle.play.specs.declared.play.Stage.the-variants as stage
 use Rattle.play.specs.declared.play.Said.{Said}
@@ -18,18 +27,20 @@ use Rattle.play.specs.declared.play.Said.the-variants as said
 use Rattle.play.specs.declared.play.Run.{Run}
 use Rattle.play.specs.declared.play.Played.{Played}
 
--- before the first line, where no head is known
+-- before the first line, where no head is known; without a table the limits are 40,000 and 70,000 (02, W5)
 abbrev pub started : Run
 started = record {
   stage = stage.Closed;
-  head = record { year = 0; month = 0; day = 0; days = 0; interval = 0; kind = 0; tolerance = 0 };
+  limits = limitsOf (40000 ∷ 70000 ∷ []);
+  head = record { year = 0; month = 0; day = 0; days = 0; interval = 0; limit = 0; tolerance = 0 };
   lines = 0;
   refused = 0;
 }
 
--- a line that is no call, and a refused opening, end the log
+-- a line that is no call, and a refused table or opening, end the log
 abbrev pub isOver : Stage → Bool
 isOver stage.Closed = false
+isOver stage.Limited = false
 isOver stage.Open = false
 isOver stage.Unfit = true
 isOver (stage.Refused n) = true
@@ -48,7 +59,7 @@ counted n = cond (ltb n 18446744073709551615) (n + 1) n
 
 -- one line more
 unfoldable pub moved : Run → Stage → Run
-moved run s = record { stage = s; head = run .head; lines = counted (run .lines); refused = run .refused }
+moved run s = record { stage = s; limits = run .limits; head = run .head; lines = counted (run .lines); refused = run .refused }
 
 -- a line without an answer
 unfoldable pub quiet : Run → Stage → Played
@@ -64,7 +75,7 @@ stageOf (refused n) = stage.Refused n
 
 unfoldable pub afterOpening : Run → Head → Answer → Played
 afterOpening run h a =
-    record { run = record { stage = stageOf a; head = h; lines = counted (run .lines); refused = run .refused }; said = saidOf a }
+    record { run = record { stage = stageOf a; limits = run .limits; head = h; lines = counted (run .lines); refused = run .refused }; said = saidOf a }
 
 -- a refused call is counted, and the log goes on
 abbrev pub refusedAfter : Answer → ℕ → ℕ
@@ -76,51 +87,108 @@ refusedAfter (refused k) n = counted n
 
 unfoldable pub afterFilling : Run → Answer → Played
 afterFilling run a = record {
-  run = record { stage = stage.Open; head = run .head; lines = counted (run .lines); refused = refusedAfter a (run .refused) };
+  run = record { stage = stage.Open; limits = run .limits; head = run .head; lines = counted (run .lines); refused = refusedAfter a (run .refused) };
   said = saidOf a;
 }
 
--- before the opening: the first call line is an opening
+-- the limits that stand in a table's first places
+abbrev pub tableOf : Limits → List ℕ
+tableOf limits = take (limits .count) (limits .values)
+
+-- a table that loads stands for the limits of the opening; one that does not ends the log. Neither is an answer
+unfoldable pub withTable : Run → Limits → Loaded → Played
+withTable run limits (loaded.Limit n) =
+    quiet (record { stage = run .stage; limits = limits; head = run .head; lines = run .lines; refused = run .refused }) stage.Limited
+withTable run limits (loaded.Refused n) = quiet run (stage.Refused n)
+
+-- an opening's kind is a place in the table, and the limit there stands in the head
+abbrev pub headWith : Opening → ℕ → Head
+headWith o limit = record {
+  year = o .year;
+  month = o .month;
+  day = o .day;
+  days = o .days;
+  interval = o .interval;
+  limit = limit;
+  tolerance = o .tolerance;
+}
+
+-- a kind that is no place: the opening is refused
+unfoldable pub refusedWith : Run → ℕ → Played
+refusedWith run n = record { run = moved run (stage.Refused n); said = said.Refused n }
+
+unfoldable pub openedWith : Run → Cells → Opening → Loaded → Played
+openedWith run b o (loaded.Limit n) = afterOpening run (headWith o n) (openAnswer (headWith o n) b)
+openedWith run b o (loaded.Refused n) = refusedWith run n
+
+unfoldable pub cellsWith : Cells → Opening → Loaded → Cells
+cellsWith b o (loaded.Limit n) = openAfter (headWith o n) b
+cellsWith b o (loaded.Refused n) = b
+
+-- before the opening: the first call line is an opening, and there is no second table
 unfoldable pub playedClosed : Run → Cells → Line → Played
-playedClosed run b line.Passed = quiet run stage.Closed
-playedClosed run b (line.Open h) = afterOpening run h (openAnswer h b)
+playedClosed run b line.Passed = quiet run (run .stage)
+playedClosed run b line.Table = quiet run stage.Unfit
+playedClosed run b (line.Open o) = openedWith run b o (loadAnswer (tableOf (run .limits)) (o .kind))
 playedClosed run b (line.Fill call) = quiet run stage.Unfit
 playedClosed run b line.NoCall = quiet run stage.Unfit
 
-unfoldable pub closedCells : Cells → Line → Cells
-closedCells b line.Passed = b
-closedCells b (line.Open h) = openAfter h b
-closedCells b (line.Fill call) = b
-closedCells b line.NoCall = b
+unfoldable pub closedCells : Run → Cells → Line → Cells
+closedCells run b line.Passed = b
+closedCells run b line.Table = b
+closedCells run b (line.Open o) = cellsWith b o (loadAnswer (tableOf (run .limits)) (o .kind))
+closedCells run b (line.Fill call) = b
+closedCells run b line.NoCall = b
 
--- after the opening: no second one
+abbrev pub isTable : Line → Bool
+isTable line.Passed = false
+isTable line.Table = true
+isTable (line.Open o) = false
+isTable (line.Fill call) = false
+isTable line.NoCall = false
+
+-- a line in front of the opening that is passed over, or a table
+unfoldable pub leadRun : Run → Entry → Run
+leadRun run x =
+    cond (isTable (x .line)) (withTable run (x .limits) (loadAnswer (tableOf (x .limits)) 1) .run) (moved run (run .stage))
+
+-- before a table too; a good table has a first place
+unfoldable pub playedFirst : Run → Cells → Entry → Played
+playedFirst run b x =
+    cond (isTable (x .line)) (withTable run (x .limits) (loadAnswer (tableOf (x .limits)) 1)) (playedClosed run b (x .line))
+
+-- after the opening: no second one, and no table
 unfoldable pub playedOpen : Run → Cells → Line → Played
 playedOpen run b line.Passed = quiet run stage.Open
-playedOpen run b (line.Open h) = quiet run stage.Unfit
+playedOpen run b line.Table = quiet run stage.Unfit
+playedOpen run b (line.Open o) = quiet run stage.Unfit
 playedOpen run b (line.Fill call) = afterFilling run (answer (run .head) b (callMeant call))
 playedOpen run b line.NoCall = quiet run stage.Unfit
 
 unfoldable pub openCells : Run → Cells → Line → Cells
 openCells run b line.Passed = b
-openCells run b (line.Open h) = b
+openCells run b line.Table = b
+openCells run b (line.Open o) = b
 openCells run b (line.Fill call) = after (run .head) b (callMeant call)
 openCells run b line.NoCall = b
 
 -- where the log is over, nothing more is done
-abbrev pub playedAt : Stage → Run → Cells → Line → Played
-playedAt stage.Closed run b l = playedClosed run b l
-playedAt stage.Open run b l = playedOpen run b l
-playedAt stage.Unfit run b l = record { run = run; said = said.Nothing }
-playedAt (stage.Refused n) run b l = record { run = run; said = said.Nothing }
+abbrev pub playedAt : Stage → Run → Cells → Entry → Played
+playedAt stage.Closed run b x = playedFirst run b x
+playedAt stage.Limited run b x = playedClosed run b (x .line)
+playedAt stage.Open run b x = playedOpen run b (x .line)
+playedAt stage.Unfit run b x = record { run = run; said = said.Nothing }
+playedAt (stage.Refused n) run b x = record { run = run; said = said.Nothing }
 
-unfoldable pub played : Run → Cells → Line → Played
-played run b l = playedAt (run .stage) run b l
+unfoldable pub played : Run → Cells → Entry → Played
+played run b x = playedAt (run .stage) run b x
 
-abbrev pub cellsAt : Stage → Run → Cells → Line → Cells
-cellsAt stage.Closed run b l = closedCells b l
-cellsAt stage.Open run b l = openCells run b l
-cellsAt stage.Unfit run b l = b
-cellsAt (stage.Refused n) run b l = b
+abbrev pub cellsAt : Stage → Run → Cells → Entry → Cells
+cellsAt stage.Closed run b x = closedCells run b (x .line)
+cellsAt stage.Limited run b x = closedCells run b (x .line)
+cellsAt stage.Open run b x = openCells run b (x .line)
+cellsAt stage.Unfit run b x = b
+cellsAt (stage.Refused n) run b x = b
 
-unfoldable pub playedCells : Run → Cells → Line → Cells
-playedCells run b l = cellsAt (run .stage) run b l
+unfoldable pub playedCells : Run → Cells → Entry → Cells
+playedCells run b x = cellsAt (run .stage) run b x

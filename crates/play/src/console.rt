@@ -33,7 +33,7 @@ pub fn is_log(run: Run) -> bool {
     let stage = run.stage;
     match stage {
         Stage::Open => true,
-        Stage::Closed => {
+        Stage::Closed | Stage::Limited => {
             io::write_all(STDERR_FILENO, b"no opening\n");
             false
         }

@@ -1,5 +1,6 @@
 // Lines of a log that comes in blocks: the part of a line in hand goes from block to block.
 use log::line;
+use log::line::Entry;
 use log::line::Line;
 use log::pieces;
 ghost use mathlib.Core.List.{_++_};
@@ -8,10 +9,11 @@ ghost use Prim.Native.Nat.{_≤_};
 ghost use lib.ListN.{length, take};
 ghost use Rattle.play.specs.Inner.Feeding.{Ready, Stepped};
 
-// A line that ended, and the place after it; or how many bytes are in hand where the block is used up.
-pub enum Taken {
-    Ended(Line, usize),
-    Held(usize),
+// A line that ended, and the place after it; or, where the block is used up, how many bytes are in hand.
+pub struct Taken {
+    pub entry: Entry,
+    pub at: usize,
+    pub ended: bool,
 }
 
 // Puts bytes behind the first `count` of `part`, as many as it has room for; how many are in hand then.
@@ -40,7 +42,15 @@ pub fn take_line(block: &[u8], at: usize, part: &mut [u8], count: usize) -> Take
     let end = pieces::end_of(block, at, b'\n');
     let kept = keep(part, count, &block[at..end]);
     if end == block.len() {
-        return Taken::Held(kept);
+        return Taken {
+            entry: line::bare(Line::Passed),
+            at: kept,
+            ended: false,
+        };
     }
-    Taken::Ended(line::line_of(&part[..kept]), end + 1)
+    Taken {
+        entry: line::entry_of(&part[..kept]),
+        at: end + 1,
+        ended: true,
+    }
 }

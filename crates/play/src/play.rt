@@ -2,25 +2,32 @@
 use book::Filed;
 use book::Opened;
 use book::calls;
+use log::limits::Limits;
+use log::line::Entry;
 use log::line::Line;
+use log::line::Opening;
 use rules::Head;
+use rules::limits;
+use rules::limits::Loaded;
 ghost use mathlib.Core.Path.{_≡_};
 ghost use Rattle.rules.specs.Inner.Lent.{lentCells};
 ghost use Rattle.book.specs.Answers.{openedMeant, filedMeant};
-ghost use Rattle.play.specs.declared.play.Stage.the-variants.{Closed};
-ghost use Rattle.play.specs.Playing.{started, isOver, counted as Playing·counted, moved as Playing·moved, quiet as Playing·quiet, afterOpening, afterFilling, playedClosed, closedCells, playedOpen, openCells, played, playedCells};
+ghost use Rattle.rules.specs.Limits.{loadAnswer};
+ghost use Rattle.play.specs.Playing.{started, isOver, counted as Playing·counted, moved as Playing·moved, quiet as Playing·quiet, afterOpening, afterFilling, tableOf, withTable, headWith, refusedWith, openedWith, cellsWith, isTable, leadRun, playedClosed, closedCells, playedFirst, playedOpen, openCells, played, playedCells};
 
-// No call has come; the book is open; a line was no call; the opening was refused.
+// No call has come; a table has come; the book is open; a line was no call; the table or the opening was refused.
 pub enum Stage {
     Closed,
+    Limited,
     Open,
     Unfit,
     Refused(u8),
 }
 
-// The stage, the opening's head, and how many lines have come and calls been refused.
+// The stage, the table of limits, the opening's head, and how many lines have come and calls been refused.
 pub struct Run {
     pub stage: Stage,
+    pub limits: Limits,
     pub head: Head,
     pub lines: u64,
     pub refused: u64,
@@ -50,11 +57,16 @@ pub fn start() -> Run
         day: 0,
         days: 0,
         interval: 0,
-        kind: 0,
+        limit: 0,
         tolerance: 0,
     };
+    let mut values = [0u32; 24];
+    values[0] = 40000;
+    values[1] = 70000;
+    let limits = Limits { values, count: 2 };
     Run {
         stage: Stage::Closed,
+        limits,
         head,
         lines: 0,
         refused: 0,
@@ -68,6 +80,7 @@ pub fn is_over(run: Run) -> bool
     let stage = run.stage;
     match stage {
         Stage::Closed => false,
+        Stage::Limited => false,
         Stage::Open => false,
         Stage::Unfit => true,
         Stage::Refused(_) => true,
@@ -84,10 +97,12 @@ fn counted(n: u64) -> u64
 fn moved(run: Run, stage: Stage) -> Run
     ensures { λ r. ⌜ r ≡ Playing·moved run stage ⌝ }
 {
+    let limits = run.limits;
     let head = run.head;
     let lines = counted(run.lines);
     Run {
         stage,
+        limits,
         head,
         lines,
         refused: run.refused,
@@ -107,12 +122,14 @@ fn quiet(run: Run, stage: Stage) -> Played
 fn after_opening(run: Run, head: Head, opened: Opened) -> Played
     ensures { λ r. ⌜ r ≡ afterOpening run head (openedMeant opened) ⌝ }
 {
+    let limits = run.limits;
     let lines = counted(run.lines);
     let refused = run.refused;
     match opened {
         Opened::Done => {
             let next = Run {
                 stage: Stage::Open,
+                limits,
                 head,
                 lines,
                 refused,
@@ -125,6 +142,7 @@ fn after_opening(run: Run, head: Head, opened: Opened) -> Played
         Opened::Refused(n) => {
             let next = Run {
                 stage: Stage::Refused(n),
+                limits,
                 head,
                 lines,
                 refused,
@@ -155,10 +173,12 @@ fn after_filling(run: Run, filed: Filed) -> Played
             said: Said::Repeat,
         },
         Filed::Refused(n) => {
+            let limits = next.limits;
             let head = next.head;
             let refused = counted(next.refused);
             let more = Run {
                 stage: Stage::Open,
+                limits,
                 head,
                 lines: next.lines,
                 refused,
@@ -171,14 +191,135 @@ fn after_filling(run: Run, filed: Filed) -> Played
     }
 }
 
-// A line that is passed over before the opening.
-pub fn passed(run: Run) -> Run
-    ensures { λ r. ⌜ r ≡ Playing·moved run Closed ⌝ }
+// What a place of a table holds. A table has room for 24 limits.
+pub fn load_from(limits: Limits, kind: u32) -> Loaded
+    ensures { λ r. ⌜ r ≡ loadAnswer (tableOf limits) kind ⌝ }
 {
-    moved(run, Stage::Closed)
+    let values = limits.values;
+    let count = limits.count;
+    if 24 < count {
+        return limits::load(&values, kind);
+    }
+    limits::load(&values[..count], kind)
 }
 
-// A line before the opening.
+// The head of an opening with this demand limit.
+pub fn head_with(opening: Opening, limit: u32) -> Head
+    ensures { λ r. ⌜ r ≡ headWith opening limit ⌝ }
+{
+    Head {
+        year: opening.year,
+        month: opening.month,
+        day: opening.day,
+        days: opening.days,
+        interval: opening.interval,
+        limit,
+        tolerance: opening.tolerance,
+    }
+}
+
+// A table before the opening.
+fn with_table(run: Run, limits: Limits) -> Played
+    ensures { λ r. ⌜ r ≡ withTable run limits (loadAnswer (tableOf limits) 1) ⌝ }
+{
+    let loaded = load_from(limits, 1);
+    match loaded {
+        Loaded::Limit(_) => {
+            let head = run.head;
+            let stage = run.stage;
+            let next = Run {
+                stage,
+                limits,
+                head,
+                lines: run.lines,
+                refused: run.refused,
+            };
+            quiet(next, Stage::Limited)
+        }
+        Loaded::Refused(n) => quiet(run, Stage::Refused(n)),
+    }
+}
+
+// A line in front of the opening that is passed over, or a table.
+pub fn lead(run: Run, entry: Entry) -> Run
+    ensures { λ r. ⌜ r ≡ leadRun run entry ⌝ }
+{
+    let line = entry.line;
+    if is_table(line) {
+        let limits = entry.limits;
+        return with_table(run, limits).run;
+    }
+    let stage = run.stage;
+    moved(run, stage)
+}
+
+pub fn is_table(line: Line) -> bool
+    ensures { λ r. ⌜ r ≡ isTable line ⌝ }
+{
+    match line {
+        Line::Passed => false,
+        Line::Table => true,
+        Line::Open(_) => false,
+        Line::Fill(_) => false,
+        Line::NoCall => false,
+    }
+}
+
+// An opening whose kind is no place in the table.
+fn unopened(run: Run, n: u8) -> Played
+    ensures { λ r. ⌜ r ≡ refusedWith run n ⌝ }
+{
+    let next = moved(run, Stage::Refused(n));
+    Played {
+        run: next,
+        said: Said::Refused(n),
+    }
+}
+
+// An opening.
+fn play_opening(
+    run: Run,
+    values: &mut [u32],
+    versions: &mut [u32],
+    statuses: &mut [u8],
+    holidays: &mut [u8],
+    readings: &mut [u32],
+    reads: &mut [u32],
+    agreed: &mut [u32],
+    agreed_versions: &mut [u32],
+    opening: Opening,
+) -> Played
+    ensures { λ r. ⌜
+        (let cells =
+        lentCells (values .entry) (versions .entry) (statuses .entry) (holidays .entry) (readings .entry) (reads .entry) (agreed .entry) («agreed_versions» .entry) in
+        (r ≡ openedWith run cells opening (loadAnswer (tableOf (run .limits)) (opening .kind)))
+        × (lentCells (values .exit) (versions .exit) (statuses .exit) (holidays .exit) (readings .exit) (reads .exit) (agreed .exit) («agreed_versions» .exit)
+        ≡ cellsWith cells opening (loadAnswer (tableOf (run .limits)) (opening .kind))))
+        ⌝ }
+{
+    let limits = run.limits;
+    let loaded = load_from(limits, opening.kind);
+    match loaded {
+        Loaded::Limit(n) => {
+            let head = head_with(opening, n);
+            let opened = book::open(
+                head,
+                values,
+                versions,
+                statuses,
+                holidays,
+                readings,
+                reads,
+                agreed,
+                agreed_versions,
+            );
+            after_opening(run, head, opened)
+        }
+        Loaded::Refused(n) => unopened(run, n),
+    }
+}
+
+// A line before the opening that is no first table.
 fn play_closed(
     run: Run,
     values: &mut [u32],
@@ -196,28 +337,70 @@ fn play_closed(
         lentCells (values .entry) (versions .entry) (statuses .entry) (holidays .entry) (readings .entry) (reads .entry) (agreed .entry) («agreed_versions» .entry) in
         (r ≡ playedClosed run cells line)
         × (lentCells (values .exit) (versions .exit) (statuses .exit) (holidays .exit) (readings .exit) (reads .exit) (agreed .exit) («agreed_versions» .exit)
-        ≡ closedCells cells line))
+        ≡ closedCells run cells line))
         ⌝ }
 {
     match line {
-        Line::Passed => quiet(run, Stage::Closed),
-        Line::Open(head) => {
-            let opened = book::open(
-                head,
-                values,
-                versions,
-                statuses,
-                holidays,
-                readings,
-                reads,
-                agreed,
-                agreed_versions,
-            );
-            after_opening(run, head, opened)
+        Line::Passed => {
+            let stage = run.stage;
+            quiet(run, stage)
         }
+        Line::Table => quiet(run, Stage::Unfit),
+        Line::Open(opening) => play_opening(
+            run,
+            values,
+            versions,
+            statuses,
+            holidays,
+            readings,
+            reads,
+            agreed,
+            agreed_versions,
+            opening,
+        ),
         Line::Fill(_) => quiet(run, Stage::Unfit),
         Line::NoCall => quiet(run, Stage::Unfit),
     }
+}
+
+// A line before the opening and before any table.
+fn play_first(
+    run: Run,
+    values: &mut [u32],
+    versions: &mut [u32],
+    statuses: &mut [u8],
+    holidays: &mut [u8],
+    readings: &mut [u32],
+    reads: &mut [u32],
+    agreed: &mut [u32],
+    agreed_versions: &mut [u32],
+    entry: Entry,
+) -> Played
+    ensures { λ r. ⌜
+        (let cells =
+        lentCells (values .entry) (versions .entry) (statuses .entry) (holidays .entry) (readings .entry) (reads .entry) (agreed .entry) («agreed_versions» .entry) in
+        (r ≡ playedFirst run cells entry)
+        × (lentCells (values .exit) (versions .exit) (statuses .exit) (holidays .exit) (readings .exit) (reads .exit) (agreed .exit) («agreed_versions» .exit)
+        ≡ closedCells run cells (entry .line)))
+        ⌝ }
+{
+    let line = entry.line;
+    if is_table(line) {
+        let limits = entry.limits;
+        return with_table(run, limits);
+    }
+    play_closed(
+        run,
+        values,
+        versions,
+        statuses,
+        holidays,
+        readings,
+        reads,
+        agreed,
+        agreed_versions,
+        line,
+    )
 }
 
 // A line after the opening.
@@ -243,6 +426,7 @@ fn play_open(
 {
     match line {
         Line::Passed => quiet(run, Stage::Open),
+        Line::Table => quiet(run, Stage::Unfit),
         Line::Open(_) => quiet(run, Stage::Unfit),
         Line::Fill(call) => {
             let head = run.head;
@@ -264,7 +448,7 @@ fn play_open(
     }
 }
 
-// Plays one line. Where a line was no call, or the opening was refused, nothing more is done.
+// Plays one line. Where a line was no call, or the table or the opening was refused, nothing more is done.
 pub fn play(
     run: Run,
     values: &mut [u32],
@@ -275,19 +459,32 @@ pub fn play(
     reads: &mut [u32],
     agreed: &mut [u32],
     agreed_versions: &mut [u32],
-    line: Line,
+    entry: Entry,
 ) -> Played
     ensures { λ r. ⌜
         (let cells =
         lentCells (values .entry) (versions .entry) (statuses .entry) (holidays .entry) (readings .entry) (reads .entry) (agreed .entry) («agreed_versions» .entry) in
-        (r ≡ played run cells line)
+        (r ≡ played run cells entry)
         × (lentCells (values .exit) (versions .exit) (statuses .exit) (holidays .exit) (readings .exit) (reads .exit) (agreed .exit) («agreed_versions» .exit)
-        ≡ playedCells run cells line))
+        ≡ playedCells run cells entry))
         ⌝ }
 {
     let stage = run.stage;
+    let line = entry.line;
     match stage {
-        Stage::Closed => play_closed(
+        Stage::Closed => play_first(
+            run,
+            values,
+            versions,
+            statuses,
+            holidays,
+            readings,
+            reads,
+            agreed,
+            agreed_versions,
+            entry,
+        ),
+        Stage::Limited => play_closed(
             run,
             values,
             versions,

@@ -2,20 +2,25 @@
 use crate::console;
 use crate::play;
 use crate::play::Run;
+use crate::play::Stage;
 use crate::source;
 use crate::source::Got;
 use crate::source::Source;
 use crate::text;
 use log::line::Line;
+use log::line::Opening;
 use rules::Head;
+use rules::limits::Loaded;
 use rules::opening;
 ghost use mathlib.Core.Path.{_≡_};
 ghost use Prim.Native.Nat.{_≤_};
 ghost use lib.ListN.{length};
 ghost use Rattle.play.specs.Inner.Feeding.{Held};
-ghost use Rattle.play.specs.Inner.Sizes.{noSizes, headSizes, lineSizes};
+ghost use Rattle.rules.specs.Limits.{loadAnswer};
+ghost use Rattle.play.specs.Playing.{tableOf};
+ghost use Rattle.play.specs.Inner.Sizes.{noSizes, headSizes, loadedSizes, lineSizes};
 
-// The run before a log's first line that is not passed over, and that line: the opening, if there is one.
+// The run before a log's first line that is not passed over and no table, and that line: the opening, if there is one.
 pub struct Lead {
     pub run: Run,
     pub first: Got,
@@ -34,16 +39,28 @@ pub struct Ended {
     pub good: bool,
 }
 
-fn is_passed(line: Line) -> bool {
+// A line in front of the opening: one that is passed over, or the first table.
+fn leads(stage: Stage, line: Line) -> bool {
     match line {
         Line::Passed => true,
+        Line::Table => is_closed(stage),
         Line::Open(_) => false,
         Line::Fill(_) => false,
         Line::NoCall => false,
     }
 }
 
-// Reads up to the first line that is not passed over. Its turns are counted as those of `next` are.
+fn is_closed(stage: Stage) -> bool {
+    match stage {
+        Stage::Closed => true,
+        Stage::Limited => false,
+        Stage::Open => false,
+        Stage::Unfit => false,
+        Stage::Refused(_) => false,
+    }
+}
+
+// Reads up to the first line that is not passed over and no table. Its turns are counted as those of `next` are.
 pub fn read_lead(block: &mut [u8], part: &mut [u8]) -> Lead
     requires { ⌜ 257 ≤ length (now part) ⌝ }
     ensures { λ r. ⌜ Held (r .first .source) (length (now (block .entry))) (length (now (part .entry))) ⌝ }
@@ -57,14 +74,19 @@ pub fn read_lead(block: &mut [u8], part: &mut [u8]) -> Lead
     let mut first = source::next(block, part, none);
     let mut turns = u64::MAX;
     while 0 < turns {
-        let line = first.line;
+        let entry = first.entry;
+        let line = entry.line;
+        let stage = run.stage;
         if !first.more {
             return Lead { run, first };
         }
-        if !is_passed(line) {
+        if !leads(stage, line) {
             return Lead { run, first };
         }
-        run = play::passed(run);
+        run = play::lead(run, entry);
+        if play::is_over(run) {
+            return Lead { run, first };
+        }
         let here = first.source;
         first = source::next(block, part, here);
         turns -= 1;
@@ -96,13 +118,26 @@ fn head_sizes(head: Head) -> Sizes
     }
 }
 
-// The lengths that an opening asks for; of a bad head, which opening refuses, and of any other line, zeros.
-pub fn sizes_of(line: Line) -> Sizes
-    ensures { λ r. ⌜ (r ≡ lineSizes line) × (r .slots ≤ 115200) × (r .days ≤ 400) × (r .boundaries ≤ 401) ⌝ }
+// The lengths that an opening asks for.
+fn opening_sizes(run: Run, opening: Opening) -> Sizes
+    ensures { λ r. ⌜ (r ≡ loadedSizes opening (loadAnswer (tableOf (run .limits)) (opening .kind))) × (r .slots ≤ 115200) × (r .days ≤ 400) × (r .boundaries ≤ 401) ⌝ }
+{
+    let limits = run.limits;
+    let loaded = play::load_from(limits, opening.kind);
+    match loaded {
+        Loaded::Limit(n) => head_sizes(play::head_with(opening, n)),
+        Loaded::Refused(_) => no_sizes(),
+    }
+}
+
+// The same of a bad head, which opening refuses, and of any other line: zeros.
+pub fn sizes_of(run: Run, line: Line) -> Sizes
+    ensures { λ r. ⌜ (r ≡ lineSizes run line) × (r .slots ≤ 115200) × (r .days ≤ 400) × (r .boundaries ≤ 401) ⌝ }
 {
     match line {
-        Line::Open(head) => head_sizes(head),
+        Line::Open(opening) => opening_sizes(run, opening),
         Line::Passed => no_sizes(),
+        Line::Table => no_sizes(),
         Line::Fill(_) => no_sizes(),
         Line::NoCall => no_sizes(),
     }
@@ -140,7 +175,7 @@ pub fn play_log(
     let mut good = got.good;
     let mut turns = u64::MAX;
     while 0 < turns {
-        let line = got.line;
+        let entry = got.entry;
         let played = play::play(
             run,
             values,
@@ -151,7 +186,7 @@ pub fn play_log(
             reads,
             agreed,
             agreed_versions,
-            line,
+            entry,
         );
         run = played.run;
         let said = played.said;

@@ -2,8 +2,8 @@
 use crate::console;
 use crate::console::Input;
 use crate::feed;
-use crate::feed::Taken;
 use log::line;
+use log::line::Entry;
 use log::line::Line;
 ghost use mathlib.Core.Path.{_≡_};
 ghost use Prim.Native.Nat.{_≤_, _<_};
@@ -19,7 +19,7 @@ pub struct Source {
 
 // A line and the source after it: whether the line is whole, whether more can follow, whether the last read was done.
 pub struct Got {
-    pub line: Line,
+    pub entry: Entry,
     pub source: Source,
     pub whole: bool,
     pub more: bool,
@@ -31,7 +31,7 @@ fn held(source: Source) -> Got
     ensures { λ r. ⌜ r .source ≡ source ⌝ }
 {
     Got {
-        line: Line::Passed,
+        entry: line::bare(Line::Passed),
         source,
         whole: false,
         more: true,
@@ -46,26 +46,26 @@ fn from_block(block: &[u8], part: &mut [u8], here: Source) -> Got
 {
     let at = here.at;
     let end = here.end;
-    match feed::take_line(&block[..end], at, part, here.count) {
-        Taken::Ended(line, next) => {
-            let source = Source {
-                at: next,
-                end,
-                count: 0,
-            };
-            Got {
-                line,
-                source,
-                whole: true,
-                more: true,
-                good: true,
-            }
-        }
-        Taken::Held(count) => held(Source {
+    let taken = feed::take_line(&block[..end], at, part, here.count);
+    if !taken.ended {
+        return held(Source {
             at: 0,
             end: 0,
-            count,
-        }),
+            count: taken.at,
+        });
+    }
+    let entry = taken.entry;
+    let source = Source {
+        at: taken.at,
+        end,
+        count: 0,
+    };
+    Got {
+        entry,
+        source,
+        whole: true,
+        more: true,
+        good: true,
     }
 }
 
@@ -89,7 +89,7 @@ fn from_input(block: &mut [u8], part: &[u8], count: usize) -> Got
                 });
             }
             Got {
-                line: line::line_of(&part[..count]),
+                entry: line::entry_of(&part[..count]),
                 source: none,
                 whole: true,
                 more: false,
@@ -99,7 +99,7 @@ fn from_input(block: &mut [u8], part: &[u8], count: usize) -> Got
         Input::Failed => {
             os::fail(b"standard input");
             Got {
-                line: Line::Passed,
+                entry: line::bare(Line::Passed),
                 source: none,
                 whole: true,
                 more: false,

@@ -122,8 +122,10 @@ fn main() {
     let mut part = [0u8; 257];
     let lead = program::read_lead(&mut block, &mut part);
     let first = lead.first;
-    let line = first.line;
-    let sizes = program::sizes_of(line);
+    let entry = first.entry;
+    let line = entry.line;
+    let run = lead.run;
+    let sizes = program::sizes_of(run, line);
     let slots = sizes.slots;
     let days = sizes.days;
     let boundaries = sizes.boundaries;

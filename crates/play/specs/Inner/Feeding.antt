@@ -1,11 +1,11 @@
 -- The part of a line in hand, and a step through a block.
+use mathlib.Core.Bool.{true, false, cond}
 use mathlib.Core.List.{List, [], _∷_, _++_}
 use mathlib.Core.Path.{_≡_}
 use Prim.Native.Nat.{ℕ, _≤_, _<_}
 use lib.ListN.{length, take, drop}
-use Rattle.log.specs.declared.line.Line.{Line}
+use Rattle.log.specs.declared.line.Entry.{Entry}
 use Rattle.play.specs.declared.feed.Taken.{Taken}
-use Rattle.play.specs.declared.feed.Taken.the-variants as taken
 use Rattle.play.specs.declared.source.Source.{Source}
 use Rattle.play.specs.Log.{linesFrom}
 
@@ -16,18 +16,14 @@ pub record Ready (block : List ℕ) (at : ℕ) (part : List ℕ) (count : ℕ) :
   pub held : count ≤ length part
 
 -- the lines that are left, with bytes still to come
-abbrev pub linesAfter : Taken → List ℕ → List ℕ → List ℕ → List Line
-linesAfter (taken.Ended line next) block part more = line ∷ linesFrom [] (drop next block ++ more)
-linesAfter (taken.Held count) block part more = linesFrom (take count part) more
+abbrev pub linesAfter : Taken → List ℕ → List ℕ → List ℕ → List Entry
+linesAfter r block part more =
+    cond (r .ended) (r .entry ∷ linesFrom [] (drop (r .at) block ++ more)) (linesFrom (take (r .at) part) more)
 
--- a place further on in the block, or bytes that the part has room for
-abbrev pub Within : Taken → ℕ → List ℕ → List ℕ → Type 0
-Within (taken.Ended line next) at block part = (at < next) × (next ≤ length block)
-Within (taken.Held count) at block part = count ≤ length part
-
--- a step goes on in the block and, whatever bytes are still to come, changes no line of the log
+-- a step goes on in the block, or the part has room for its bytes; whatever bytes are still to come, it changes no line of the log
 pub record Stepped (block : List ℕ) (at : ℕ) (part part′ : List ℕ) (count : ℕ) (r : Taken) : Type 0 where
-  pub within : Within r at block part
+  pub further : r .ended ≡ true → (at < r .at) × (r .at ≤ length block)
+  pub held : r .ended ≡ false → r .at ≤ length part
   pub same : (more : List ℕ) → linesFrom (take count part) (drop at block ++ more) ≡ linesAfter r block part′ more
 
 -- a source within a block and a part of these lengths

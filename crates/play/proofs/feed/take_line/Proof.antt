@@ -1,10 +1,12 @@
+-- `feed::take_line`: a line that goes on, or one that ends.
 use native.Mathlib.Omega.{arith}
 use mathlib.Core.List.{[], _∷_, _++_}
+use mathlib.Core.Bool.{true, false, false≢true}
 use mathlib.Core.Path.{sym, ap, _∙_}
 use Prim.Native.Nat.{_<_, _+_}
 use lib.ListN.{length, take, drop}
 use lib.Seq.{length-take-le}
-use Rattle.log.specs.declared.line.Line.{Line}
+use Rattle.log.specs.declared.line.Entry.{Entry}
 use Rattle.play.specs.Log.{linesFrom}
 use Rattle.play.proofs.Feeding.{line-goes-on, line-ends}
 use borrow.Author.Needs.{needs}
@@ -26,25 +28,27 @@ part-keep-end c = search needs
 keep-requires : tie.Need-keep-requires
 keep-requires c κs = search needs
 
+bare-requires : tie.Need-bare-requires
+bare-requires c κs = search needs
+
 same-length : tie.Need-same-length
 same-length c = search needs
 
 returns : tie.Need-returns
-returns c = let a = c .before .before .before .before .before .before .before .before .before .args in
-    let e = c .before .before .before .before .before .before .end-of .ensures in
-    let k = c .before .before .before .keep .ensures in record {
-      within = k .0;
-      same = line-goes-on (a .block .now) (a .at) _ (length (a .part .now)) (take (a .count) (a .part .now)) _ (c .before .before .before .before .before .before .before .before .before .pre .room) (e .2) (k .1) (c .if1 .taken);
-    }
+returns c = record {
+  further = λ t. absurd (false≢true t);
+  held = λ t. c .before .before .before .before .keep .ensures .0;
+  same = line-goes-on (c .before .before .before .before .before .before .before .before .before .before .args .block .now) (c .before .before .before .before .before .before .before .before .before .before .args .at) _ (length (c .before .before .before .before .before .before .before .before .before .before .args .part .now)) (take (c .before .before .before .before .before .before .before .before .before .before .args .count) (c .before .before .before .before .before .before .before .before .before .before .args .part .now)) _ (c .before .before .before .before .before .before .before .before .before .before .pre .room) (c .before .before .before .before .before .before .before .end-of .ensures .2) (c .before .before .before .before .keep .ensures .1) (c .before .if1 .taken);
+}
 
-slice-reshare-prefix-line-of : tie.Need-slice-reshare-prefix-line-of
-slice-reshare-prefix-line-of c = search needs
+slice-reshare-prefix-entry-of : tie.Need-slice-reshare-prefix-entry-of
+slice-reshare-prefix-entry-of c = search needs
 
-slice-aggregate-line-of : tie.Need-slice-aggregate-line-of
-slice-aggregate-line-of c = sym (length-take-le _ _ (slice-reshare-prefix-line-of (c .before)))
+slice-aggregate-entry-of : tie.Need-slice-aggregate-entry-of
+slice-aggregate-entry-of c = sym (length-take-le _ _ (slice-reshare-prefix-entry-of (c .before)))
 
-line-of-requires : tie.Need-line-of-requires
-line-of-requires c κs = search needs
+entry-of-requires : tie.Need-entry-of-requires
+entry-of-requires c κs = search needs
 
 add-t10 : tie.Need-add-t10
 add-t10 c = search needs
@@ -53,15 +57,12 @@ same-length-2 : tie.Need-same-length-2
 same-length-2 c = search needs
 
 returns-2 : tie.Need-returns-2
-returns-2 c = let a = c .before .before .before .before .before .before .before .before .before .before .before .args in
-    let e = c .before .before .before .before .before .before .before .before .end-of .ensures in
-    let k = c .before .before .before .before .before .keep .ensures in
-    let l = c .before .before .if1 .left in
-    let end = c .before .before .before .before .before .before .before .before .end-of .result in
-    let less : end < length (a .block .now) = omega (arith, e .1, l) in record {
-      within = (omega (arith, e .0), omega arith);
-      same = λ more. line-ends (a .block .now) (a .at) end (length (a .part .now)) (take (a .count) (a .part .now)) _ (c .before .before .before .before .before .before .before .before .before .before .before .pre .room) (e .2) (k .1) less more
-          ∙ ap (λ (x : Line). x ∷ linesFrom [] (drop (end + 1) (a .block .now) ++ more)) (sym (c .line-of .ensures));
+returns-2 c = let end = c .before .before .before .before .before .before .before .before .end-of .result in
+    let less : end < length (c .before .before .before .before .before .before .before .before .before .before .before .args .block .now) = omega (arith, c .before .before .before .before .before .before .before .before .end-of .ensures .1, c .before .before .if1 .left) in record {
+      further = λ t. (omega (arith, c .before .before .before .before .before .before .before .before .end-of .ensures .0), omega arith);
+      held = λ t. absurd (false≢true (sym t));
+      same = λ more. line-ends (c .before .before .before .before .before .before .before .before .before .before .before .args .block .now) (c .before .before .before .before .before .before .before .before .before .before .before .args .at) end (length (c .before .before .before .before .before .before .before .before .before .before .before .args .part .now)) (take (c .before .before .before .before .before .before .before .before .before .before .before .args .count) (c .before .before .before .before .before .before .before .before .before .before .before .args .part .now)) _ (c .before .before .before .before .before .before .before .before .before .before .before .pre .room) (c .before .before .before .before .before .before .before .before .end-of .ensures .2) (c .before .before .before .before .before .keep .ensures .1) less more
+          ∙ ap (λ (x : Entry). x ∷ linesFrom [] (drop (end + 1) (c .before .before .before .before .before .before .before .before .before .before .before .args .block .now) ++ more)) (sym (c .entry-of .ensures));
     }
 
 pub take-line-spec : {M : Type 1} → statement M
@@ -73,11 +74,12 @@ take-line-spec =
     part-keep-start
     part-keep-end
     keep-requires
+    bare-requires
     same-length
     returns
-    slice-reshare-prefix-line-of
-    slice-aggregate-line-of
-    line-of-requires
+    slice-reshare-prefix-entry-of
+    slice-aggregate-entry-of
+    entry-of-requires
     add-t10
     same-length-2
     returns-2)

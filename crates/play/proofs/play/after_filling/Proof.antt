@@ -34,7 +34,7 @@ returns-3 : tie.Need-returns-3
 returns-3 c = filled-as (c .before .before .before .args .run) _ _ (ap filedMeant (c .enum-told3 .given .1)) _ (c .before .before .moved .ensures) refl
 
 returns-4 : tie.Need-returns-4
-returns-4 c = refused-as (c .before .before .before .before .before .before .args .run) _ _ (ap filedMeant (c .before .before .before .filed .given .1)) (c .before .before .before .before .before .moved .result) _ (c .before .before .before .before .before .moved .ensures) (c .counted .ensures)
+returns-4 c = refused-as (c .before .before .before .before .before .before .before .args .run) _ _ (ap filedMeant (c .before .before .before .before .filed .given .1)) (c .before .before .before .before .before .before .moved .result) _ (c .before .before .before .before .before .before .moved .ensures) (c .counted .ensures)
 
 pub after-filling-spec : {M : Type 1} → statement M
 after-filling-spec =

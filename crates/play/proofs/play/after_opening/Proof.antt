@@ -16,10 +16,10 @@ enum-known-opened : tie.Need-enum-known-opened
 enum-known-opened c = search needs
 
 returns : tie.Need-returns
-returns c = opened-as (c .before .before .before .args .run) _ _ (ap openedMeant (c .enum-told .given .1)) (c .before .before .before .args .head) _ (c .before .before .counted .ensures)
+returns c = opened-as (c .before .before .before .before .args .run) _ _ (ap openedMeant (c .enum-told .given .1)) (c .before .before .before .before .args .head) _ (c .before .before .counted .ensures)
 
 returns-2 : tie.Need-returns-2
-returns-2 c = opened-as (c .before .before .before .before .args .run) _ _ (ap openedMeant (c .before .opened .given .1)) (c .before .before .before .before .args .head) _ (c .before .before .before .counted .ensures)
+returns-2 c = opened-as (c .before .before .before .before .before .args .run) _ _ (ap openedMeant (c .before .opened .given .1)) (c .before .before .before .before .before .args .head) _ (c .before .before .before .counted .ensures)
 
 pub after-opening-spec : {M : Type 1} → statement M
 after-opening-spec =

@@ -9,7 +9,9 @@ counted-requires c κs = search needs
 
 returns : tie.Need-returns
 unfolding moved
-returns c = λ t. record { stage = c .before .before .args .stage; head = c .before .before .args .run .head; lines = c .counted .ensures t; refused = c .before .before .args .run .refused }
+returns c =
+    let a = c .before .before .before .args in
+    λ t. record { stage = a .stage; limits = a .run .limits; head = a .run .head; lines = c .counted .ensures t; refused = a .run .refused }
 
 pub moved-spec : {M : Type 1} → statement M
 moved-spec = tie.close (tie.spec counted-requires returns)

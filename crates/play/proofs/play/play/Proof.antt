@@ -8,20 +8,26 @@ use Rattle.play.proofs.play.play.Tie as tie
 enum-told : tie.Need-enum-told
 enum-told c = search needs
 
-play-closed-requires : tie.Need-play-closed-requires
-play-closed-requires c κs = search needs
+play-first-requires : tie.Need-play-first-requires
+play-first-requires c κs = search needs
 
 enum-told-2 : tie.Need-enum-told-2
 enum-told-2 c = search needs
 
-play-open-requires : tie.Need-play-open-requires
-play-open-requires c κs = search needs
+play-closed-requires : tie.Need-play-closed-requires
+play-closed-requires c κs = search needs
 
 enum-told-3 : tie.Need-enum-told-3
 enum-told-3 c = search needs
 
+play-open-requires : tie.Need-play-open-requires
+play-open-requires c κs = search needs
+
 enum-told-4 : tie.Need-enum-told-4
 enum-told-4 c = search needs
+
+enum-told-5 : tie.Need-enum-told-5
+enum-told-5 c = search needs
 
 same-length : tie.Need-same-length
 same-length c = search needs
@@ -48,7 +54,7 @@ same-length-8 : tie.Need-same-length-8
 same-length-8 c = search needs
 
 returns : tie.Need-returns
-returns c = stage-as _ _ _ _ _ _ (c .before .before .before .before .before .before .before .before .before .before .before .before .before .before .before .before .before .before .before .before .before .before .before .before .before .enum-told .given .1) (c .before .before .before .before .before .before .before .before .before .before .before .before .before .before .before .before .play-closed .ensures .0) (c .before .before .before .before .before .before .before .before .before .before .before .before .before .before .before .before .play-closed .ensures .1)
+returns c = stage-as _ _ _ _ _ _ (c .before .before .before .before .before .before .before .before .before .before .before .before .before .before .before .before .before .before .before .before .before .before .before .before .before .enum-told .given .1) (c .before .before .before .before .before .before .before .before .before .before .before .before .before .before .before .before .play-first .ensures .0) (c .before .before .before .before .before .before .before .before .before .before .before .before .before .before .before .before .play-first .ensures .1)
 
 same-length-9 : tie.Need-same-length-9
 same-length-9 c = search needs
@@ -75,24 +81,53 @@ same-length-16 : tie.Need-same-length-16
 same-length-16 c = search needs
 
 returns-2 : tie.Need-returns-2
-returns-2 c = stage-as _ _ _ _ _ _ (c .before .before .before .before .before .before .before .before .before .before .before .before .before .before .before .before .before .before .before .before .before .before .before .before .before .enum-told2 .given .1) (c .before .before .before .before .before .before .before .before .before .before .before .before .before .before .before .before .play-open .ensures .0) (c .before .before .before .before .before .before .before .before .before .before .before .before .before .before .before .before .play-open .ensures .1)
+returns-2 c = stage-as _ _ _ _ _ _ (c .before .before .before .before .before .before .before .before .before .before .before .before .before .before .before .before .before .before .before .before .before .before .before .before .before .enum-told2 .given .1) (c .before .before .before .before .before .before .before .before .before .before .before .before .before .before .before .before .play-closed .ensures .0) (c .before .before .before .before .before .before .before .before .before .before .before .before .before .before .before .before .play-closed .ensures .1)
+
+same-length-17 : tie.Need-same-length-17
+same-length-17 c = search needs
+
+same-length-18 : tie.Need-same-length-18
+same-length-18 c = search needs
+
+same-length-19 : tie.Need-same-length-19
+same-length-19 c = search needs
+
+same-length-20 : tie.Need-same-length-20
+same-length-20 c = search needs
+
+same-length-21 : tie.Need-same-length-21
+same-length-21 c = search needs
+
+same-length-22 : tie.Need-same-length-22
+same-length-22 c = search needs
+
+same-length-23 : tie.Need-same-length-23
+same-length-23 c = search needs
+
+same-length-24 : tie.Need-same-length-24
+same-length-24 c = search needs
 
 returns-3 : tie.Need-returns-3
-returns-3 c = stage-as _ _ _ _ _ _ (c .enum-told3 .given .1) refl refl
+returns-3 c = stage-as _ _ _ _ _ _ (c .before .before .before .before .before .before .before .before .before .before .before .before .before .before .before .before .before .before .before .before .before .before .before .before .before .enum-told3 .given .1) (c .before .before .before .before .before .before .before .before .before .before .before .before .before .before .before .before .play-open .ensures .0) (c .before .before .before .before .before .before .before .before .before .before .before .before .before .before .before .before .play-open .ensures .1)
 
 returns-4 : tie.Need-returns-4
 returns-4 c = stage-as _ _ _ _ _ _ (c .enum-told4 .given .1) refl refl
+
+returns-5 : tie.Need-returns-5
+returns-5 c = stage-as _ _ _ _ _ _ (c .enum-told5 .given .1) refl refl
 
 pub play-spec : {M : Type 1} → statement M
 play-spec =
     tie.close
     (tie.spec
     enum-told
-    play-closed-requires
+    play-first-requires
     enum-told-2
-    play-open-requires
+    play-closed-requires
     enum-told-3
+    play-open-requires
     enum-told-4
+    enum-told-5
     same-length
     same-length-2
     same-length-3
@@ -111,5 +146,14 @@ play-spec =
     same-length-15
     same-length-16
     returns-2
+    same-length-17
+    same-length-18
+    same-length-19
+    same-length-20
+    same-length-21
+    same-length-22
+    same-length-23
+    same-length-24
     returns-3
-    returns-4)
+    returns-4
+    returns-5)

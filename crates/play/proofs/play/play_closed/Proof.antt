@@ -1,8 +1,7 @@
-use Rattle.rules.specs.Inner.Lent.{slots}
 -- `play::play::play_closed` meets its contract.
 use mathlib.Core.Path.{refl}
 use Rattle.play.specs.Playing.{playedClosed, closedCells}
-use Rattle.play.proofs.Played.{closed-as, opening-as}
+use Rattle.play.proofs.Played.{closed-as}
 use borrow.Author.Needs.{needs}
 use Rattle.play.proofs.play.play_closed.Statement.{statement}
 use Rattle.play.proofs.play.play_closed.Tie as tie
@@ -13,20 +12,17 @@ enum-told c = search needs
 quiet-requires : tie.Need-quiet-requires
 quiet-requires c κs = search needs
 
-enum-known-line : tie.Need-enum-known-line
-enum-known-line c = search needs
-
-open-requires : tie.Need-open-requires
-open-requires c κs = search needs
-
-after-opening-requires : tie.Need-after-opening-requires
-after-opening-requires c κs = search needs
-
 enum-told-2 : tie.Need-enum-told-2
 enum-told-2 c = search needs
 
 quiet-requires-2 : tie.Need-quiet-requires-2
 quiet-requires-2 c κs = search needs
+
+enum-known-line : tie.Need-enum-known-line
+enum-known-line c = search needs
+
+play-opening-requires : tie.Need-play-opening-requires
+play-opening-requires c κs = search needs
 
 enum-told-3 : tie.Need-enum-told-3
 enum-told-3 c = search needs
@@ -34,9 +30,19 @@ enum-told-3 c = search needs
 quiet-requires-3 : tie.Need-quiet-requires-3
 quiet-requires-3 c κs = search needs
 
+enum-told-4 : tie.Need-enum-told-4
+enum-told-4 c = search needs
+
+quiet-requires-4 : tie.Need-quiet-requires-4
+quiet-requires-4 c κs = search needs
+
 returns : tie.Need-returns
 unfolding playedClosed closedCells
 returns c = closed-as _ _ _ _ _ _ (c .before .enum-told .given .1) (c .quiet .ensures) refl
+
+returns-2 : tie.Need-returns-2
+unfolding playedClosed closedCells
+returns-2 c = closed-as _ _ _ _ _ _ (c .before .enum-told2 .given .1) (c .quiet2 .ensures) refl
 
 same-length : tie.Need-same-length
 same-length c = search needs
@@ -62,19 +68,17 @@ same-length-7 c = search needs
 same-length-8 : tie.Need-same-length-8
 same-length-8 c = search needs
 
-returns-2 : tie.Need-returns-2
-unfolding playedClosed closedCells
-returns-2 c = let e = c .before .before .before .before .before .before .before .before .before .before .before .before .before .before .before .before .before .«open» .ensures in
-    opening-as _ _ _ _ _ _ _ (c .before .before .before .before .before .before .before .before .before .before .before .before .before .before .before .before .before .before .before .before .before .before .before .before .before .before .before .line .given .1) (c .after-opening .ensures) (e .0)
-    (λ t. record { slots = record { values = e .1 .0 t; versions = e .1 .1 t; statuses = e .1 .2 t }; holidays = e .1 .3 t; readings = e .1 .4 t; readVersions = e .1 .5 t; agreed = record { values = e .1 .6 t; versions = e .1 .7 t } })
-
 returns-3 : tie.Need-returns-3
 unfolding playedClosed closedCells
-returns-3 c = closed-as _ _ _ _ _ _ (c .before .enum-told2 .given .1) (c .quiet2 .ensures) refl
+returns-3 c = closed-as _ _ _ _ _ _ (c .before .before .before .before .before .before .before .before .before .before .before .before .before .before .before .before .before .before .before .before .before .before .before .before .before .before .line .given .1) (c .before .before .before .before .before .before .before .before .before .before .before .before .before .before .before .before .play-opening .ensures .0) (c .before .before .before .before .before .before .before .before .before .before .before .before .before .before .before .before .play-opening .ensures .1)
 
 returns-4 : tie.Need-returns-4
 unfolding playedClosed closedCells
 returns-4 c = closed-as _ _ _ _ _ _ (c .before .enum-told3 .given .1) (c .quiet3 .ensures) refl
+
+returns-5 : tie.Need-returns-5
+unfolding playedClosed closedCells
+returns-5 c = closed-as _ _ _ _ _ _ (c .before .enum-told4 .given .1) (c .quiet4 .ensures) refl
 
 pub play-closed-spec : {M : Type 1} → statement M
 play-closed-spec =
@@ -82,14 +86,16 @@ play-closed-spec =
     (tie.spec
     enum-told
     quiet-requires
-    enum-known-line
-    open-requires
-    after-opening-requires
     enum-told-2
     quiet-requires-2
+    enum-known-line
+    play-opening-requires
     enum-told-3
     quiet-requires-3
+    enum-told-4
+    quiet-requires-4
     returns
+    returns-2
     same-length
     same-length-2
     same-length-3
@@ -98,6 +104,6 @@ play-closed-spec =
     same-length-6
     same-length-7
     same-length-8
-    returns-2
     returns-3
-    returns-4)
+    returns-4
+    returns-5)

@@ -8,8 +8,8 @@ use Rattle.play.proofs.program.sizes_of.Tie as tie
 enum-known-line : tie.Need-enum-known-line
 enum-known-line c = search needs
 
-head-sizes-requires : tie.Need-head-sizes-requires
-head-sizes-requires c κs = search needs
+opening-sizes-requires : tie.Need-opening-sizes-requires
+opening-sizes-requires c κs = search needs
 
 enum-told : tie.Need-enum-told
 enum-told c = search needs
@@ -29,8 +29,14 @@ enum-told-3 c = search needs
 no-sizes-requires-3 : tie.Need-no-sizes-requires-3
 no-sizes-requires-3 c κs = search needs
 
+enum-told-4 : tie.Need-enum-told-4
+enum-told-4 c = search needs
+
+no-sizes-requires-4 : tie.Need-no-sizes-requires-4
+no-sizes-requires-4 c κs = search needs
+
 returns : tie.Need-returns
-returns c = rw (c .before .before .line .given .1) (c .head-sizes .ensures)
+returns c = rw (c .before .before .line .given .1) (c .opening-sizes .ensures)
 
 returns-2 : tie.Need-returns-2
 returns-2 c = rw (c .before .enum-told .given .1, c .no-sizes .ensures) (refl, omega arith, omega arith, omega arith)
@@ -41,19 +47,25 @@ returns-3 c = rw (c .before .enum-told2 .given .1, c .no-sizes2 .ensures) (refl,
 returns-4 : tie.Need-returns-4
 returns-4 c = rw (c .before .enum-told3 .given .1, c .no-sizes3 .ensures) (refl, omega arith, omega arith, omega arith)
 
+returns-5 : tie.Need-returns-5
+returns-5 c = rw (c .before .enum-told4 .given .1, c .no-sizes4 .ensures) (refl, omega arith, omega arith, omega arith)
+
 pub sizes-of-spec : {M : Type 1} → statement M
 sizes-of-spec =
     tie.close
     (tie.spec
     enum-known-line
-    head-sizes-requires
+    opening-sizes-requires
     enum-told
     no-sizes-requires
     enum-told-2
     no-sizes-requires-2
     enum-told-3
     no-sizes-requires-3
+    enum-told-4
+    no-sizes-requires-4
     returns
     returns-2
     returns-3
-    returns-4)
+    returns-4
+    returns-5)

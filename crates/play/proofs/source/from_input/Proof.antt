@@ -19,13 +19,14 @@ same-length : tie.Need-same-length
 same-length c = search needs
 
 returns : tie.Need-returns
-returns c = let n = rw (c .before .before .before .n .given .1) at (c .before .before .before .before .before .before .before .read-block .ensures) in rw (c .held .ensures) (record { order = omega arith; inside = omega (arith, n, c .before .before .before .before .before .before .block .given); room = c .before .before .before .before .before .before .before .before .before .before .before .pre .0; held = c .before .before .before .before .before .before .before .before .before .before .before .pre .1 })
+returns c = let n = rw (c .before .before .before .n .given .1) at (c .before .before .before .before .before .before .before .read-block .ensures) in
+    rw (c .held .ensures) (record { order = omega arith; inside = omega (arith, n, c .before .before .before .before .before .before .block .given); room = c .before .before .before .before .before .before .before .before .before .before .before .pre .0; held = c .before .before .before .before .before .before .before .before .before .before .before .pre .1 })
 
-slice-aggregate-line-of : tie.Need-slice-aggregate-line-of
-slice-aggregate-line-of c = sym (length-take-le _ _ (c .before .before .before .before .before .before .before .before .before .before .before .pre .1))
+slice-aggregate-entry-of : tie.Need-slice-aggregate-entry-of
+slice-aggregate-entry-of c = sym (length-take-le _ _ (c .before .before .before .before .before .before .before .before .before .before .before .pre .1))
 
-line-of-requires : tie.Need-line-of-requires
-line-of-requires c κs = search needs
+entry-of-requires : tie.Need-entry-of-requires
+entry-of-requires c κs = search needs
 
 enum-told : tie.Need-enum-told
 enum-told c = search needs
@@ -35,6 +36,9 @@ slice-aggregate-fail c = search needs
 
 fail-requires : tie.Need-fail-requires
 fail-requires c κs = search needs
+
+bare-requires : tie.Need-bare-requires
+bare-requires c κs = search needs
 
 same-length-2 : tie.Need-same-length-2
 same-length-2 c = search needs
@@ -57,11 +61,12 @@ from-input-spec =
     held-requires
     same-length
     returns
-    slice-aggregate-line-of
-    line-of-requires
+    slice-aggregate-entry-of
+    entry-of-requires
     enum-told
     slice-aggregate-fail
     fail-requires
+    bare-requires
     same-length-2
     returns-2
     same-length-3
