@@ -8,7 +8,7 @@
 
 #define SLOTS 48
 #define DAYS 1
-#define HEAD 2024, 5, 1, DAYS, 30, 1, 0
+#define HEAD 2024, 5, 1, DAYS, 30, 40000, 0
 #define LENGTH (6 * SLOTS + 10 + 32)
 
 static uint32_t values[SLOTS], versions[SLOTS], readings[DAYS + 1], reads[DAYS + 1], agreed[SLOTS], agreed_versions[SLOTS];

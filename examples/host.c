@@ -8,7 +8,7 @@
 
 #define SLOTS 48
 #define DAYS 1
-#define HEAD 2024, 5, 1, DAYS, 30, 1, 0
+#define HEAD 2024, 5, 1, DAYS, 30, 40000, 0
 #define LENGTH (6 * SLOTS + 32)
 
 static uint32_t values[SLOTS], versions[SLOTS], readings[DAYS + 1], reads[DAYS + 1], agreed[SLOTS], agreed_versions[SLOTS];
@@ -37,6 +37,12 @@ int main(void)
     static const uint8_t trailer[32] = {
         0xB7, 0x22, 1, 0, 0x1E, 1, 0, 0, 0x2F, 0, 0, 0, 1, 0, 0, 0, 0, 0, 0, 0, 0xC0, 0x12,
     };
+
+    /* The limit of single phase, in the table of the two kinds; a kind that is no place; a table that falls. */
+    static const uint32_t kinds[] = {40000, 70000}, falling[] = {70000, 40000};
+    EXPECT(sawmauve_limit(kinds, 2, 1) == 40000);
+    EXPECT(sawmauve_limit(kinds, 2, 3) == SAWMAUVE_READINGS + 1);
+    EXPECT(sawmauve_limit(falling, 2, 3) == SAWMAUVE_READINGS + 13);
 
     /* Opening clears what the lists held. */
     memset(values, 0xFF, sizeof values);

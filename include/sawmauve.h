@@ -1,4 +1,4 @@
-/* The berth meter book for C: the thirteen exports of the crate host.
+/* The berth meter book for C: the fourteen exports of the crate host.
  *
  * A list is a pointer and its number of elements. The lists of one call must not overlap, and no other thread may write
  * them meanwhile: the proofs rest on it. A refused call changes no list.
@@ -16,6 +16,7 @@
  *   10  conflict: equal version, other content
  *   11  a cell that no calls could leave
  *   12  agreed value over 99,999,999
+ *   13  a table that is not 1 to 24 demand limits, each above the one before, none over 1,000,000
  *   16  a half byte above 9
  *   18  more than 64 pairs, a pair list of odd length, or another number of totals than of pairs
  *   19  a pair whose first day is not below its second, or whose second exceeds D
@@ -40,7 +41,7 @@ extern "C" {
 /* What is published is longer than every refusal's number. */
 #define SAWMAUVE_SHORTEST 32
 
-/* Where sawmauve_unpack gives this or more, it is this plus a refusal's number; every reading is below it. */
+/* Where sawmauve_unpack or sawmauve_limit gives this or more, it is this plus a refusal's number; every reading and limit is below it. */
 #define SAWMAUVE_READINGS 100000000
 #define SAWMAUVE_PACKED 4 /* the bytes of a reading in packed decimal */
 
@@ -56,9 +57,14 @@ extern "C" {
 #define SAWMAUVE_LAYOUT 8      /* 2 where a slot is F, else 1 */
 #define SAWMAUVE_FIGURES 9     /* how many there are */
 
-/* The head, which every call of a book is given: first day, D (1 to 400), L (5, 15 or 30), kind (1 or 2), tolerance in Wh. */
+/* The head, which every call of a book is given: first day, D (1 to 400), L (5, 15 or 30), demand limit in W (1 to 1,000,000), tolerance in
+ * Wh. The limit stands where the kind stood: a host that gave 1 or 2 there gives 40,000 or 70,000, or what sawmauve_limit answers. A head
+ * that still has 1 or 2 is good, with a limit of 1 or 2 W. */
 #define SAWMAUVE_HEAD \
-    uint32_t year, uint32_t month, uint32_t day, uint32_t days, uint32_t interval, uint32_t kind, uint32_t tolerance
+    uint32_t year, uint32_t month, uint32_t day, uint32_t days, uint32_t interval, uint32_t limit, uint32_t tolerance
+
+/* The demand limit in W at a place of a table, counted from 1; or 100,000,000 plus 13 for the table, plus 1 for a kind that is no place. */
+uint32_t sawmauve_limit(const uint32_t *table, size_t table_len, uint32_t kind);
 
 /* Opens a book: sets all cells to 0. values, versions, statuses, agreed and agreed_versions are N = 1440 / L * D long,
  * holidays D, readings and reads (the register versions) D + 1. 0, or 1 or 2. */

@@ -14,13 +14,13 @@ use Rattle.file.specs.Reader.{readFile}
 
 -- a head given as its seven numbers
 abbrev pub headOf : ℕ → ℕ → ℕ → ℕ → ℕ → ℕ → ℕ → Head
-headOf year month day days interval kind tolerance = record {
+headOf year month day days interval limit tolerance = record {
   year = year;
   month = month;
   day = day;
   days = days;
   interval = interval;
-  kind = kind;
+  limit = limit;
   tolerance = tolerance;
 }
 

@@ -2,3 +2,4 @@ pub mod Codes
 pub mod Conversions
 pub mod Stays
 pub mod Storage
+pub mod Limits

@@ -26,7 +26,7 @@ pub extern "C" fn sawmauve_publish(
     day: u32,
     days: u32,
     interval: u32,
-    kind: u32,
+    limit: u32,
     tolerance: u32,
     values: &[u32],
     versions: &[u32],
@@ -39,13 +39,13 @@ pub extern "C" fn sawmauve_publish(
     out: &mut [u8],
 ) -> u64
     ensures { λ r. ⌜
-        (let head = headOf year month day days interval kind tolerance in
+        (let head = headOf year month day days interval limit tolerance in
         let cells = lentCells (values .entry) (versions .entry) (statuses .entry) (holidays .entry) (readings .entry) (reads .entry) (agreed .entry) («agreed_versions» .entry) in
         (r ≡ publishCode (publishAnswer head cells (now (out .entry))))
         × (now (out .exit) ≡ publishAfter head cells (now (out .entry))))
         ⌝ }
 {
-    let head = head_of(year, month, day, days, interval, kind, tolerance);
+    let head = head_of(year, month, day, days, interval, limit, tolerance);
     published_code(publishing::publish(
         head,
         values,

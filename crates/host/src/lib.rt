@@ -1,6 +1,7 @@
 // The public calls for hosts in C and Rust: numbers, word lists and byte lists, each list a pointer and a length.
 mod chargers;
 mod files;
+mod limits;
 mod stays;
 mod storage;
 
@@ -21,10 +22,10 @@ pub fn head_of(
     day: u32,
     days: u32,
     interval: u32,
-    kind: u32,
+    limit: u32,
     tolerance: u32,
 ) -> Head
-    ensures { λ r. ⌜ r ≡ headOf year month day days interval kind tolerance ⌝ }
+    ensures { λ r. ⌜ r ≡ headOf year month day days interval limit tolerance ⌝ }
 {
     Head {
         year: year,
@@ -32,7 +33,7 @@ pub fn head_of(
         day: day,
         days: days,
         interval: interval,
-        kind: kind,
+        limit: limit,
         tolerance: tolerance,
     }
 }
@@ -66,7 +67,7 @@ pub extern "C" fn sawmauve_open(
     day: u32,
     days: u32,
     interval: u32,
-    kind: u32,
+    limit: u32,
     tolerance: u32,
     values: &mut [u32],
     versions: &mut [u32],
@@ -78,13 +79,13 @@ pub extern "C" fn sawmauve_open(
     agreed_versions: &mut [u32],
 ) -> u32
     ensures { λ r. ⌜
-        (let head = headOf year month day days interval kind tolerance in
+        (let head = headOf year month day days interval limit tolerance in
         let cells = lentCells (values .entry) (versions .entry) (statuses .entry) (holidays .entry) (readings .entry) (reads .entry) (agreed .entry) («agreed_versions» .entry) in
         (r ≡ answerCode (openAnswer head cells))
         × HoldCells (values .exit) (versions .exit) (statuses .exit) (holidays .exit) (readings .exit) (reads .exit) (agreed .exit) («agreed_versions» .exit) (openAfter head cells))
         ⌝ }
 {
-    let head = head_of(year, month, day, days, interval, kind, tolerance);
+    let head = head_of(year, month, day, days, interval, limit, tolerance);
     opened_code(book::open(
         head,
         values,
@@ -105,7 +106,7 @@ pub extern "C" fn sawmauve_deliver(
     day: u32,
     days: u32,
     interval: u32,
-    kind: u32,
+    limit: u32,
     tolerance: u32,
     values: &mut [u32],
     versions: &mut [u32],
@@ -116,13 +117,13 @@ pub extern "C" fn sawmauve_deliver(
     status: u8,
 ) -> u32
     ensures { λ r. ⌜
-        (let head = headOf year month day days interval kind tolerance in
+        (let head = headOf year month day days interval limit tolerance in
         let slots = lentSlots (values .entry) (versions .entry) (statuses .entry) in
         (r ≡ answerCode (deliverAnswer head slots slot version value status))
         × HoldSlots (values .exit) (versions .exit) (statuses .exit) (deliverAfter head slots slot version value status))
         ⌝ }
 {
-    let head = head_of(year, month, day, days, interval, kind, tolerance);
+    let head = head_of(year, month, day, days, interval, limit, tolerance);
     filed_code(book::deliver(
         head,
         values,
@@ -142,7 +143,7 @@ pub extern "C" fn sawmauve_agree(
     day: u32,
     days: u32,
     interval: u32,
-    kind: u32,
+    limit: u32,
     tolerance: u32,
     agreed: &mut [u32],
     agreed_versions: &mut [u32],
@@ -151,13 +152,13 @@ pub extern "C" fn sawmauve_agree(
     value: u32,
 ) -> u32
     ensures { λ r. ⌜
-        (let head = headOf year month day days interval kind tolerance in
+        (let head = headOf year month day days interval limit tolerance in
         let lent = lentAgreed (agreed .entry) («agreed_versions» .entry) in
         (r ≡ answerCode (agreeAnswer head lent slot version value))
         × HoldAgreed (agreed .exit) («agreed_versions» .exit) (agreeAfter head lent slot version value))
         ⌝ }
 {
-    let head = head_of(year, month, day, days, interval, kind, tolerance);
+    let head = head_of(year, month, day, days, interval, limit, tolerance);
     filed_code(book::agree(head, agreed, agreed_versions, slot, version, value))
 }
 
@@ -168,18 +169,18 @@ pub extern "C" fn sawmauve_holiday(
     day: u32,
     days: u32,
     interval: u32,
-    kind: u32,
+    limit: u32,
     tolerance: u32,
     holidays: &mut [u8],
     at: u32,
 ) -> u32
     ensures { λ r. ⌜
-        (let head = headOf year month day days interval kind tolerance in
+        (let head = headOf year month day days interval limit tolerance in
         (r ≡ answerCode (holidayAnswer head (now (holidays .entry)) at))
         × (now (holidays .exit) ≡ holidayAfter head (now (holidays .entry)) at))
         ⌝ }
 {
-    let head = head_of(year, month, day, days, interval, kind, tolerance);
+    let head = head_of(year, month, day, days, interval, limit, tolerance);
     filed_code(book::holiday(head, holidays, at))
 }
 
@@ -190,7 +191,7 @@ pub extern "C" fn sawmauve_register(
     day: u32,
     days: u32,
     interval: u32,
-    kind: u32,
+    limit: u32,
     tolerance: u32,
     readings: &mut [u32],
     reads: &mut [u32],
@@ -199,13 +200,13 @@ pub extern "C" fn sawmauve_register(
     reading: u32,
 ) -> u32
     ensures { λ r. ⌜
-        (let head = headOf year month day days interval kind tolerance in
+        (let head = headOf year month day days interval limit tolerance in
         let lent = lentReads (readings .entry) (reads .entry) in
         (r ≡ answerCode (registerAnswer head lent boundary version reading))
         × (now (readings .exit) ≡ registerAfter head lent boundary version reading .readings)
         × (now (reads .exit) ≡ registerAfter head lent boundary version reading .readVersions))
         ⌝ }
 {
-    let head = head_of(year, month, day, days, interval, kind, tolerance);
+    let head = head_of(year, month, day, days, interval, limit, tolerance);
     filed_code(book::register(head, readings, reads, boundary, version, reading))
 }
