@@ -1,6 +1,8 @@
 // Cases that are told by the answers of the calls.
 use crate::books;
 use crate::say;
+use rules::limits;
+use rules::limits::Loaded;
 
 // Delivers slot 10 of a day and writes the answer.
 fn deliver_ten(
@@ -71,5 +73,34 @@ pub fn agreed() {
     say::text(b"\nagreed 99999999 and 100000000:");
     agree_ten(&mut values, &mut versions, 3, 99999999);
     agree_ten(&mut values, &mut versions, 4, 100000000);
+    say::text(b"\n");
+}
+
+// Loads a place of a table and writes the limit, or the refusal's number.
+fn load(table: &[u32], kind: u32) {
+    match limits::load(table, kind) {
+        Loaded::Limit(n) => say::field(n as u64),
+        Loaded::Refused(n) => say::refused(n),
+    }
+}
+
+// The first and last place of a table, and the places beside them; then tables that are none.
+pub fn limits() {
+    let two = [40000, 70000];
+    say::text(b"kinds 0 1 2 3 of 40000 70000:");
+    load(&two, 0);
+    load(&two, 1);
+    load(&two, 2);
+    load(&two, 3);
+    let equal = [40000, 40000];
+    let highest = [1, 1000000];
+    let over = [1, 1000001];
+    let zero = [0, 1];
+    say::text(b"\ntables 40000 40000, 1 1000000, 1 1000001, 0 1 and none:");
+    load(&equal, 3);
+    load(&highest, 2);
+    load(&over, 1);
+    load(&zero, 1);
+    load(&zero[..0], 1);
     say::text(b"\n");
 }

@@ -2,7 +2,18 @@
 use book::Opened;
 use publishing::Published;
 use rules::Head;
+use rules::limits;
+use rules::limits::Loaded;
 ghost use Prim.Native.Nat.{_≤_};
+
+// The limit of a kind in the table of 01's two kinds.
+pub fn limit_of(kind: u32) -> u32 {
+    let table = [40000, 70000];
+    match limits::load(&table, kind) {
+        Loaded::Limit(n) => n,
+        Loaded::Refused(_) => 0,
+    }
+}
 
 // A book of tolerance 0 that begins on 2024-05-01.
 pub fn head_of(days: u32, interval: u32, kind: u32) -> Head {
@@ -12,7 +23,7 @@ pub fn head_of(days: u32, interval: u32, kind: u32) -> Head {
         day: 1,
         days: days,
         interval: interval,
-        kind: kind,
+        limit: limit_of(kind),
         tolerance: 0,
     }
 }

@@ -84,7 +84,7 @@ fn date(label: &[u8], year: u32, month: u32, day: u32, days: u32) {
         day: day,
         days: days,
         interval: 30,
-        kind: 1,
+        limit: books::limit_of(1),
         tolerance: 0,
     };
     let rows = [[2, 0, 0, 0, 0]];

@@ -21,4 +21,5 @@ fn main() {
     outcomes::agreed();
     files::agreed();
     answers::agreed();
+    answers::limits();
 }
