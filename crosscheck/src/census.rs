@@ -155,10 +155,11 @@ impl Census<'_> {
         let most = self.shape.limit * self.shape.interval / 60;
         let good = self.causes[slot].is_none();
         let demand = self.causes[slot] == Some(Cause::Demand);
-        let counts = &mut self.counts;
-        counts.add_if(good && value == most, "demand", "at the limit");
-        counts.add_if(demand && value == most + 1, "demand", "one above");
-        counts.add_if(demand && value == u32::MAX, "demand", "highest value");
+        if good && value == most || demand && value == most + 1 {
+            self.counts.around_the_limit(self.shape, demand);
+        }
+        self.counts
+            .add_if(demand && value == u32::MAX, "demand", "highest value");
     }
 
     fn scaled_over(&mut self, outcome: &Slot) {

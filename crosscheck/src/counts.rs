@@ -5,7 +5,7 @@ use std::fmt;
 
 use crate::book::{Filed, MOST_AGREED};
 use crate::calls::{Act, Book, List, Lists};
-use crate::head::Shape;
+use crate::head::{Head, Shape};
 use crate::reader::{Fault, Figures};
 use crate::side::Answer;
 
@@ -25,10 +25,9 @@ const CLASSES: &[(&str, &[&str])] = &[
         "book slots",
         &["48", "to 1,500", "to 20,000", "to 115,199", "115,200"],
     ),
-    (
-        "book head",
-        &["L 5", "L 15", "L 30", "kind 1", "kind 2", "refused"],
-    ),
+    ("book head", &["L 5", "L 15", "L 30", "refused"]),
+    ("book limit", LIMITS),
+    ("limit refused, 1", &["0", "1,000,001", "another"]),
     ("book tolerance", &["0", "small", "1,000,000", "other"]),
     (
         "book first day",
@@ -175,7 +174,12 @@ const CLASSES: &[(&str, &[&str])] = &[
         "earlier week skipped",
         &["holiday", "outage", "gap", "failed"],
     ),
-    ("demand", &["at the limit", "one above", "highest value"]),
+    ("demand, limit 1", AROUND),
+    ("demand, limit 40,000", AROUND),
+    ("demand, limit 70,000", AROUND),
+    ("demand, limit 1,000,000", AROUND),
+    ("demand, another limit", AROUND),
+    ("demand", &["highest value"]),
     (
         "span",
         &[
@@ -277,6 +281,18 @@ pub const NUMBERS: &[&str] = &[
     "17", "18", "19", "20", "21", "22", "23", "24", "25",
 ];
 
+const LIMITS: &[&str] = &["1", "40,000", "70,000", "1,000,000", "another"];
+
+/// Values at and one above what passes the demand test.
+const AROUND: &[&str] = &[
+    "L 5, at the limit",
+    "L 5, one above",
+    "L 15, at the limit",
+    "L 15, one above",
+    "L 30, at the limit",
+    "L 30, one above",
+];
+
 /// References found.
 const FOUND: &[&str] = NUMBERS.split_at(5).0;
 
@@ -360,8 +376,7 @@ impl Counts {
             _ => "L 30",
         };
         self.add("book head", interval);
-        let kind = if head.kind == 1 { "kind 1" } else { "kind 2" };
-        self.add("book head", kind);
+        self.add("book limit", limit_class(head.limit));
         let tolerance = match head.tolerance {
             0 => "0",
             1..=100 => "small",
@@ -418,6 +433,37 @@ impl Counts {
         self.add_if(beside, "agreed", names[1]);
     }
 
+    /// A head that was refused: whether its limit alone is out of bounds.
+    pub fn limit_refused(&mut self, head: Head) {
+        let limit = 40_000;
+        if head.limit == limit || (Head { limit, ..head }).shape().is_err() {
+            return;
+        }
+        let name = match head.limit {
+            0 => "0",
+            1_000_001 => "1,000,001",
+            _ => "another",
+        };
+        self.add("limit refused, 1", name);
+    }
+
+    /// A delivered value that is the highest to pass the demand test, or one above.
+    pub fn around_the_limit(&mut self, shape: &Shape, above: bool) {
+        let group = match shape.limit {
+            1 => "demand, limit 1",
+            40_000 => "demand, limit 40,000",
+            70_000 => "demand, limit 70,000",
+            1_000_000 => "demand, limit 1,000,000",
+            _ => "demand, another limit",
+        };
+        let place = match shape.interval {
+            5 => 0,
+            15 => 2,
+            _ => 4,
+        };
+        self.add(group, AROUND[place + usize::from(above)]);
+    }
+
     pub fn resized(&mut self, list: List) {
         let name = match list {
             List::Values => "values",
@@ -446,6 +492,16 @@ impl Counts {
         let position = Fault::ALL.iter().position(|&other| other == fault);
         let names = CLASSES[CLASSES.len() - 1].1;
         self.add("reader's fault", names[position.unwrap_or(0)]);
+    }
+}
+
+fn limit_class(limit: u32) -> &'static str {
+    match limit {
+        1 => "1",
+        40_000 => "40,000",
+        70_000 => "70,000",
+        1_000_000 => "1,000,000",
+        _ => "another",
     }
 }
 

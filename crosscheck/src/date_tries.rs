@@ -166,7 +166,7 @@ fn head((year, month, day): Date, days: u32) -> Head {
         day,
         days,
         interval: 30,
-        kind: 1,
+        limit: 40_000,
         tolerance: 0,
     }
 }

@@ -8,6 +8,8 @@ pub const LAST_DAY: u32 = 36_524;
 pub const MOST_DAYS: u32 = 400;
 /// The highest tolerance in Wh.
 pub const MOST_TOLERANCE: u32 = 1_000_000;
+/// The highest demand limit in W.
+pub const MOST_LIMIT: u32 = 1_000_000;
 /// An eight-digit dial shows 0 to `DIAL - 1`.
 pub const DIAL: u32 = 100_000_000;
 
@@ -27,7 +29,8 @@ pub struct Head {
     pub day: u32,
     pub days: u32,
     pub interval: u32,
-    pub kind: u32,
+    /// W5: a demand limit in W, in the connection kind's stead.
+    pub limit: u32,
     pub tolerance: u32,
 }
 
@@ -54,9 +57,9 @@ impl Head {
     /// The shape of a head in bounds; otherwise refused, 1.
     pub fn shape(&self) -> Result<Shape, u8> {
         let first_day = day_number(self.year, self.month, self.day).ok_or(refusal::HEAD)?;
-        let limit = demand_limit(self.kind).ok_or(refusal::HEAD)?;
         if !days_fit(first_day, self.days)
             || !interval_known(self.interval)
+            || !(1..=MOST_LIMIT).contains(&self.limit)
             || self.tolerance > MOST_TOLERANCE
         {
             return Err(refusal::HEAD);
@@ -69,7 +72,7 @@ impl Head {
             interval: self.interval,
             slots_a_day,
             slots: slots_a_day * days,
-            limit,
+            limit: self.limit,
             tolerance: self.tolerance,
         })
     }
@@ -82,15 +85,6 @@ pub fn interval_known(interval: u32) -> bool {
 /// D is 1 to 400, and the last day is not after 2099-12-31.
 pub fn days_fit(first_day: u32, days: u32) -> bool {
     (1..=MOST_DAYS).contains(&days) && first_day <= LAST_DAY && first_day + (days - 1) <= LAST_DAY
-}
-
-/// Kind 1 is single phase, kind 2 three phase (000, 4.1a).
-fn demand_limit(kind: u32) -> Option<u32> {
-    match kind {
-        1 => Some(40_000),
-        2 => Some(70_000),
-        _ => None,
-    }
 }
 
 fn is_leap(year: u32) -> bool {

@@ -1,6 +1,6 @@
 //! Random heads, in bounds and out of them.
 
-use crate::head::{Head, LAST_DAY, date};
+use crate::head::{Head, LAST_DAY, MOST_LIMIT, date};
 use crate::rng::Rng;
 
 /// D and L of the large books that every seed has, one in a hundred.
@@ -37,7 +37,7 @@ fn random_days(rng: &mut Rng) -> u32 {
         750..780 => 64,
         780..784 => 365,
         784..788 => 366,
-        788..796 => 400,
+        788..804 => 400,
         _ => rng.between(1, 60),
     }
 }
@@ -70,9 +70,23 @@ pub fn random(rng: &mut Rng, days: u32, interval: u32) -> Head {
         day,
         days,
         interval,
-        kind: rng.between(1, 2),
+        limit: random_limit(rng),
         tolerance: rng.pick(&[0, 0, small, small, small, 1_000_000, any]),
     }
+}
+
+/// A demand limit in bounds; the two that were built in most often.
+fn random_limit(rng: &mut Rng) -> u32 {
+    let small = rng.between(2, 1000);
+    let any = rng.between(1, MOST_LIMIT);
+    rng.pick(&[
+        40_000, 40_000, 40_000, 70_000, 70_000, 1, MOST_LIMIT, small, any, any,
+    ])
+}
+
+fn broken_limit(rng: &mut Rng) -> u32 {
+    let any = rng.between(MOST_LIMIT + 1, u32::MAX);
+    rng.pick(&[0, MOST_LIMIT + 1, u32::MAX, any])
 }
 
 /// Breaks one of the head's bounds.
@@ -86,7 +100,7 @@ pub fn broken(rng: &mut Rng, head: Head) -> Head {
         4 => (bad.month, bad.day) = rng.pick(&[(4, 31), (6, 31), (9, 31), (11, 31)]),
         5 => bad.days = rng.pick(&[0, 401, 402, u32::MAX]),
         6 => bad.interval = rng.pick(&[0, 1, 4, 6, 10, 20, 60, 1440, u32::MAX]),
-        7 => bad.kind = rng.pick(&[0, 3, u32::MAX]),
+        7 => bad.limit = broken_limit(rng),
         8 => bad.tolerance = rng.pick(&[1_000_001, u32::MAX]),
         9 => {
             // One day too far.
@@ -108,7 +122,7 @@ pub fn other(rng: &mut Rng, head: Head) -> Head {
     match rng.below(4) {
         0 => other.interval = rng.pick(&[5, 15, 30]),
         1 => other.days = rng.pick(&[head.days + 1, head.days - 1, 1, 400]),
-        2 => other.kind = 3 - head.kind,
+        2 => other.limit = random_limit(rng),
         _ => other.tolerance = rng.between(0, 1_000_000),
     }
     other

@@ -16,7 +16,7 @@ unsafe extern "C" {
         day: u32,
         days: u32,
         interval: u32,
-        kind: u32,
+        limit: u32,
         tolerance: u32,
         values: *mut u32,
         values_len: usize,
@@ -42,7 +42,7 @@ unsafe extern "C" {
         day: u32,
         days: u32,
         interval: u32,
-        kind: u32,
+        limit: u32,
         tolerance: u32,
         values: *mut u32,
         values_len: usize,
@@ -62,7 +62,7 @@ unsafe extern "C" {
         day: u32,
         days: u32,
         interval: u32,
-        kind: u32,
+        limit: u32,
         tolerance: u32,
         holidays: *mut u8,
         holidays_len: usize,
@@ -75,7 +75,7 @@ unsafe extern "C" {
         day: u32,
         days: u32,
         interval: u32,
-        kind: u32,
+        limit: u32,
         tolerance: u32,
         readings: *mut u32,
         readings_len: usize,
@@ -92,7 +92,7 @@ unsafe extern "C" {
         day: u32,
         days: u32,
         interval: u32,
-        kind: u32,
+        limit: u32,
         tolerance: u32,
         agreed: *mut u32,
         agreed_len: usize,
@@ -109,7 +109,7 @@ unsafe extern "C" {
         day: u32,
         days: u32,
         interval: u32,
-        kind: u32,
+        limit: u32,
         tolerance: u32,
         values: *const u32,
         values_len: usize,
@@ -163,6 +163,8 @@ unsafe extern "C" {
         totals: *mut u64,
         totals_len: usize,
     ) -> u32;
+
+    fn sawmauve_limit(table: *const u32, len: usize, kind: u32) -> u32;
 }
 
 // Every pointer below is a slice's own, with that slice's length, and is not kept
@@ -176,7 +178,7 @@ pub fn open(head: Head, lists: &mut Lists) -> u32 {
             head.day,
             head.days,
             head.interval,
-            head.kind,
+            head.limit,
             head.tolerance,
             lists.values.as_mut_ptr(),
             lists.values.len(),
@@ -212,7 +214,7 @@ pub fn deliver(
             head.day,
             head.days,
             head.interval,
-            head.kind,
+            head.limit,
             head.tolerance,
             values.as_mut_ptr(),
             values.len(),
@@ -236,7 +238,7 @@ pub fn holiday(head: Head, holidays: &mut [u8], day: u32) -> u32 {
             head.day,
             head.days,
             head.interval,
-            head.kind,
+            head.limit,
             head.tolerance,
             holidays.as_mut_ptr(),
             holidays.len(),
@@ -258,7 +260,7 @@ pub fn register(
             head.day,
             head.days,
             head.interval,
-            head.kind,
+            head.limit,
             head.tolerance,
             readings.as_mut_ptr(),
             readings.len(),
@@ -284,7 +286,7 @@ pub fn agree(
             head.day,
             head.days,
             head.interval,
-            head.kind,
+            head.limit,
             head.tolerance,
             agreed.as_mut_ptr(),
             agreed.len(),
@@ -305,7 +307,7 @@ pub fn publish(head: Head, lists: &Lists, out: &mut [u8]) -> u64 {
             head.day,
             head.days,
             head.interval,
-            head.kind,
+            head.limit,
             head.tolerance,
             lists.values.as_ptr(),
             lists.values.len(),
@@ -396,6 +398,10 @@ pub fn stays(file: &[u8], pairs: &[u32], totals: &mut [u64]) -> u32 {
             totals.len(),
         )
     }
+}
+
+pub fn limit(table: &[u32], kind: u32) -> u32 {
+    unsafe { sawmauve_limit(table.as_ptr(), table.len(), kind) }
 }
 
 /// The host as a side of the comparison.

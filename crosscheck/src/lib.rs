@@ -2,7 +2,7 @@
 //! and what is needed to compare it with another build.
 //!
 //! The build: `head`, `book`, `rules`, `file`, `reader`, `line`;
-//! of 02: `dial`, `strips`, `stays`.
+//! of 02: `dial`, `strips`, `stays`, `limits`.
 //! What it is held against: `plain`, `definition`, `acceptance`, and `host` when linked.
 //! The comparison: `calls`, `random`, `heads`, `damage`, `side`, `run`, `shrink`, `counts`, `census`,
 //! `run_census`;
@@ -25,6 +25,7 @@ pub mod heads;
 #[cfg(feature = "host")]
 #[allow(unsafe_code)]
 pub mod host;
+pub mod limits;
 pub mod line;
 pub mod plain;
 pub mod random;

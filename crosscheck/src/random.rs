@@ -390,8 +390,10 @@ impl Maker {
 
     fn value(&mut self, profile: Profile, slot: usize) -> u32 {
         let most = self.most();
-        if self.rng.one_in(400) {
-            return self.rng.pick(&[most + 1, u32::MAX, u32::MAX / 60 + 1]);
+        if self.rng.one_in(300) {
+            return self
+                .rng
+                .pick(&[most, most + 1, u32::MAX, u32::MAX / 60 + 1]);
         }
         match profile {
             Profile::Zero => 0,
@@ -399,9 +401,12 @@ impl Maker {
             Profile::Flat(value) => value,
             Profile::Daily => {
                 let position = (slot % self.shape.slots_a_day) as u32;
-                position * 3 + self.rng.between(0, most / 4)
+                most.min(position * 3 + self.rng.between(0, most / 4))
             }
-            Profile::Edge => self.rng.pick(&[most, most, most, most - 1, most + 1]),
+            Profile::Edge => {
+                let less = most.saturating_sub(1);
+                self.rng.pick(&[most, most, most, less, most + 1])
+            }
             Profile::Any => self.rng.between(0, most),
         }
     }

@@ -89,6 +89,9 @@ impl Run<'_> {
         match answer {
             Some(answer) => {
                 counts.answer(&call.act, answer);
+                if answer == Answer::Refused(1) {
+                    counts.limit_refused(call.head);
+                }
                 if answer == Answer::Refused(11) && self.others_possible(call) {
                     counts.impossible_agreed(&call.act, &self.second);
                 }

@@ -95,7 +95,7 @@ fn heavy_file() -> Vec<u8> {
         day: 28,
         days: 3,
         interval: 30,
-        kind: 1,
+        limit: 40_000,
         tolerance: 0,
     };
     let mut lists = Lists::zeroed(144, 3);

@@ -61,12 +61,16 @@ enum Meddling {
     AllDaysLookLikeSundays,
     SundaysADayOff,
     HolidaySundaysCount,
+    LimitIsBuiltIn,
+    LimitIsEnough,
+    LimitOf0,
+    LimitOver1000000,
     SundaysOf364Days,
     SundaysOf371Days,
     SundaysOf372Days,
 }
 
-const ALL: [Meddling; 30] = [
+const ALL: [Meddling; 34] = [
     Meddling::FillsNothing,
     Meddling::FirstDeliveryOnly,
     Meddling::ConstantFile,
@@ -97,6 +101,10 @@ const ALL: [Meddling; 30] = [
     Meddling::AllDaysLookLikeSundays,
     Meddling::SundaysADayOff,
     Meddling::HolidaySundaysCount,
+    Meddling::LimitIsBuiltIn,
+    Meddling::LimitIsEnough,
+    Meddling::LimitOf0,
+    Meddling::LimitOver1000000,
 ];
 
 /// Found in books of 400 days only.
@@ -108,7 +116,7 @@ const FAR: [Meddling; 3] = [
 
 impl Side for Meddled {
     fn open(&self, head: Head, lists: &mut Lists) -> Answer {
-        Second.open(head, lists)
+        Second.open(self.head(head), lists)
     }
 
     fn deliver(&self, head: Head, lists: &mut Lists, delivery: Delivery) -> Answer {
@@ -152,7 +160,7 @@ impl Side for Meddled {
         if self.0 == Meddling::AlwaysShort {
             return Answer::Refused(7);
         }
-        let answer = Second.publish(head, &self.meddled(head, lists), out);
+        let answer = Second.publish(self.head(head), &self.meddled(head, lists), out);
         let Answer::Length(length) = answer else {
             if self.0 == Meddling::WritesOnRefusal && !out.is_empty() {
                 out[0] = 0;
@@ -195,6 +203,20 @@ impl Side for Meddled {
 }
 
 impl Meddled {
+    /// The head as a build with this slip would take it.
+    fn head(&self, head: Head) -> Head {
+        let limit = match self.0 {
+            Meddling::LimitIsBuiltIn if head.limit > 40_000 => 70_000,
+            Meddling::LimitIsBuiltIn if head.limit > 0 => 40_000,
+            // What just passes the demand test fails.
+            Meddling::LimitIsEnough if head.limit > 1 => head.limit - 1,
+            Meddling::LimitOf0 => head.limit.max(1),
+            Meddling::LimitOver1000000 => head.limit.min(1_000_000),
+            _ => head.limit,
+        };
+        Head { limit, ..head }
+    }
+
     /// The cells as a build with this slip would take them.
     fn meddled(&self, head: Head, lists: &Lists) -> Lists {
         let mut lists = lists.clone();

@@ -10,9 +10,9 @@ use crosscheck::rules::{self, Cause};
 mod common;
 use common::*;
 
-fn cause_of(kind: u32, interval: u32, value: u32) -> Option<Cause> {
+fn cause_of(limit: u32, interval: u32, value: u32) -> Option<Cause> {
     let shape = Head {
-        kind,
+        limit,
         interval,
         ..HEAD
     }
@@ -23,13 +23,13 @@ fn cause_of(kind: u32, interval: u32, value: u32) -> Option<Cause> {
 
 #[test]
 fn demand_limits() {
-    assert_eq!(cause_of(1, 30, 20_000), None);
-    assert_eq!(cause_of(1, 30, 20_001), Some(Cause::Demand));
-    assert_eq!(cause_of(1, 5, 3_333), None);
-    assert_eq!(cause_of(1, 5, 3_334), Some(Cause::Demand));
-    assert_eq!(cause_of(2, 30, 30_000), None);
-    assert_eq!(cause_of(2, 30, 40_000), Some(Cause::Demand));
-    assert_eq!(cause_of(1, 15, u32::MAX), Some(Cause::Demand));
+    assert_eq!(cause_of(40_000, 30, 20_000), None);
+    assert_eq!(cause_of(40_000, 30, 20_001), Some(Cause::Demand));
+    assert_eq!(cause_of(40_000, 5, 3_333), None);
+    assert_eq!(cause_of(40_000, 5, 3_334), Some(Cause::Demand));
+    assert_eq!(cause_of(70_000, 30, 30_000), None);
+    assert_eq!(cause_of(70_000, 30, 40_000), Some(Cause::Demand));
+    assert_eq!(cause_of(40_000, 15, u32::MAX), Some(Cause::Demand));
 }
 
 #[test]

@@ -27,8 +27,12 @@ fn bad_heads() -> Vec<Head> {
             interval: 10,
             ..HEAD
         },
-        Head { kind: 0, ..HEAD },
-        Head { kind: 3, ..HEAD },
+        Head { limit: 0, ..HEAD },
+        Head {
+            limit: 1_000_001,
+            ..HEAD
+        },
+        Head { limit: MAX, ..HEAD },
         Head {
             tolerance: 1_000_001,
             ..HEAD
@@ -39,7 +43,7 @@ fn bad_heads() -> Vec<Head> {
             day: MAX,
             days: MAX,
             interval: MAX,
-            kind: MAX,
+            limit: MAX,
             tolerance: MAX,
         },
     ]
@@ -61,7 +65,7 @@ fn one_is_a_head_out_of_bounds() {
         days: 400,
         tolerance: 1_000_000,
         interval: 5,
-        kind: 2,
+        limit: 1_000_000,
         ..HEAD
     };
     assert!(bounds.shape().is_ok());

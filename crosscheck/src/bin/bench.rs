@@ -86,7 +86,7 @@ impl Sample {
             day: 1,
             days,
             interval,
-            kind: 2,
+            limit: 70_000,
             tolerance: 10,
         };
         let shape = head.shape().expect("a head in bounds");

@@ -5,14 +5,14 @@ use crosscheck::book::{self, Filed};
 use crosscheck::calls::Lists;
 use crosscheck::head::Head;
 
-/// 01's Whole: 2024-05-01, D 1, L 30, kind 1, t 0.
+/// 01's Whole: 2024-05-01, D 1, L 30, the limit of kind 1, t 0.
 pub const HEAD: Head = Head {
     year: 2024,
     month: 5,
     day: 1,
     days: 1,
     interval: 30,
-    kind: 1,
+    limit: 40_000,
     tolerance: 0,
 };
 
