@@ -6,7 +6,8 @@
 //! What it is held against: `plain`, `definition`, `acceptance`, and `host` when linked.
 //! The comparison: `calls`, `random`, `heads`, `damage`, `side`, `run`, `shrink`, `counts`, `census`,
 //! `run_census`;
-//! the smaller ones of 02: `tries`, `dial_tries`, `strips_tries`, `stays_tries`, `date_tries`.
+//! the smaller ones of 02: `tries`, `dial_tries`, `strips_tries`, `stays_tries`, `date_tries`,
+//! `limit_tries`.
 #![deny(unsafe_code)]
 
 pub mod acceptance;
@@ -25,6 +26,7 @@ pub mod heads;
 #[cfg(feature = "host")]
 #[allow(unsafe_code)]
 pub mod host;
+pub mod limit_tries;
 pub mod limits;
 pub mod line;
 pub mod plain;
