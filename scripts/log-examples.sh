@@ -69,6 +69,7 @@ good quiet-day '2024-05-01 1 30 47 1 0 25020' '' "1 done${newline}49 stored${new
 good wrap '2024-12-31 1 30 48 0 0 25' '' "1 done${newline}50 stored${newline}"
 good month '2024-05-01 31 30 1468 15 5 773038' "9 refused${newline}" "1 done${newline}1 late${newline}2 refused 10${newline}3 refused 3${newline}1 refused 4${newline}2 refused 5${newline}1 refused 6${newline}3 repeat${newline}1475 stored${newline}"
 good drowned '2024-06-10 1 30 39 9 0 26275' "2 refused${newline}" "1 done${newline}1 refused 10${newline}1 refused 12${newline}1 repeat${newline}53 stored${newline}"
+good marina '2024-07-14 1 30 47 1 0 5692669' '' "1 done${newline}50 stored${newline}"
 day=$work/quiet-day
 
 printf '%s\nhello\n' "$open" | { none 'not a call' 'line 2: not a call'; exit "$bad"; } || bad=1
@@ -83,6 +84,14 @@ printf '\nopen 2024-02-30 1 30 1 0\n%s\n' "$open" | { none 'a refused opening' '
 printf '# nothing\n' | { none 'no opening' 'no opening'; exit "$bad"; } || bad=1
 none 'an empty log' 'no opening' < /dev/null
 
+printf 'limits 40000 40000\n%s\n' "$open" | { none 'a table that does not rise' 'line 1: refused 13'; exit "$bad"; } || bad=1
+printf '\nlimits 40000\nopen 2024-05-01 1 30 2 0\n' | { none 'a kind that is no place' 'line 3: refused 1'; exit "$bad"; } || bad=1
+printf 'limits 40000\nlimits 40000\n%s\n' "$open" | { none 'a second table' 'line 2: not a call'; exit "$bad"; } || bad=1
+printf '%s\nlimits 40000\n' "$open" | { none 'a table after the opening' 'line 2: not a call'; exit "$bad"; } || bad=1
+printf 'limits\n%s\n' "$open" | { none 'a table of no limits' 'line 1: not a call'; exit "$bad"; } || bad=1
+printf 'limits 1 2 3 4 5 6 7 8 9 10 11 12 13 14 15 16 17 18 19 20 21 22 23 24 25\n%s\n' "$open" | { none 'a table of 25 limits' 'line 1: not a call'; exit "$bad"; } || bad=1
+printf 'limits 40000\n' | { none 'a table and no opening' 'no opening'; exit "$bad"; } || bad=1
+
 # a line of 255 bytes is a call, a longer comment is passed over, and a status over 255 is refused with 5
 {
     printf '#%s\n%s\nholiday %0247d\n' "$(letters 1000)" "$open" 0
@@ -92,6 +101,8 @@ printf 'done\nstored\nrefused 3\nrefused 5\n' > "$work/want"
 target/bin/answers < "$work/log" > "$work/out"
 same "$work/out" "$work/want" 'the longest line and the largest number'
 
+sed '1i limits 40000 70000' examples/quiet-day.log | { like 'the two kinds as a table' "$day.file" "$day.answers"; exit "$bad"; } || bad=1
+sed '1i limits 1000 40000 1000000' examples/quiet-day.log | sed 's/^open 2024-05-01 1 30 1 0/open 2024-05-01 1 30 2 0/' | { like 'another table with the same limit' "$day.file" "$day.answers"; exit "$bad"; } || bad=1
 sed 's/$/\r/' examples/quiet-day.log | { like 'CR LF' "$day.file" "$day.answers"; exit "$bad"; } || bad=1
 head -c -1 examples/quiet-day.log | { like 'no LF at the end' "$day.file" "$day.answers"; exit "$bad"; } || bad=1
 slowly examples/quiet-day.log | { like 'a slow pipe' "$day.file" "$day.answers"; exit "$bad"; } || bad=1
