@@ -24,7 +24,7 @@ fn put_text(out: &mut [u8], at: usize, text: &[u8]) -> usize
 }
 
 // The digits of `n`.
-fn places(n: u64) -> usize
+pub fn places(n: u64) -> usize
     ensures { λ r. ⌜ (r ≡ Line·places 19 n) × (r ≤ 20) ⌝ }
 {
     let mut k = 1;
