@@ -1,0 +1,44 @@
+-- `checks::are_headers` meets its contract.
+use mathlib.Core.Path.{sym, _∙_}
+use mathlib.Core.Bool.{and-true}
+use borrow.Author.Tests.{not-true, not-false}
+use borrow.Author.Needs.{needs}
+use Rattle.market.proofs.checks.are_headers.Statement.{statement}
+use Rattle.market.proofs.checks.are_headers.Tie as tie
+
+are-plain-requires : tie.Need-are-plain-requires
+are-plain-requires c κs = search needs
+
+returns : tie.Need-returns
+returns c = rw (sym (c .before .are-plain .ensures) ∙ not-true _ (c .if1 .taken))
+
+are-plain-requires-2 : tie.Need-are-plain-requires-2
+are-plain-requires-2 c κs = search needs
+
+returns-2 : tie.Need-returns-2
+returns-2 c = rw (sym (c .before .before .before .are-plain .ensures) ∙ not-false _ (c .before .before .if1 .left), sym (c .before .are-plain2 .ensures) ∙ not-true _ (c .if2 .taken))
+
+are-plain-requires-3 : tie.Need-are-plain-requires-3
+are-plain-requires-3 c κs = search needs
+
+returns-3 : tie.Need-returns-3
+returns-3 c = rw (sym (c .before .before .before .before .before .are-plain .ensures) ∙ not-false _ (c .before .before .before .before .if1 .left), sym (c .before .before .before .are-plain2 .ensures) ∙ not-false _ (c .before .before .if2 .left), sym (c .before .are-plain3 .ensures) ∙ not-true _ (c .if3 .taken))
+
+are-plain-requires-4 : tie.Need-are-plain-requires-4
+are-plain-requires-4 c κs = search needs
+
+returns-4 : tie.Need-returns-4
+returns-4 c = rw (sym (c .before .before .before .before .before .before .are-plain .ensures) ∙ not-false _ (c .before .before .before .before .before .if1 .left), sym (c .before .before .before .before .are-plain2 .ensures) ∙ not-false _ (c .before .before .before .if2 .left), sym (c .before .before .are-plain3 .ensures) ∙ not-false _ (c .before .if3 .left), and-true) (c .are-plain4 .ensures)
+
+pub are-headers-spec : {M : Type 1} → statement M
+are-headers-spec =
+    tie.close
+    (tie.spec
+    are-plain-requires
+    returns
+    are-plain-requires-2
+    returns-2
+    are-plain-requires-3
+    returns-3
+    are-plain-requires-4
+    returns-4)

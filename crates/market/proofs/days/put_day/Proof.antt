@@ -1,0 +1,47 @@
+-- `days::put_day` meets its contract.
+use Rattle.file.specs.Reader.{slotAt}
+use Rattle.market.specs.Fields.{markOf}
+use Rattle.market.proofs.Putting.{then, same}
+use Rattle.market.proofs.Joining.{day-alike, day-varies}
+use borrow.Author.Needs.{needs}
+use Rattle.market.proofs.days.put_day.Statement.{statement}
+use Rattle.market.proofs.days.put_day.Tie as tie
+
+is-one-requires : tie.Need-is-one-requires
+is-one-requires c κs = search needs
+
+day-mark-requires : tie.Need-day-mark-requires
+day-mark-requires c κs = search needs
+
+put-300-requires : tie.Need-put-300-requires
+put-300-requires c κs = search needs
+
+same-length : tie.Need-same-length
+same-length c = search needs
+
+returns : tie.Need-returns
+returns c = let a = c .before .before .before .before .before .before .before .before .before .before .before .args in
+    same (day-alike (λ i. markOf (a .codes) (slotAt (a .file .now) i)) (a .day .from) (a .day .slots) (a .reason .now) (a .created .now) (a .day .number) (λ i. slotAt (a .file .now) i .value) _ _ (c .before .before .before .before .before .before .is-one .ensures) (c .before .before .before .before .before .day-mark .ensures) (c .if1 .taken)) (c .before .before .before .put-300 .ensures)
+
+put-runs-requires : tie.Need-put-runs-requires
+put-runs-requires c κs = search needs
+
+same-length-2 : tie.Need-same-length-2
+same-length-2 c = search needs
+
+returns-2 : tie.Need-returns-2
+returns-2 c = let a = c .before .before .before .before .before .before .before .before .before .before .before .before .before .before .before .args in
+    same (day-varies (λ i. markOf (a .codes) (slotAt (a .file .now) i)) (a .day .from) (a .day .slots) (a .reason .now) (a .created .now) (a .day .number) (λ i. slotAt (a .file .now) i .value) _ _ (c .before .before .before .before .before .before .before .before .before .before .is-one .ensures) (c .before .before .before .before .before .before .before .before .before .day-mark .ensures) (c .before .before .before .before .if1 .left)) (then (c .before .before .before .before .before .before .before .put-300 .ensures) (c .before .before .put-runs .ensures))
+
+pub put-day-spec : {M : Type 1} → statement M
+put-day-spec =
+    tie.close
+    (tie.spec
+    is-one-requires
+    day-mark-requires
+    put-300-requires
+    same-length
+    returns
+    put-runs-requires
+    same-length-2
+    returns-2)

@@ -1,0 +1,70 @@
+-- `days::put_days` meets its contract.
+use borrow.Author.Needs.{needs}
+use mathlib.Core.Path.{_≡_, ap, _∙_}
+use Prim.Native.Nat.{_≤_, _-_, _+_, _*_}
+use native.Mathlib.Nat.{mul-le-mul}
+use native.Mathlib.Omega.{arith}
+use lib.ListN.{length}
+use Rattle.file.specs.Reader.{slotAt}
+use Rattle.market.specs.Fields.{joined, markOf}
+use Rattle.market.specs.Records.{dayRecords, daysOf}
+use Rattle.market.specs.Inner.Writing.{Added}
+use Rattle.market.proofs.Putting.{length-stored}
+use Rattle.market.proofs.Joining.{joined-none, joined-next-0, day-within}
+use Rattle.market.proofs.days.put_days.Statement.{statement}
+use Rattle.market.proofs.days.put_days.Tie as tie
+
+abbrev Inv-loop : tie.InvT-loop
+Inv-loop out₀ at file codes first n days reason created next₀ d₀ out next d = (d ≤ days) × Added out₀ at out next (joined (λ k. dayRecords reason created (first + k) (λ i. slotAt file i .value) (λ i. markOf codes (slotAt file i)) (k * n) n) 0 d)
+
+abbrev μ-loop : tie.MeasureT-loop
+μ-loop out₀ at file codes first n days reason created next₀ d₀ out next d = days - d
+
+loop-holds : tie.Need-loop-holds Inv-loop μ-loop
+loop-holds c = (search needs, joined-none _ _ _ _ (search needs) (search needs))
+
+add-t14 : tie.Need-add-t14 Inv-loop μ-loop
+add-t14 c = omega (arith, c .before .before .before .before .before .before .pre .dates)
+
+cast-t15 : tie.Need-cast-t15 Inv-loop μ-loop
+cast-t15 c = search needs
+
+mul-t16 : tie.Need-mul-t16 Inv-loop μ-loop
+mul-t16 c = omega (arith, day-within (c .before .before .before .before .before .before .args .n) (c .before .loop .d) (c .before .before .before .before .before .before .args .days) (search needs), mul-le-mul (c .before .before .before .before .before .before .pre .day) (c .before .before .before .before .before .before .pre .few))
+
+put-day-requires : tie.Need-put-day-requires Inv-loop μ-loop
+put-day-requires c κs = (omega (arith, day-within (c .before .before .before .before .before .before .before .args .n) (c .before .before .loop .d) (c .before .before .before .before .before .before .before .args .days) (search needs), c .before .before .before .before .before .before .before .pre .long), c .before .before .before .before .before .before .before .pre .some, omega (arith, c .before .before .before .before .before .before .before .pre .dates))
+
+add-d : tie.Need-add-d Inv-loop μ-loop
+add-d c = search needs
+
+loop-less : tie.Need-loop-less Inv-loop μ-loop
+loop-less c = search needs
+
+loop-again : tie.Need-loop-again Inv-loop μ-loop
+loop-again c = (search needs, joined-next-0 _ (c .before .before .before .before .before .loop .d) (c .before .before .before .before .before .loop .inv .1) (c .before .before .put-day .ensures))
+
+same-length : tie.Need-same-length Inv-loop μ-loop
+same-length c = ap length (c .before .loop .inv .1 .has) ∙ length-stored _ _ _
+
+returns : tie.Need-returns Inv-loop μ-loop
+unfolding daysOf
+returns c = let done : c .before .loop .d ≡ c .before .before .before .before .before .before .args .days = omega arith in
+    rw done at (c .before .loop .inv .1)
+
+pub put-days-spec : {M : Type 1} → statement M
+put-days-spec =
+    tie.close
+    (tie.spec
+    Inv-loop
+    μ-loop
+    loop-holds
+    add-t14
+    cast-t15
+    mul-t16
+    put-day-requires
+    add-d
+    loop-less
+    loop-again
+    same-length
+    returns)

@@ -1,0 +1,59 @@
+-- `days::put_values` meets its contract.
+use borrow.Author.Needs.{needs}
+use mathlib.Core.Path.{_≡_, ap, _∙_}
+use Prim.Native.Nat.{_≤_, _-_}
+use native.Mathlib.Omega.{arith}
+use lib.ListN.{length}
+use Rattle.file.specs.Reader.{slotAt}
+use Rattle.market.specs.Fields.{field, kwh, joined}
+use Rattle.market.specs.Inner.Writing.{Added}
+use Rattle.market.proofs.Putting.{length-stored}
+use Rattle.market.proofs.Joining.{joined-none, joined-next}
+use Rattle.market.proofs.days.put_values.Statement.{statement}
+use Rattle.market.proofs.days.put_values.Tie as tie
+
+abbrev Inv-loop : tie.InvT-loop
+Inv-loop out₀ at file a k next₀ i₀ out next i = (i ≤ k) × Added out₀ at out next (joined (λ x. field (kwh (slotAt file x .value))) a i)
+
+abbrev μ-loop : tie.MeasureT-loop
+μ-loop out₀ at file a k next₀ i₀ out next i = k - i
+
+loop-holds : tie.Need-loop-holds Inv-loop μ-loop
+loop-holds c = (search needs, joined-none _ _ _ _ (search needs) (search needs))
+
+add-put-value : tie.Need-add-put-value Inv-loop μ-loop
+add-put-value c = search needs
+
+put-value-requires : tie.Need-put-value-requires Inv-loop μ-loop
+put-value-requires c κs = search needs
+
+add-i : tie.Need-add-i Inv-loop μ-loop
+add-i c = search needs
+
+loop-less : tie.Need-loop-less Inv-loop μ-loop
+loop-less c = search needs
+
+loop-again : tie.Need-loop-again Inv-loop μ-loop
+loop-again c = (search needs, joined-next _ _ (c .before .before .before .before .before .loop .i) (c .before .before .before .before .before .loop .inv .1) (c .before .before .put-value .ensures))
+
+same-length : tie.Need-same-length Inv-loop μ-loop
+same-length c = ap length (c .before .loop .inv .1 .has) ∙ length-stored _ _ _
+
+returns : tie.Need-returns Inv-loop μ-loop
+returns c = let done : c .before .loop .i ≡ c .before .before .before .before .args .k = omega arith in
+    rw done at (c .before .loop .inv .1)
+
+pub put-values-spec : {M : Type 1} → statement M
+put-values-spec =
+    tie.close
+    (tie.spec
+    Inv-loop
+    μ-loop
+    loop-holds
+    add-put-value
+    put-value-requires
+    add-i
+    loop-less
+    loop-again
+    same-length
+    returns)

@@ -1,0 +1,62 @@
+-- `export_in` meets its contract.
+use mathlib.Core.Path.{sym, ap, _∙_}
+use Prim.Native.Nat.{_+_}
+use borrow.Author.Tests.{not-true, not-false}
+use lib.Dec.{leb}
+use lib.ListN.{length}
+use Rattle.market.specs.Fields.{texts}
+use Rattle.market.specs.Export.{contentOf, bodyOf, exportOf}
+use Rattle.market.proofs.Putting.{then}
+use Rattle.market.proofs.Answers.{time-long, room-for, refused-7, exported}
+use borrow.Author.Needs.{needs}
+use Rattle.market.proofs.export_in.Statement.{statement}
+use Rattle.market.proofs.export_in.Tie as tie
+
+body-length-requires : tie.Need-body-length-requires
+body-length-requires c κs = let a = c .before .before .before .before .before .before .before .before .before .before .before .before .before .args in
+    (c .before .before .before .before .before .before .before .before .before .before .before .before .before .pre .0, time-long (texts (a .identifier .now) (a .from .now) (a .to .now) (a .configuration .now) (a .register .now) (a .suffix .now) (a .stream .now) (a .serial .now) (a .next-read .now) (a .reason .now) (a .created .now)) (a .codes) (c .before .before .before .before .before .before .before .before .before .before .before .before .before .pre .2))
+
+is-room-requires : tie.Need-is-room-requires
+is-room-requires c κs = search needs
+
+returns : tie.Need-returns
+returns c = let a = c .before .before .before .before .before .before .before .before .before .before .before .before .before .before .before .before .args in
+    let t = (texts (a .identifier .now) (a .from .now) (a .to .now) (a .configuration .now) (a .register .now) (a .suffix .now) (a .stream .now) (a .serial .now) (a .next-read .now) (a .reason .now) (a .created .now)) in
+    let n = length (bodyOf t (contentOf (a .codes) (a .file .now))) in
+    let no = sym (room-for n (length (a .out .now)) (c .before .is-room .ensures .1)) ∙ ap (λ x. leb (x + 5) (length (a .out .now))) (sym (c .before .before .body-length .ensures)) ∙ sym (c .before .is-room .ensures .0) ∙ not-true _ (c .if1 .taken) in
+    refused-7 (a .file .now) (a .g) (c .before .before .before .before .before .before .before .before .before .before .before .before .before .before .before .before .pre .0) t (a .codes) (a .out .now) (c .before .before .before .before .before .before .before .before .before .before .before .before .before .before .before .before .pre .1) (c .before .before .before .before .before .before .before .before .before .before .before .before .before .before .before .before .pre .2) no
+
+put-body-requires : tie.Need-put-body-requires
+put-body-requires c κs = let a = c .before .before .before .before .before .before .before .before .before .before .before .before .before .before .before .before .before .args in
+    (c .before .before .before .before .before .before .before .before .before .before .before .before .before .before .before .before .before .pre .0, time-long (texts (a .identifier .now) (a .from .now) (a .to .now) (a .configuration .now) (a .register .now) (a .suffix .now) (a .stream .now) (a .serial .now) (a .next-read .now) (a .reason .now) (a .created .now)) (a .codes) (c .before .before .before .before .before .before .before .before .before .before .before .before .before .before .before .before .before .pre .2))
+
+slice-aggregate-put-text : tie.Need-slice-aggregate-put-text
+slice-aggregate-put-text c = search needs
+
+put-text-requires : tie.Need-put-text-requires
+put-text-requires c κs = search needs
+
+same-length : tie.Need-same-length
+same-length c = search needs
+
+returns-2 : tie.Need-returns-2
+unfolding exportOf
+returns-2 c = let a = c .before .before .before .before .before .before .before .before .before .before .before .before .before .before .before .before .before .before .before .before .before .before .before .before .before .args in
+    let t = (texts (a .identifier .now) (a .from .now) (a .to .now) (a .configuration .now) (a .register .now) (a .suffix .now) (a .stream .now) (a .serial .now) (a .next-read .now) (a .reason .now) (a .created .now)) in
+    let added = then (c .before .before .before .before .before .before .before .put-body .ensures) (c .before .before .put-text .ensures) in
+    let n = length (bodyOf t (contentOf (a .codes) (a .file .now))) in
+    let yes = sym (room-for n (length (a .out .now)) (added .fits)) ∙ ap (λ x. leb (x + 5) (length (a .out .now))) (sym (c .before .before .before .before .before .before .before .before .before .before .before .body-length .ensures)) ∙ sym (c .before .before .before .before .before .before .before .before .before .before .is-room .ensures .0) ∙ not-false _ (c .before .before .before .before .before .before .before .before .before .if1 .left) in
+    exported (a .file .now) (a .g) (c .before .before .before .before .before .before .before .before .before .before .before .before .before .before .before .before .before .before .before .before .before .before .before .before .before .pre .0) t (a .codes) (a .out .now) (c .before .before .before .before .before .before .before .before .before .before .before .before .before .before .before .before .before .before .before .before .before .before .before .before .before .pre .1) (c .before .before .before .before .before .before .before .before .before .before .before .before .before .before .before .before .before .before .before .before .before .before .before .before .before .pre .2) _ _ yes added
+
+pub export-in-spec : {M : Type 1} → statement M
+export-in-spec =
+    tie.close
+    (tie.spec
+    body-length-requires
+    is-room-requires
+    returns
+    put-body-requires
+    slice-aggregate-put-text
+    put-text-requires
+    same-length
+    returns-2)

@@ -1,0 +1,46 @@
+-- `export_of` meets its contract.
+use mathlib.Core.Path.{sym, _∙_}
+use borrow.Author.Tests.{not-true, not-false}
+use Rattle.market.specs.Fields.{texts}
+use Rattle.market.specs.Export.{suppliedOk}
+use Rattle.market.proofs.Answers.{refused-14, refused-15}
+use borrow.Author.Needs.{needs}
+use Rattle.market.proofs.export_of.Statement.{statement}
+use Rattle.market.proofs.export_of.Tie as tie
+
+is-meter-requires : tie.Need-is-meter-requires
+is-meter-requires c κs = search needs
+
+returns : tie.Need-returns
+returns c = let a = c .before .before .before .before .before .before .before .before .before .before .before .before .before .before .before .args in
+    refused-14 (a .file .now) (a .g) (c .before .before .before .before .before .before .before .before .before .before .before .before .before .before .before .pre) (texts (a .identifier .now) (a .from .now) (a .to .now) (a .configuration .now) (a .register .now) (a .suffix .now) (a .stream .now) (a .serial .now) (a .next-read .now) (a .reason .now) (a .created .now)) (a .codes) (a .out .now) (sym (c .before .is-meter .ensures) ∙ not-true _ (c .if1 .taken))
+
+are-supplied-requires : tie.Need-are-supplied-requires
+are-supplied-requires c κs = search needs
+
+returns-2 : tie.Need-returns-2
+unfolding suppliedOk
+returns-2 c = let a = c .before .before .before .before .before .before .before .before .before .before .before .before .before .before .before .before .before .args in
+    refused-15 (a .file .now) (a .g) (c .before .before .before .before .before .before .before .before .before .before .before .before .before .before .before .before .before .pre) (texts (a .identifier .now) (a .from .now) (a .to .now) (a .configuration .now) (a .register .now) (a .suffix .now) (a .stream .now) (a .serial .now) (a .next-read .now) (a .reason .now) (a .created .now)) (a .codes) (a .out .now) (sym (c .before .before .before .is-meter .ensures) ∙ not-false _ (c .before .before .if1 .left)) (sym (c .before .are-supplied .ensures) ∙ not-true _ (c .if2 .taken))
+
+export-in-requires : tie.Need-export-in-requires
+unfolding suppliedOk
+export-in-requires c κs = (c .before .before .before .before .before .before .before .before .before .before .before .before .before .before .before .before .before .before .pre, sym (c .before .before .before .before .is-meter .ensures) ∙ not-false _ (c .before .before .before .if1 .left), sym (c .before .before .are-supplied .ensures) ∙ not-false _ (c .before .if2 .left))
+
+same-length : tie.Need-same-length
+same-length c = search needs
+
+returns-3 : tie.Need-returns-3
+returns-3 c = search needs
+
+pub export-of-spec : {M : Type 1} → statement M
+export-of-spec =
+    tie.close
+    (tie.spec
+    is-meter-requires
+    returns
+    are-supplied-requires
+    returns-2
+    export-in-requires
+    same-length
+    returns-3)

@@ -1,0 +1,66 @@
+-- `marks::is_one` meets its contract.
+use borrow.Author.Needs.{needs}
+use mathlib.Core.Path.{_≡_, sym, ap₂, _∙_}
+use Prim.Native.Nat.{_≤_, _-_, _+_}
+use native.Mathlib.Nat.{sub-zero}
+use borrow.Author.Tests.{not-true, not-false}
+use Rattle.file.proofs.Stretches.{all-more, all-fails, all-done}
+use Rattle.file.specs.Lists.{all}
+use Rattle.file.specs.Reader.{slotAt}
+use Rattle.market.specs.Fields.{markOf, alike, oneMark}
+use Rattle.market.proofs.marks.is_one.Statement.{statement}
+use Rattle.market.proofs.marks.is_one.Tie as tie
+
+abbrev Inv-loop : tie.InvT-loop
+Inv-loop file codes a n first j₀ j = (j ≤ n) × (oneMark (λ i. markOf codes (slotAt file i)) a n ≡ all (λ i. alike (markOf codes (slotAt file a)) (markOf codes (slotAt file (a + i)))) j (n - j))
+
+abbrev μ-loop : tie.MeasureT-loop
+μ-loop file codes a n first j₀ j = n - j
+
+mark-at-requires : tie.Need-mark-at-requires Inv-loop μ-loop
+mark-at-requires c κs = search needs
+
+loop-holds : tie.Need-loop-holds Inv-loop μ-loop
+unfolding oneMark
+loop-holds c = (search needs, rw sub-zero)
+
+add-mark-at : tie.Need-add-mark-at Inv-loop μ-loop
+add-mark-at c = search needs
+
+mark-at-requires-2 : tie.Need-mark-at-requires-2 Inv-loop μ-loop
+mark-at-requires-2 c κs = search needs
+
+are-alike-requires : tie.Need-are-alike-requires Inv-loop μ-loop
+are-alike-requires c κs = search needs
+
+returns : tie.Need-returns Inv-loop μ-loop
+returns c = sym (c .before .before .before .before .loop .inv .1 ∙ all-fails _ (c .before .before .before .before .loop .j) _ (search needs) (sym (c .before .are-alike .ensures ∙ ap₂ alike (c .before .before .before .before .before .mark-at .ensures) (c .before .before .mark-at2 .ensures)) ∙ not-true _ (c .if1 .taken)))
+
+add-j : tie.Need-add-j Inv-loop μ-loop
+add-j c = search needs
+
+loop-less : tie.Need-loop-less Inv-loop μ-loop
+loop-less c = search needs
+
+loop-again : tie.Need-loop-again Inv-loop μ-loop
+loop-again c = (search needs, c .before .before .before .before .loop .inv .1 ∙ all-more _ (c .before .before .before .before .loop .j) _ (search needs) (sym (c .before .are-alike .ensures ∙ ap₂ alike (c .before .before .before .before .before .mark-at .ensures) (c .before .before .mark-at2 .ensures)) ∙ not-false _ (c .if1 .left)))
+
+returns-2 : tie.Need-returns-2 Inv-loop μ-loop
+returns-2 c = sym (c .before .loop .inv .1 ∙ all-done _ (c .before .loop .j) _ (search needs))
+
+pub is-one-spec : {M : Type 1} → statement M
+is-one-spec =
+    tie.close
+    (tie.spec
+    Inv-loop
+    μ-loop
+    mark-at-requires
+    loop-holds
+    add-mark-at
+    mark-at-requires-2
+    are-alike-requires
+    returns
+    add-j
+    loop-less
+    loop-again
+    returns-2)

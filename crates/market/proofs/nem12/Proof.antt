@@ -1,0 +1,41 @@
+-- `nem12` meets its contract.
+use mathlib.Core.Path.{sym, _∙_}
+use Rattle.market.specs.Fields.{texts}
+use Rattle.market.proofs.Answers.{refused-by-reader}
+use borrow.Author.Needs.{needs}
+use Rattle.market.proofs.nem12.Statement.{statement}
+use Rattle.market.proofs.nem12.Tie as tie
+
+read-requires : tie.Need-read-requires
+read-requires c κs = search needs
+
+enum-known-g : tie.Need-enum-known-g
+enum-known-g c = search needs
+
+export-of-requires : tie.Need-export-of-requires
+export-of-requires c κs = sym (c .before .before .before .before .read .ensures) ∙ c .before .before .g .given .1
+
+enum-known-number : tie.Need-enum-known-number
+enum-known-number c = search needs
+
+same-length : tie.Need-same-length
+same-length c = search needs
+
+returns : tie.Need-returns
+returns c = search needs
+
+returns-2 : tie.Need-returns-2
+returns-2 c = let a = c .before .before .before .before .before .before .before .before .before .before .before .before .before .before .before .before .before .args in
+    refused-by-reader (a .file .now) _ (sym (c .before .before .before .read .ensures) ∙ c .before .number .given .1) (texts (a .identifier .now) (a .from .now) (a .to .now) (a .configuration .now) (a .register .now) (a .suffix .now) (a .stream .now) (a .serial .now) (a .next-read .now) (a .reason .now) (a .created .now)) (a .codes) (a .out .now)
+
+pub nem12-spec : {M : Type 1} → statement M
+nem12-spec =
+    tie.close
+    (tie.spec
+    read-requires
+    enum-known-g
+    export-of-requires
+    enum-known-number
+    same-length
+    returns
+    returns-2)

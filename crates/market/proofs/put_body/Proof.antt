@@ -1,0 +1,46 @@
+-- `put_body` meets its contract.
+use mathlib.Core.List.{_++_}
+use mathlib.Core.Path.{sym, ap}
+use Prim.Native.Nat.{_/_}
+use native.Mathlib.Omega.{arith}
+use Rattle.file.specs.declared.Figures.{Figures}
+use Rattle.file.specs.Reader.{slotAt}
+use Rattle.market.specs.Fields.{markOf}
+use Rattle.market.specs.Records.{record100, record200, daysOf}
+use Rattle.market.specs.Export.{contentOf, bodyOf}
+use Rattle.market.proofs.Putting.{then, same}
+use Rattle.market.proofs.Answers.{figures-are, some-interval, tabled}
+use borrow.Author.Needs.{needs}
+use Rattle.market.proofs.put_body.Statement.{statement}
+use Rattle.market.proofs.put_body.Tie as tie
+
+put-100-requires : tie.Need-put-100-requires
+put-100-requires c κs = search needs
+
+put-200-requires : tie.Need-put-200-requires
+put-200-requires c κs = search needs
+
+cast-n : tie.Need-cast-n
+cast-n c = search needs
+
+div-n : tie.Need-div-n
+div-n c = omega (arith, some-interval _ _ (c .before .before .before .before .before .before .before .before .before .before .before .before .before .before .before .before .before .before .before .before .before .before .pre .0))
+
+put-days-requires : tie.Need-put-days-requires
+put-days-requires c κs = tabled _ _ (c .before .before .before .before .before .before .before .before .before .before .before .before .before .before .before .before .before .before .before .before .before .before .before .pre .0)
+
+same-length : tie.Need-same-length
+same-length c = search needs
+
+returns : tie.Need-returns
+unfolding contentOf bodyOf
+returns c = let a = c .before .before .before .before .before .before .before .before .before .before .before .before .before .before .before .before .before .before .before .before .before .before .before .before .before .before .args in
+    let figured = ap (λ (f : Figures). record100 (a .created .now) (a .from .now) (a .to .now)
+    ++ (record200 (a .identifier .now) (a .configuration .now) (a .register .now) (a .suffix .now) (a .stream .now) (a .serial .now) (f .interval) (a .next-read .now)
+    ++ daysOf (a .reason .now) (a .created .now) (f .first) (λ i. slotAt (a .file .now) i .value) (λ i. markOf (a .codes) (slotAt (a .file .now) i)) (1440 / f .interval) (f .days))) (sym (figures-are (a .file .now) (a .g) (c .before .before .before .before .before .before .before .before .before .before .before .before .before .before .before .before .before .before .before .before .before .before .before .before .before .before .pre .0))) in
+    same figured (then (c .before .before .before .before .before .before .before .before .before .before .before .put-100 .ensures) (then (c .before .before .before .before .before .before .before .put-200 .ensures) (c .before .before .put-days .ensures)))
+
+pub put-body-spec : {M : Type 1} → statement M
+put-body-spec =
+    tie.close
+    (tie.spec put-100-requires put-200-requires cast-n div-n put-days-requires same-length returns)

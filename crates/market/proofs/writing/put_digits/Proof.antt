@@ -1,0 +1,68 @@
+-- `writing::put_digits` meets its contract.
+use borrow.Author.Needs.{needs}
+use mathlib.Core.Path.{_≡_, refl, sym, ap, _∙_}
+use Prim.Native.Nat.{_≤_, _+_}
+use native.Mathlib.Omega.{arith}
+use lib.ListN.{length}
+use Rattle.line.specs.Line.{digits}
+use Rattle.line.proofs.Digits.{length-digits}
+use Rattle.market.specs.Inner.Writing.{capped, stored}
+use Rattle.market.proofs.Putting.{length-stored, digits-less, digits-none}
+use Rattle.market.proofs.writing.put_digits.Statement.{statement}
+use Rattle.market.proofs.writing.put_digits.Tie as tie
+
+abbrev Inv-loop : tie.InvT-loop
+Inv-loop out₀ at width n rest₀ j₀ out rest j = (j ≤ width) × (stored out at (digits j rest) ≡ stored out₀ at (digits width n))
+
+abbrev μ-loop : tie.MeasureT-loop
+μ-loop out₀ at width n rest₀ j₀ out rest j = j
+
+loop-holds : tie.Need-loop-holds Inv-loop μ-loop
+loop-holds c = (search needs, refl)
+
+sub-j : tie.Need-sub-j Inv-loop μ-loop
+sub-j c = search needs
+
+cast-put-byte : tie.Need-cast-put-byte Inv-loop μ-loop
+cast-put-byte c = search needs
+
+add-put-byte : tie.Need-add-put-byte Inv-loop μ-loop
+add-put-byte c = search needs
+
+put-byte-requires : tie.Need-put-byte-requires Inv-loop μ-loop
+put-byte-requires c κs = search needs
+
+loop-less : tie.Need-loop-less Inv-loop μ-loop
+loop-less c = search needs
+
+loop-again : tie.Need-loop-again Inv-loop μ-loop
+loop-again c = (search needs, digits-less _ (c .before .before .before .before .before .loop .out) _ (c .before .before .before .before .before .before .before .args .at) (c .before .before .before .before .before .loop .j) (c .before .before .before .before .before .loop .rest) (search needs) (c .before .before .before .before .before .loop .inv .1) (c .before .before .put-byte .ensures))
+
+ahead-requires : tie.Need-ahead-requires Inv-loop μ-loop
+ahead-requires c κs = search needs
+
+same-length : tie.Need-same-length Inv-loop μ-loop
+same-length c = let l = c .before .before .loop in sym (length-stored (l .out) (c .before .before .before .before .args .at) (digits (l .j) (l .rest))) ∙ ap length (l .inv .1) ∙ length-stored _ _ _
+
+returns : tie.Need-returns Inv-loop μ-loop
+returns c = let a = c .before .before .before .before .args in
+    let l = c .before .before .loop in
+    let done : l .j ≡ 0 = omega arith in
+    record { fits = search needs; next = c .ahead .ensures ∙ ap (λ n. capped (a .at + n)) (sym (length-digits (a .width) (a .n))); has = sym (digits-none (l .out) (a .at) (l .rest)) ∙ ap (λ j. stored (l .out) (a .at) (digits j (l .rest))) (sym done) ∙ l .inv .1 }
+
+pub put-digits-spec : {M : Type 1} → statement M
+put-digits-spec =
+    tie.close
+    (tie.spec
+    Inv-loop
+    μ-loop
+    loop-holds
+    sub-j
+    cast-put-byte
+    add-put-byte
+    put-byte-requires
+    loop-less
+    loop-again
+    ahead-requires
+    same-length
+    returns)
