@@ -1,3 +1,4 @@
 pub mod Putting
 pub mod Joining
 pub mod Answers
+pub mod Numerals

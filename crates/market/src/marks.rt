@@ -48,13 +48,14 @@ pub fn mark_at(file: &[u8], codes: Codes, i: usize) -> Mark
     ensures { λ r. ⌜ r ≡ markOf codes (slotAt (now (file .entry)) i) ⌝ }
 {
     let letter = file[6 * i + 4];
+    let method = file[6 * i + 5];
     if !has_code(letter) {
         return Mark {
             letter: letter,
             code: 0,
         };
     }
-    let code = code_for(codes, file[6 * i + 5]);
+    let code = code_for(codes, method);
     Mark {
         letter: letter,
         code: code,

@@ -1,6 +1,6 @@
 -- `marks::mark_at` meets its contract.
-use borrow.Author.Tests.{not-true, not-false}
 use mathlib.Core.Path.{sym, _∙_}
+use borrow.Author.Tests.{not-true, not-false}
 use Rattle.file.specs.Reader.{slotAt}
 use Rattle.market.specs.Fields.{markOf}
 use borrow.Author.Needs.{needs}
@@ -16,6 +16,15 @@ add-letter c = search needs
 shared-slice-read-letter : tie.Need-shared-slice-read-letter
 shared-slice-read-letter c = search needs
 
+mul-method : tie.Need-mul-method
+mul-method c = search needs
+
+add-method : tie.Need-add-method
+add-method c = search needs
+
+shared-slice-read-method : tie.Need-shared-slice-read-method
+shared-slice-read-method c = search needs
+
 has-code-requires : tie.Need-has-code-requires
 has-code-requires c κs = search needs
 
@@ -23,21 +32,12 @@ returns : tie.Need-returns
 unfolding markOf slotAt
 returns c = rw (sym (c .before .has-code .ensures) ∙ not-true _ (c .if1 .taken))
 
-mul-code-for : tie.Need-mul-code-for
-mul-code-for c = search needs
-
-add-code-for : tie.Need-add-code-for
-add-code-for c = search needs
-
-shared-slice-read-code-for : tie.Need-shared-slice-read-code-for
-shared-slice-read-code-for c = search needs
-
 code-for-requires : tie.Need-code-for-requires
 code-for-requires c κs = search needs
 
 returns-2 : tie.Need-returns-2
 unfolding markOf slotAt
-returns-2 c = rw (sym (c .before .before .before .has-code .ensures) ∙ not-false _ (c .before .before .if1 .left), c .code-for .ensures)
+returns-2 c = rw (sym (c .before .before .has-code .ensures) ∙ not-false _ (c .before .if1 .left), c .code-for .ensures)
 
 pub mark-at-spec : {M : Type 1} → statement M
 mark-at-spec =
@@ -46,10 +46,10 @@ mark-at-spec =
     mul-letter
     add-letter
     shared-slice-read-letter
+    mul-method
+    add-method
+    shared-slice-read-method
     has-code-requires
     returns
-    mul-code-for
-    add-code-for
-    shared-slice-read-code-for
     code-for-requires
     returns-2)
