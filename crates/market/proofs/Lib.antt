@@ -4,3 +4,6 @@ pub mod Answers
 pub mod Numerals
 pub mod Splits
 pub mod RunSplits
+pub mod DaySplits
+pub mod SameText
+pub mod Exact

@@ -3,14 +3,14 @@ use mathlib.Core.Bool.{Bool, true, false, cond, not, _||_, false≢true}
 use mathlib.Core.List.{List, [], _++_, append-assoc, append-cancel-left}
 use mathlib.Core.Logic.{⊎-elim}
 use mathlib.Core.Path.{_≡_, refl, sym, ap, subst, _∙_}
-use Prim.Native.Nat.{ℕ, zero, suc, _+_, _^_, _≤_, _<_}
+use Prim.Native.Nat.{ℕ, zero, suc, _+_, _≤_, _<_}
 use native.Mathlib.Nat.{eq-or-lt-of-le}
 use native.Mathlib.Omega.{arith}
-use borrow.Author.Tests.{eq-eqb, eqb-false, not-false}
+use borrow.Author.Tests.{eqb-false, not-false}
 use lib.Dec.{eqb}
 use Rattle.rules.proofs.Logic.{either}
 use Rattle.market.specs.declared.marks.Mark.{Mark}
-use Rattle.market.specs.Fields.{fields, joined, marked, alike, endsRun, startOf}
+use Rattle.market.specs.Fields.{fields, joined, alike, endsRun, startOf}
 use Rattle.market.specs.Records.{record400}
 use Rattle.market.proofs.Joining.{start-le}
 use Rattle.market.proofs.Splits.{Plainly, alike-same, marked-split, joined-front, joined-nothing, split-ends}
@@ -124,42 +124,42 @@ module _
     (reason : List ℕ) (mark other : ℕ → Mark) (a n : ℕ) (few : n ≤ 288) (p : (j : ℕ) → j < n → Plainly (mark (a + j)))
     (q : (j : ℕ) → j < n → Plainly (other (a + j))) (k j : ℕ) (e : j + suc k ≡ n) (s : startOf mark a n j ≡ startOf other a n j) (r r′ : List ℕ)
     (flat :
-      pieceAt reason mark a n j ++ (joined (pieceAt reason mark a n) (suc j) k ++ r)
-      ≡ pieceAt reason other a n j ++ (joined (pieceAt reason other a n) (suc j) k ++ r′))
+    pieceAt reason mark a n j ++ (joined (pieceAt reason mark a n) (suc j) k ++ r)
+    ≡ pieceAt reason other a n j ++ (joined (pieceAt reason other a n) (suc j) k ++ r′))
     (onward : startOf mark a n (suc j) ≡ startOf other a n (suc j)
-      → joined (pieceAt reason mark a n) (suc j) k ++ r ≡ joined (pieceAt reason other a n) (suc j) k ++ r′
-      → AlikeFrom mark other a n r r′ (suc j))
+    → joined (pieceAt reason mark a n) (suc j) k ++ r ≡ joined (pieceAt reason other a n) (suc j) k ++ r′
+    → AlikeFrom mark other a n r r′ (suc j))
   where
-  both-end : endsRun mark a n j ≡ true → endsRun other a n j ≡ true → AlikeFrom mark other a n r r′ j
-  both-end t u =
-      let rest : List ℕ = joined (pieceAt reason mark a n) (suc j) k ++ r in
-      let rest′ : List ℕ = joined (pieceAt reason other a n) (suc j) k ++ r′ in
-      let texts = sym (ap (λ (x : List ℕ). x ++ rest) (piece-ends reason mark a n j t)) ∙ flat ∙ ap (λ (x : List ℕ). x ++ rest′) (piece-ends reason other a n j u) in
-      let here : j < n = omega arith in
-      let behind =
-      split-ends reason (startOf mark a n j + 1) (startOf other a n j + 1) (j + 1) (j + 1) (omega (arith, start-le mark a n j)) (omega (arith, start-le other a n j))
-      (omega arith) (omega arith) (mark (a + j)) (other (a + j)) rest rest′ texts .1 in
-      let marks = marked-split (mark (a + j)) (other (a + j)) (p j here) (q j here) reason (fields [] ++ rest) (fields [] ++ rest′) behind in
-      alike-more mark other a n r r′ j (marks .0)
-      (onward (start-after reason mark a n j t ∙ sym (start-after reason other a n j u)) (append-cancel-left (fields []) rest rest′ (marks .1)))
+    both-end : endsRun mark a n j ≡ true → endsRun other a n j ≡ true → AlikeFrom mark other a n r r′ j
+    both-end t u =
+        let rest : List ℕ = joined (pieceAt reason mark a n) (suc j) k ++ r in
+        let rest′ : List ℕ = joined (pieceAt reason other a n) (suc j) k ++ r′ in
+        let texts = sym (ap (λ (x : List ℕ). x ++ rest) (piece-ends reason mark a n j t)) ∙ flat ∙ ap (λ (x : List ℕ). x ++ rest′) (piece-ends reason other a n j u) in
+        let here : j < n = omega arith in
+        let behind =
+        split-ends reason (startOf mark a n j + 1) (startOf other a n j + 1) (j + 1) (j + 1) (omega (arith, start-le mark a n j)) (omega (arith, start-le other a n j))
+        (omega arith) (omega arith) (mark (a + j)) (other (a + j)) rest rest′ texts .1 in
+        let marks = marked-split (mark (a + j)) (other (a + j)) (p j here) (q j here) reason (fields [] ++ rest) (fields [] ++ rest′) behind in
+        alike-more mark other a n r r′ j (marks .0)
+        (onward (start-after reason mark a n j t ∙ sym (start-after reason other a n j u)) (append-cancel-left (fields []) rest rest′ (marks .1)))
 
-  both-go-on : endsRun mark a n j ≡ false → endsRun other a n j ≡ false → AlikeFrom mark other a n r r′ j
-  both-go-on t u =
-      let rest : List ℕ = joined (pieceAt reason mark a n) (suc j) k ++ r in
-      let rest′ : List ℕ = joined (pieceAt reason other a n) (suc j) k ++ r′ in
-      let texts = sym (ap (λ (x : List ℕ). x ++ rest) (piece-goes-on reason mark a n j t)) ∙ flat ∙ ap (λ (x : List ℕ). x ++ rest′) (piece-goes-on reason other a n j u) in
-      let next = onward (start-stays reason mark a n j t ∙ s ∙ sym (start-stays reason other a n j u)) texts in
-      let one = goes-on reason mark a n j t in
-      let two = goes-on reason other a n j u in
-      let inside : j + 1 < n = ⊎-elim (λ z. absurd (one .1 z)) (λ m. m) (eq-or-lt-of-le (next-le j n (omega arith))) in
-      alike-more mark other a n r r′ j (one .0 ∙ next .0 (j + 1) (omega arith) inside ∙ sym (two .0)) next
+    both-go-on : endsRun mark a n j ≡ false → endsRun other a n j ≡ false → AlikeFrom mark other a n r r′ j
+    both-go-on t u =
+        let rest : List ℕ = joined (pieceAt reason mark a n) (suc j) k ++ r in
+        let rest′ : List ℕ = joined (pieceAt reason other a n) (suc j) k ++ r′ in
+        let texts = sym (ap (λ (x : List ℕ). x ++ rest) (piece-goes-on reason mark a n j t)) ∙ flat ∙ ap (λ (x : List ℕ). x ++ rest′) (piece-goes-on reason other a n j u) in
+        let next = onward (start-stays reason mark a n j t ∙ s ∙ sym (start-stays reason other a n j u)) texts in
+        let one = goes-on reason mark a n j t in
+        let two = goes-on reason other a n j u in
+        let inside : j + 1 < n = ⊎-elim (λ z. absurd (one .1 z)) (λ m. m) (eq-or-lt-of-le (next-le j n (omega arith))) in
+        alike-more mark other a n r r′ j (one .0 ∙ next .0 (j + 1) (omega arith) inside ∙ sym (two .0)) next
 
-  run-step : AlikeFrom mark other a n r r′ j
-  run-step =
-      ⊎-elim
-      (λ t. ⊎-elim (λ u. both-end t u) (λ u. absurd (apart reason mark other a n few j k e (joined (pieceAt reason mark a n) (suc j) k ++ r) r′ t u flat)) (either (endsRun other a n j)))
-      (λ t. ⊎-elim (λ u. absurd (apart reason other mark a n few j k e (joined (pieceAt reason other a n) (suc j) k ++ r′) r u t (sym flat))) (λ u. both-go-on t u) (either (endsRun other a n j)))
-      (either (endsRun mark a n j))
+    run-step : AlikeFrom mark other a n r r′ j
+    run-step =
+        ⊎-elim
+        (λ t. ⊎-elim (λ u. both-end t u) (λ u. absurd (apart reason mark other a n few j k e (joined (pieceAt reason mark a n) (suc j) k ++ r) r′ t u flat)) (either (endsRun other a n j)))
+        (λ t. ⊎-elim (λ u. absurd (apart reason other mark a n few j k e (joined (pieceAt reason other a n) (suc j) k ++ r′) r u t (sym flat))) (λ u. both-go-on t u) (either (endsRun other a n j)))
+        (either (endsRun mark a n j))
 
 -- two days' runs from slot j on
 pub runs-split : (reason : List ℕ) (mark other : ℕ → Mark) (a n : ℕ) → n ≤ 288

@@ -1,18 +1,18 @@
 -- Fields and records that are told from an export's bytes.
-use mathlib.Core.Bool.{Bool, true, false, cond, _&&_, false≢true}
+use mathlib.Core.Bool.{Bool, true, false, cond}
 use mathlib.Core.List.{List, [], _∷_, _++_, append-assoc, append-nil, append-cancel-left, head-eq-of-cons-eq, tail-eq-of-cons-eq}
 use mathlib.Core.Logic.{⊎-elim}
 use mathlib.Core.Path.{_≡_, refl, sym, ap, subst, _∙_}
-use Prim.Native.Nat.{ℕ, zero, suc, _+_, _-_, _*_, _/_, _^_, _≤_, _<_}
+use Prim.Native.Nat.{ℕ, zero, suc, _+_, _^_, _≤_, _<_}
 use native.Mathlib.Nat.{add-zero, add-suc, suc-add, eq-or-lt-of-le}
 use native.Mathlib.Omega.{arith}
 use borrow.Author.Tests.{eqb-true}
 use lib.Dec.{eqb}
-use Rattle.rules.proofs.Logic.{either, and-parts}
+use Rattle.rules.proofs.Logic.{and-parts}
 use Rattle.line.specs.Line.{digits, decimal}
 use Rattle.market.specs.declared.marks.Mark.{Mark}
-use Rattle.market.specs.Fields.{field, fields, joined, kwh, dateField, hasCode, quality, reasonFor, marked, alike}
-use Rattle.market.specs.Records.{code200, record200, record300, record400}
+use Rattle.market.specs.Fields.{field, fields, joined, kwh, dateField, hasCode, marked, alike}
+use Rattle.market.specs.Records.{record300, record400}
 use Rattle.market.proofs.Numerals.{decimal-split, code-split, kwh-split, date-split}
 
 -- ---- Quality and method
@@ -78,13 +78,15 @@ pub joined-split : (f g : ℕ → List ℕ) (P : ℕ → Type 0) (a k : ℕ)
 joined-split f g P a zero h r r′ e = (λ i l m. absurd (omega arith), joined-nothing f g a r r′ e)
 joined-split f g P a (suc k) h r r′ e =
     let flat = sym (ap (λ (x : List ℕ). x ++ r) (joined-front f a k) ∙ append-assoc (f a) (joined f (suc a) k) r) ∙ e
-        ∙ ap (λ (x : List ℕ). x ++ r′) (joined-front g a k) ∙ append-assoc (g a) (joined g (suc a) k) r′ in
+    ∙ ap (λ (x : List ℕ). x ++ r′) (joined-front g a k) ∙ append-assoc (g a) (joined g (suc a) k) r′ in
     let here = h a (omega arith) (omega arith) (joined f (suc a) k ++ r) (joined g (suc a) k ++ r′) flat in
-    let there = joined-split f g P (suc a) k (λ i l m. h i (omega arith) (omega arith)) r r′ (here .1) in
-    (λ i l m.
-    ⊎-elim (λ z. subst P z (here .0))
-    (λ n. there .0 i n (omega arith))
-    (eq-or-lt-of-le l), there .1)
+    let there = joined-split f g P (suc a) k (λ i l m. h i (omega arith) (omega arith)) r r′ (here .1) in (
+      λ i l m.
+          ⊎-elim (λ z. subst P z (here .0))
+          (λ n. there .0 i n (omega arith))
+          (eq-or-lt-of-le l),
+      there .1,
+    )
 
 -- ---- The records 300 and 400
 

@@ -1,4 +1,5 @@
 pub mod Fields
 pub mod Records
 pub mod Export
+pub mod Claim
 pub mod Inner
