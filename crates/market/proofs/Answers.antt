@@ -11,6 +11,7 @@ use lib.ListN.{length, length-append}
 use Rattle.rules.specs.Lists.{every}
 use Rattle.rules.proofs.Logic.{either, passed, and-parts}
 use Rattle.file.specs.declared.Figures.{Figures}
+use Rattle.file.specs.declared.Verdict.{Verdict}
 use Rattle.file.specs.declared.Verdict.the-variants as verdict
 use Rattle.file.specs.Reader.{figures, headTests, readFile}
 use Rattle.file.proofs.Answers.{ready, tests-passed}
@@ -20,7 +21,7 @@ use Rattle.market.specs.declared.Exported.the-variants.{Length, Refused}
 use Rattle.market.specs.declared.checks.Class.the-variants.{Digit}
 use Rattle.market.specs.Fields.{Texts}
 use Rattle.market.specs.Records.{record900}
-use Rattle.market.specs.Export.{contentOf, bodyOf, exportOf, allOf, identifierOk, timeOk, suppliedTests, suppliedOk, exportAnswer, exportAfter}
+use Rattle.market.specs.Export.{contentOf, bodyOf, exportOf, allOf, identifierOk, timeOk, suppliedTests, suppliedOk, answerFor, exportAnswer, exportAfter}
 use Rattle.market.specs.Inner.Writing.{capped, Added, Tabled}
 use Rattle.market.proofs.Putting.{capped-low, capped-high, stored-all}
 
@@ -112,3 +113,40 @@ pub refused-by-reader : (bs : List ℕ) (number : ℕ) → readFile bs ≡ verdi
     → (Refused number ≡ exportAnswer bs t codes out) × (out ≡ exportAfter bs t codes out)
 unfolding exportAfter exportAnswer
 refused-by-reader bs number e t codes out = rw e (refl, refl)
+
+-- ---- A call that answers a length
+
+pub record Answered (v : Verdict) (a b c : Bool) (n m : ℕ) : Type 0 where
+  pub figures : Figures
+  pub accepted : v ≡ verdict.Accepted figures
+  pub supplied : b ≡ true
+  pub room : c ≡ true
+  pub long : n ≡ m
+
+pub answered : (v : Verdict) (a b c : Bool) (n m : ℕ) → answerFor v a b c n ≡ Length m → Answered v a b c n m
+answered (verdict.Refused k) a b c n m e = absurd (never e)
+  where
+    never : Refused k ≡ Length m → ⊥
+    never e = let z : _≡_ {A = ℕ} 0 1 = cc in omega arith
+answered (verdict.Accepted g) false b c n m e = absurd (never e)
+  where
+    never : Refused 14 ≡ Length m → ⊥
+    never e = let z : _≡_ {A = ℕ} 0 1 = cc in omega arith
+answered (verdict.Accepted g) true false c n m e = absurd (never e)
+  where
+    never : Refused 15 ≡ Length m → ⊥
+    never e = let z : _≡_ {A = ℕ} 0 1 = cc in omega arith
+answered (verdict.Accepted g) true true false n m e = absurd (never e)
+  where
+    never : Refused 7 ≡ Length m → ⊥
+    never e = let z : _≡_ {A = ℕ} 0 1 = cc in omega arith
+answered (verdict.Accepted g) true true true n m e = record { figures = g; accepted = refl; supplied = refl; room = refl; long = cc }
+
+module _ (bs : List ℕ) (t : Texts) (codes : Codes) (out : List ℕ) (m : ℕ) (e : exportAnswer bs t codes out ≡ Length m) where
+  pub answer-is : Answered (readFile bs) (identifierOk (t .identifier)) (suppliedOk t codes) (leb (length (exportOf t (contentOf codes bs))) (length out)) (length (exportOf t (contentOf codes bs))) m
+  unfolding exportAnswer
+  answer-is = answered (readFile bs) (identifierOk (t .identifier)) (suppliedOk t codes) (leb (length (exportOf t (contentOf codes bs))) (length out)) (length (exportOf t (contentOf codes bs))) m e
+
+  -- such an export fits
+  pub length-fits : m ≤ length out
+  length-fits = omega (arith, answer-is .long, leb-true (length (exportOf t (contentOf codes bs))) (length out) (answer-is .room))

@@ -1,7 +1,7 @@
 -- Two exports with equal texts and codes are equal exactly when what is written of their files is.
 use mathlib.Core.Bool.{Bool, true, false, cond, false≢true}
 use mathlib.Core.List.{List, [], _∷_, _++_, append-assoc, append-cancel-left, tail-eq-of-cons-eq}
-use mathlib.Core.Path.{_≡_, refl, sym, ap, subst, _∙_}
+use mathlib.Core.Path.{_≡_, sym, ap, subst, _∙_}
 use Prim.Native.Nat.{ℕ, _+_, _*_, _/_, _^_, _≤_, _<_}
 use native.Mathlib.Nat.{div-add-mod', mod-lt, div-lt-iff-lt-mul, mul-comm}
 use native.Mathlib.Omega.{arith}
@@ -11,7 +11,6 @@ use lib.ListN.{length, take, drop}
 use lib.Seq.{take-append-seam}
 use Rattle.rules.proofs.Logic.{passed}
 use Rattle.file.specs.declared.Figures.{Figures}
-use Rattle.file.specs.declared.Verdict.{Verdict}
 use Rattle.file.specs.declared.Verdict.the-variants as verdict
 use Rattle.file.specs.declared.slots.SlotRecord.{SlotRecord}
 use Rattle.file.specs.Contents.{Bytes}
@@ -22,13 +21,13 @@ use Rattle.file.proofs.Numbers.{num-lt}
 use Rattle.file.proofs.Stretches.{all-at}
 use Rattle.line.specs.Line.{decimal}
 use Rattle.market.specs.declared.Codes.{Codes}
-use Rattle.market.specs.declared.Exported.the-variants.{Length, Refused}
+use Rattle.market.specs.declared.Exported.the-variants.{Length}
 use Rattle.market.specs.declared.marks.Mark.{Mark}
 use Rattle.market.specs.Fields.{Texts, field, fields, hasCode, codeFor, markOf}
 use Rattle.market.specs.Records.{code200, record100, record200, record900, daysOf}
-use Rattle.market.specs.Export.{Content, contentOf, bodyOf, exportOf, identifierOk, codesOk, suppliedTests, suppliedOk, answerFor, exportAnswer, exportAfter}
+use Rattle.market.specs.Export.{Content, contentOf, bodyOf, exportOf, codesOk, suppliedTests, suppliedOk, exportAnswer, exportAfter}
 use Rattle.market.specs.Claim.{SameContent, EqualExactly}
-use Rattle.market.proofs.Answers.{figures-are, tabled}
+use Rattle.market.proofs.Answers.{figures-are, tabled, answer-is}
 use Rattle.market.proofs.Numerals.{decimal-split}
 use Rattle.market.proofs.Splits.{Plainly}
 use Rattle.market.proofs.DaySplits.{Slots, Told, days-split}
@@ -174,41 +173,12 @@ sound bs b g e t codes ok =
 
 -- ---- A call that answers a length
 
-record Answered (v : Verdict) (a b c : Bool) (n m : ℕ) : Type 0 where
-  figures : Figures
-  accepted : v ≡ verdict.Accepted figures
-  supplied : b ≡ true
-  long : n ≡ m
-
-answered : (v : Verdict) (a b c : Bool) (n m : ℕ) → answerFor v a b c n ≡ Length m → Answered v a b c n m
-answered (verdict.Refused k) a b c n m e = absurd (never e)
-  where
-    never : Refused k ≡ Length m → ⊥
-    never e = let z : _≡_ {A = ℕ} 0 1 = cc in omega arith
-answered (verdict.Accepted g) false b c n m e = absurd (never e)
-  where
-    never : Refused 14 ≡ Length m → ⊥
-    never e = let z : _≡_ {A = ℕ} 0 1 = cc in omega arith
-answered (verdict.Accepted g) true false c n m e = absurd (never e)
-  where
-    never : Refused 15 ≡ Length m → ⊥
-    never e = let z : _≡_ {A = ℕ} 0 1 = cc in omega arith
-answered (verdict.Accepted g) true true false n m e = absurd (never e)
-  where
-    never : Refused 7 ≡ Length m → ⊥
-    never e = let z : _≡_ {A = ℕ} 0 1 = cc in omega arith
-answered (verdict.Accepted g) true true true n m e = record { figures = g; accepted = refl; supplied = refl; long = cc }
-
 module _ (bs : List ℕ) (t : Texts) (codes : Codes) (out : List ℕ) (m : ℕ) (e : exportAnswer bs t codes out ≡ Length m) where
-  answer-is : Answered (readFile bs) (identifierOk (t .identifier)) (suppliedOk t codes) (leb (length (exportOf t (contentOf codes bs))) (length out)) (length (exportOf t (contentOf codes bs))) m
-  unfolding exportAnswer
-  answer-is = answered (readFile bs) (identifierOk (t .identifier)) (suppliedOk t codes) (leb (length (exportOf t (contentOf codes bs))) (length out)) (length (exportOf t (contentOf codes bs))) m e
-
   -- the bytes up to the length are the export
   written-is : take m (exportAfter bs t codes out) ≡ exportOf t (contentOf codes bs)
   unfolding exportAfter
   written-is =
-      rw (e, ← answer-is .long) (take-append-seam (exportOf t (contentOf codes bs)) (drop (length (exportOf t (contentOf codes bs))) out))
+      rw (e, ← answer-is bs t codes out m e .long) (take-append-seam (exportOf t (contentOf codes bs)) (drop (length (exportOf t (contentOf codes bs))) out))
 
 pub equal-exactly : EqualExactly
 equal-exactly bs cs b c t codes out other m n e f =
