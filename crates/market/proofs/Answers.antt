@@ -7,7 +7,7 @@ use Prim.Native.Nat.{ℕ, _+_, _-_, _/_, _^_, _≤_, _<_}
 use native.Mathlib.Omega.{arith}
 use borrow.Author.Tests.{leb-true, leb-false, eqb-true, le-leb, lt-leb, ltb-true, ltb-false}
 use lib.Dec.{leb, ltb}
-use lib.ListN.{length, length-append}
+use lib.ListN.{length, drop, length-append}
 use Rattle.rules.specs.Lists.{every}
 use Rattle.rules.proofs.Logic.{either, passed, and-parts}
 use Rattle.file.specs.declared.Figures.{Figures}
@@ -147,6 +147,9 @@ module _ (bs : List ℕ) (t : Texts) (codes : Codes) (out : List ℕ) (m : ℕ) 
   unfolding exportAnswer
   answer-is = answered (readFile bs) (identifierOk (t .identifier)) (suppliedOk t codes) (leb (length (exportOf t (contentOf codes bs))) (length out)) (length (exportOf t (contentOf codes bs))) m e
 
-  -- such an export fits
-  pub length-fits : m ≤ length out
-  length-fits = omega (arith, answer-is .long, leb-true (length (exportOf t (contentOf codes bs))) (length out) (answer-is .room))
+  -- the buffer then holds so many bytes
+  pub length-fits : m ≤ length (exportAfter bs t codes out)
+  unfolding exportAfter
+  length-fits =
+      let x : List ℕ = exportOf t (contentOf codes bs) in
+      rw e (omega (arith, answer-is .long, length-append x (drop (length x) out)))
