@@ -18,18 +18,33 @@ use Rattle.file.proofs.Answers.{ready, tests-passed}
 use Rattle.file.proofs.Head.{interval-is, interval-pos, per-day-le, days-le}
 use Rattle.market.specs.declared.Codes.{Codes}
 use Rattle.market.specs.declared.Exported.the-variants.{Length, Refused}
-use Rattle.market.specs.declared.checks.Class.the-variants.{Digit}
+use Rattle.market.specs.declared.checks.Class.the-variants.{Plain, Digit}
 use Rattle.market.specs.Fields.{Texts}
 use Rattle.market.specs.Records.{record900}
-use Rattle.market.specs.Export.{contentOf, bodyOf, exportOf, allOf, identifierOk, timeOk, suppliedTests, suppliedOk, answerFor, exportAnswer, exportAfter}
+use Rattle.market.specs.Export.{contentOf, bodyOf, exportOf, allOf, identifierOk, timeOk, codesOk, suppliedTests, suppliedOk, answerFor, exportAnswer, exportAfter}
 use Rattle.market.specs.Inner.Writing.{capped, Added, Tabled}
 use Rattle.market.proofs.Putting.{capped-low, capped-high, stored-all}
 
 -- ---- What is supplied
 
-pub supplied-parts : (a b c d e f g h i j k : Bool)
-    → (every ((a && b) ∷ (c && d) ∷ (e && f) ∷ (g && h) ∷ []) && (i && (j && k))) ≡ every (a ∷ b ∷ c ∷ d ∷ e ∷ f ∷ g ∷ h ∷ i ∷ j ∷ k ∷ [])
+supplied-parts : (a b c d e f g h i j k : Bool)
+    → (every ((a && b) ∷ (c && d) ∷ (e && f) ∷ (g && h) ∷ []) && every (i ∷ j ∷ k ∷ [])) ≡ every (a ∷ b ∷ c ∷ d ∷ e ∷ f ∷ g ∷ h ∷ i ∷ j ∷ k ∷ [])
 supplied-parts a b c d e f g h i j k = simp (and-assoc, and-true)
+
+-- the header texts in pairs, and the others
+pub supplied-by : (t : Texts) (codes : Codes)
+    → (every (
+    (allOf Plain (t .from) && allOf Plain (t .to))
+    ∷ (allOf Plain (t .configuration) && allOf Plain (t .register))
+    ∷ (allOf Plain (t .suffix) && allOf Plain (t .stream))
+    ∷ (allOf Plain (t .serial) && allOf Plain (t .nextRead))
+    ∷ [])
+    && every (allOf Plain (t .reason) ∷ timeOk (t .created) ∷ codesOk codes ∷ []))
+    ≡ suppliedOk t codes
+unfolding suppliedOk
+supplied-by t codes =
+    supplied-parts (allOf Plain (t .from)) (allOf Plain (t .to)) (allOf Plain (t .configuration)) (allOf Plain (t .register)) (allOf Plain (t .suffix))
+    (allOf Plain (t .stream)) (allOf Plain (t .serial)) (allOf Plain (t .nextRead)) (allOf Plain (t .reason)) (timeOk (t .created)) (codesOk codes)
 
 pub time-long : (t : Texts) (codes : Codes) → suppliedOk t codes ≡ true → length (t .created) ≡ 14
 unfolding suppliedOk timeOk

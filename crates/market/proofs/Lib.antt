@@ -7,3 +7,4 @@ pub mod RunSplits
 pub mod DaySplits
 pub mod SameText
 pub mod Exact
+pub mod Cases

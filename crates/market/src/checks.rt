@@ -147,6 +147,19 @@ fn are_headers(
     are_plain(serial, next_read)
 }
 
+// The reason code, the creation time and the method codes.
+fn are_others(reason: &[u8], created: &[u8], codes: Codes) -> bool
+    ensures { λ r. ⌜ r ≡ every (allOf Plain (now (reason .entry)) ∷ timeOk (now (created .entry)) ∷ codesOk codes ∷ []) ⌝ }
+{
+    if !all_of(Class::Plain, reason) {
+        return false;
+    }
+    if !is_time(created) {
+        return false;
+    }
+    are_codes(codes)
+}
+
 // What is refused with 15 where it is false.
 pub fn are_supplied(
     from: &[u8],
@@ -175,11 +188,5 @@ pub fn are_supplied(
     ) {
         return false;
     }
-    if !all_of(Class::Plain, reason) {
-        return false;
-    }
-    if !is_time(created) {
-        return false;
-    }
-    are_codes(codes)
+    are_others(reason, created, codes)
 }

@@ -70,7 +70,7 @@ fn file_buffer() -> [u8; 696833]
     [0; 696833]
 }
 
-// Room for the largest file's export, with texts of 4,096 bytes and a reason code of 12.
+// Room for the largest file's export, with texts of 4,096 bytes and a reason code of 13.
 fn export_buffer() -> [u8; 5000000]
     ensures { λ r. ⌜ 5000000 ≡ length r ⌝ }
 {
