@@ -1,4 +1,4 @@
-/* The berth meter book for C: the fourteen exports of the crate host.
+/* The berth meter book for C: the fifteen exports of the crate host.
  *
  * A list is a pointer and its number of elements. The lists of one call must not overlap, and no other thread may write
  * them meanwhile: the proofs rest on it. A refused call changes no list.
@@ -17,6 +17,8 @@
  *   11  a cell that no calls could leave
  *   12  agreed value over 99,999,999
  *   13  a table that is not 1 to 24 demand limits, each above the one before, none over 1,000,000
+ *   14  identifier that is not ten characters of A to Z without I and O, 0 to 9
+ *   15  header text with a comma or a byte outside 0x20 to 0x7E, creation time that is not 14 digits, or method code over 99
  *   16  a half byte above 9
  *   18  more than 64 pairs, a pair list of odd length, or another number of totals than of pairs
  *   19  a pair whose first day is not below its second, or whose second exceeds D
@@ -156,6 +158,26 @@ uint32_t sawmauve_stays(
     const uint8_t *file, size_t file_len,
     const uint32_t *pairs, size_t pairs_len,
     uint64_t *totals, size_t totals_len);
+
+/* Exports a file as NEM12 into the first bytes of out: its length, which is above every refusal's number, or 8, 9, 14, 15 or 7, looked
+ * for in this order; bytes after it, and all bytes where it is refused, stay as they were. Texts are bytes without an ending zero: the
+ * meter identifier, the other fields of the records 100 and 200 in their order, the reason code of substituted and agreed slots, and the
+ * creation time of 14 digits. two to nineteen are the method codes, up to 99, of the methods 2, 3, 5, 18 and 19. */
+uint64_t sawmauve_nem12(
+    const uint8_t *file, size_t file_len,
+    const uint8_t *identifier, size_t identifier_len,
+    const uint8_t *from, size_t from_len,
+    const uint8_t *to, size_t to_len,
+    const uint8_t *configuration, size_t configuration_len,
+    const uint8_t *register_id, size_t register_id_len,
+    const uint8_t *suffix, size_t suffix_len,
+    const uint8_t *stream, size_t stream_len,
+    const uint8_t *serial, size_t serial_len,
+    const uint8_t *next_read, size_t next_read_len,
+    const uint8_t *reason, size_t reason_len,
+    const uint8_t *created, size_t created_len,
+    uint8_t two, uint8_t three, uint8_t five, uint8_t eighteen, uint8_t nineteen,
+    uint8_t *out, size_t out_len);
 
 #ifdef __cplusplus
 }

@@ -2,6 +2,7 @@
 mod chargers;
 mod files;
 mod limits;
+mod nem12;
 mod stays;
 mod storage;
 

@@ -1,0 +1,29 @@
+-- `sawmauve_nem12`: the answer of the export as its code, and the buffer as it leaves it.
+use mathlib.Core.Path.{ap, _∙_}
+use borrow.Author.Needs.{needs}
+use Rattle.host.specs.Market.{exportedCode}
+use Rattle.host.proofs.nem12.sawmauve_nem12.Statement.{statement}
+use Rattle.host.proofs.nem12.sawmauve_nem12.Tie as tie
+
+codes-of-requires : tie.Need-codes-of-requires
+codes-of-requires c κs = search needs
+
+nem12-requires : tie.Need-nem12-requires
+nem12-requires c κs = search needs
+
+exported-code-requires : tie.Need-exported-code-requires
+exported-code-requires c κs = search needs
+
+same-length : tie.Need-same-length
+same-length c = search needs
+
+returns : tie.Need-returns
+returns c =
+    let o = c .before .before .before in
+    let h = rw (o .before .before .codes-of .ensures) at (o .nem12 .ensures) in
+    (c .exported-code .ensures ∙ ap exportedCode (h .0), h .1)
+
+pub sawmauve-nem12-spec : {M : Type 1} → statement M
+sawmauve-nem12-spec =
+    tie.close
+    (tie.spec codes-of-requires nem12-requires exported-code-requires same-length returns)

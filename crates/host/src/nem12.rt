@@ -1,0 +1,76 @@
+// The export of a file to the market (02, W8).
+use market::Codes;
+use market::Exported;
+ghost use mathlib.Core.Path.{_≡_};
+ghost use Rattle.market.specs.Fields.{texts};
+ghost use Rattle.market.specs.Export.{exportAnswer, exportAfter};
+ghost use Rattle.host.specs.Market.{codesOf, exportedCode};
+
+// The length, which is above every refusal's number, or the refusal's number.
+fn exported_code(exported: Exported) -> u64
+    ensures { λ r. ⌜ r ≡ exportedCode exported ⌝ }
+{
+    match exported {
+        Exported::Length(n) => n as u64,
+        Exported::Refused(n) => n as u64,
+    }
+}
+
+fn codes_of(two: u8, three: u8, five: u8, eighteen: u8, nineteen: u8) -> Codes
+    ensures { λ r. ⌜ r ≡ codesOf two three five eighteen nineteen ⌝ }
+{
+    Codes {
+        two: two,
+        three: three,
+        five: five,
+        eighteen: eighteen,
+        nineteen: nineteen,
+    }
+}
+
+#[no_mangle]
+pub extern "C" fn sawmauve_nem12(
+    file: &[u8],
+    identifier: &[u8],
+    from: &[u8],
+    to: &[u8],
+    configuration: &[u8],
+    register: &[u8],
+    suffix: &[u8],
+    stream: &[u8],
+    serial: &[u8],
+    next_read: &[u8],
+    reason: &[u8],
+    created: &[u8],
+    two: u8,
+    three: u8,
+    five: u8,
+    eighteen: u8,
+    nineteen: u8,
+    out: &mut [u8],
+) -> u64
+    ensures { λ r. ⌜
+        (let given = texts (now (identifier .entry)) (now (from .entry)) (now (to .entry)) (now (configuration .entry)) (now (register .entry)) (now (suffix .entry)) (now (stream .entry)) (now (serial .entry)) (now («next_read» .entry)) (now (reason .entry)) (now (created .entry)) in
+        let codes = codesOf two three five eighteen nineteen in
+        (r ≡ exportedCode (exportAnswer (now (file .entry)) given codes (now (out .entry))))
+        × (now (out .exit) ≡ exportAfter (now (file .entry)) given codes (now (out .entry))))
+        ⌝ }
+{
+    let codes = codes_of(two, three, five, eighteen, nineteen);
+    exported_code(market::nem12(
+        file,
+        identifier,
+        from,
+        to,
+        configuration,
+        register,
+        suffix,
+        stream,
+        serial,
+        next_read,
+        reason,
+        created,
+        codes,
+        out,
+    ))
+}
