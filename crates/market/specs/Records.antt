@@ -1,11 +1,11 @@
 -- The records of an export (02, W8).
 use mathlib.Core.Bool.{cond}
 use mathlib.Core.List.{List, [], _∷_, _++_}
-use Prim.Native.Nat.{ℕ, _+_, _*_, _/_}
+use Prim.Native.Nat.{ℕ, _+_, _*_}
 use lib.ListN.{take}
 use Rattle.line.specs.Line.{decimal}
 use Rattle.market.specs.declared.marks.Mark.{Mark}
-use Rattle.market.specs.Fields.{Texts, field, fields, joined, kwh, dateField, marked, oneMark, endsRun, startOf, dayMark}
+use Rattle.market.specs.Fields.{field, fields, joined, kwh, dateField, marked, oneMark, endsRun, startOf, dayMark}
 
 -- 100, NEM12, the creation time's first 12 digits, FromParticipant, ToParticipant
 unfoldable pub record100 : List ℕ → List ℕ → List ℕ → List ℕ

@@ -2,7 +2,6 @@
 use crate::Codes;
 use crate::marks;
 use crate::marks::Mark;
-use crate::writing::put_decimal;
 use crate::writing::put_digits;
 use crate::writing::put_field;
 use crate::writing::put_number;

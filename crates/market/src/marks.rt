@@ -6,7 +6,6 @@ use crate::writing::put_text;
 ghost use mathlib.Core.Path.{_≡_};
 ghost use Prim.Native.Nat.{_+_, _*_, _≤_};
 ghost use lib.ListN.{length};
-ghost use Rattle.file.specs.Lists.{all};
 ghost use Rattle.file.specs.Reader.{slotAt};
 ghost use Rattle.market.specs.Fields.{hasCode, codeFor, markOf, alike, marked, oneMark, dayMark, endsRun};
 ghost use Rattle.market.specs.Inner.Writing.{Added};

@@ -1,7 +1,6 @@
 -- `headers::put_100` meets its contract.
-use mathlib.Core.Path.{sym}
 use native.Mathlib.Omega.{arith}
-use lib.Seq.{length-take-le}
+use lib.ListN.{length-take}
 use Rattle.market.specs.Fields.{fields}
 use Rattle.market.specs.Records.{record100}
 use Rattle.market.proofs.Putting.{then}
@@ -16,7 +15,7 @@ put-text-requires : tie.Need-put-text-requires
 put-text-requires c κs = search needs
 
 slice-aggregate-put-field : tie.Need-slice-aggregate-put-field
-slice-aggregate-put-field c = sym (length-take-le 12 (c .before .before .before .before .before .before .before .before .before .before .before .args .created .now) (omega (arith, c .before .before .before .before .before .before .before .before .before .before .before .pre)))
+slice-aggregate-put-field c = simp length-take (omega (arith, c .before .before .before .before .before .before .before .before .before .before .before .pre))
 
 put-field-requires : tie.Need-put-field-requires
 put-field-requires c κs = search needs
