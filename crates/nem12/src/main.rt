@@ -10,7 +10,7 @@ use market::Exported;
 ghost use mathlib.Core.Path.{_≡_};
 ghost use lib.ListN.{length};
 
-// Argument `i` is there, and no longer than a buffer; from the twelfth on it is a number.
+// Argument `i` is no longer than a buffer; from the twelfth on it is a number.
 fn is_fit(i: usize) -> bool {
     let mut word = io::buffer();
     let n = os::arg(i, &mut word);
@@ -228,10 +228,17 @@ fn with_texts() {
 fn tell_unfit(i: usize) {
     io::write_all(STDERR_FILENO, b"argument ");
     io::print_decimal(STDERR_FILENO, i as u64);
-    io::write_all(STDERR_FILENO, b": missing, too long or not a number\n");
+    io::write_all(STDERR_FILENO, b": too long or not a number\n");
 }
 
 fn main() {
+    if os::arg_count() != 17 {
+        io::write_all(
+            STDERR_FILENO,
+            b"16 arguments: identifier, 8 header texts, reason code, creation time, 5 method codes\n",
+        );
+        return;
+    }
     let unfit = first_unfit();
     if unfit < 17 {
         tell_unfit(unfit);
