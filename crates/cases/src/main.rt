@@ -1,6 +1,7 @@
 // 01's section Cases and those of 02 as run code: each case is a small book, filled and published by the public calls, and a line of output.
 mod answers;
 mod books;
+mod exports;
 mod files;
 mod outcomes;
 mod say;
@@ -22,4 +23,5 @@ fn main() {
     files::agreed();
     answers::agreed();
     answers::limits();
+    exports::days();
 }
