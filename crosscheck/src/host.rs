@@ -5,6 +5,7 @@ use crate::calls::Lists;
 use crate::date_tries::Books;
 use crate::dial_tries::Dials;
 use crate::head::Head;
+use crate::market::{Codes, Texts};
 use crate::reader::Figures;
 use crate::side::{Agreement, Answer, Delivery, RegisterRead, Side};
 use crate::strips_tries::Strips;
@@ -165,6 +166,40 @@ unsafe extern "C" {
     ) -> u32;
 
     fn sawmauve_limit(table: *const u32, len: usize, kind: u32) -> u32;
+
+    fn sawmauve_nem12(
+        file: *const u8,
+        file_len: usize,
+        identifier: *const u8,
+        identifier_len: usize,
+        from: *const u8,
+        from_len: usize,
+        to: *const u8,
+        to_len: usize,
+        configuration: *const u8,
+        configuration_len: usize,
+        register_id: *const u8,
+        register_id_len: usize,
+        suffix: *const u8,
+        suffix_len: usize,
+        stream: *const u8,
+        stream_len: usize,
+        serial: *const u8,
+        serial_len: usize,
+        next_read: *const u8,
+        next_read_len: usize,
+        reason: *const u8,
+        reason_len: usize,
+        created: *const u8,
+        created_len: usize,
+        two: u8,
+        three: u8,
+        five: u8,
+        eighteen: u8,
+        nineteen: u8,
+        out: *mut u8,
+        out_len: usize,
+    ) -> u64;
 }
 
 // Every pointer below is a slice's own, with that slice's length, and is not kept
@@ -402,6 +437,45 @@ pub fn stays(file: &[u8], pairs: &[u32], totals: &mut [u64]) -> u32 {
 
 pub fn limit(table: &[u32], kind: u32) -> u32 {
     unsafe { sawmauve_limit(table.as_ptr(), table.len(), kind) }
+}
+
+pub fn nem12(file: &[u8], texts: &Texts, codes: Codes, out: &mut [u8]) -> u64 {
+    let [two, three, five, eighteen, nineteen] = codes;
+    unsafe {
+        sawmauve_nem12(
+            file.as_ptr(),
+            file.len(),
+            texts.identifier.as_ptr(),
+            texts.identifier.len(),
+            texts.from.as_ptr(),
+            texts.from.len(),
+            texts.to.as_ptr(),
+            texts.to.len(),
+            texts.configuration.as_ptr(),
+            texts.configuration.len(),
+            texts.register_id.as_ptr(),
+            texts.register_id.len(),
+            texts.suffix.as_ptr(),
+            texts.suffix.len(),
+            texts.stream.as_ptr(),
+            texts.stream.len(),
+            texts.serial.as_ptr(),
+            texts.serial.len(),
+            texts.next_read.as_ptr(),
+            texts.next_read.len(),
+            texts.reason.as_ptr(),
+            texts.reason.len(),
+            texts.created.as_ptr(),
+            texts.created.len(),
+            two,
+            three,
+            five,
+            eighteen,
+            nineteen,
+            out.as_mut_ptr(),
+            out.len(),
+        )
+    }
 }
 
 /// The host as a side of the comparison.

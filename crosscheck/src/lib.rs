@@ -2,12 +2,12 @@
 //! and what is needed to compare it with another build.
 //!
 //! The build: `head`, `book`, `rules`, `file`, `reader`, `line`;
-//! of 02: `dial`, `strips`, `stays`, `limits`.
+//! of 02: `dial`, `strips`, `stays`, `limits`, `market`.
 //! What it is held against: `plain`, `definition`, `acceptance`, and `host` when linked.
 //! The comparison: `calls`, `random`, `heads`, `damage`, `side`, `run`, `shrink`, `counts`, `census`,
 //! `run_census`;
 //! the smaller ones of 02: `tries`, `dial_tries`, `strips_tries`, `stays_tries`, `date_tries`,
-//! `limit_tries`.
+//! `limit_tries`, `market_tries` with `market_files`, `market_back` and `nem12_reader`.
 #![deny(unsafe_code)]
 
 pub mod acceptance;
@@ -29,6 +29,11 @@ pub mod host;
 pub mod limit_tries;
 pub mod limits;
 pub mod line;
+pub mod market;
+pub mod market_back;
+pub mod market_files;
+pub mod market_tries;
+pub mod nem12_reader;
 pub mod plain;
 pub mod random;
 pub mod reader;

@@ -15,6 +15,8 @@ pub const CELL: u8 = 11;
 // 02.
 pub const AGREED: u8 = 12;
 pub const TABLE: u8 = 13;
+pub const IDENTIFIER: u8 = 14;
+pub const TEXTS: u8 = 15;
 pub const DIGIT: u8 = 16;
 pub const STAYS: u8 = 18;
 pub const STAY_DAYS: u8 = 19;
