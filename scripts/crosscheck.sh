@@ -1,5 +1,5 @@
 #!/bin/sh
-# Compares the static library with the second build: random books call by call, damaged files, dials, strips, stays, tables of limits and every date.
+# Compares the static library with the second build: random books call by call, damaged files, dials, strips, stays, tables of limits, exports and every date.
 # Arguments, each with a default: seed, number of books, number of damaged files.
 set -e
 cd "$(dirname "$0")/.."
@@ -14,5 +14,12 @@ compare dials -- --seed "$seed"
 compare strips -- --seed "$seed"
 compare stays -- --seed "$seed"
 compare limits -- --seed "$seed"
-rt check show > /dev/null
+compare nem12 -- --seed "$seed"
+rt check show publish nem12 > /dev/null
 compare dates -- target/bin/show
+# the sample month's export, read back by a reader that knows nothing of the writer
+work=$(mktemp -d)
+trap 'rm -rf "$work"' EXIT
+target/bin/publish < examples/month.log > "$work/month.file" 2> /dev/null
+target/bin/nem12 6123456789 FROM TO E1 1 E1 N1 SN1 20240701 79 20240602093000 14 15 7 65 66 < "$work/month.file" > "$work/month.csv"
+compare nem12 -- --export "$work/month.csv" "$work/month.file" 14 15 7 65 66
