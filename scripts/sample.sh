@@ -3,7 +3,7 @@
 set -eu
 cd "$(dirname "$0")/.."
 echo 'Proves and builds the programs publish and show, a line for each crate as it is proved.'
-echo 'This takes five minutes of processor time the first time; later only what has changed is proved again.'
+echo 'This takes some minutes of processor time the first time; later only what has changed is proved again.'
 status=$(mktemp)
 trap 'rm -f "$status"' EXIT
 { rt check publish show 2>&1 || echo failed > "$status"; } | grep --line-buffered -E '^rt: '
