@@ -2,3 +2,4 @@
 pub mod Feeding
 pub mod Console
 pub mod Sizes
+pub mod Leading

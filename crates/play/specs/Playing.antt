@@ -147,11 +147,6 @@ isTable (line.Open o) = false
 isTable (line.Fill call) = false
 isTable line.NoCall = false
 
--- a line in front of the opening that is passed over, or a table
-unfoldable pub leadRun : Run → Entry → Run
-leadRun run x =
-    cond (isTable (x .line)) (withTable run (x .limits) (loadAnswer (tableOf (x .limits)) 1) .run) (moved run (run .stage))
-
 -- before a table too; a good table has a first place
 unfoldable pub playedFirst : Run → Cells → Entry → Played
 playedFirst run b x =

@@ -13,7 +13,8 @@ ghost use mathlib.Core.Path.{_≡_};
 ghost use Rattle.rules.specs.Inner.Lent.{lentCells};
 ghost use Rattle.book.specs.Answers.{openedMeant, filedMeant};
 ghost use Rattle.rules.specs.Limits.{loadAnswer};
-ghost use Rattle.play.specs.Playing.{started, isOver, counted as Playing·counted, moved as Playing·moved, quiet as Playing·quiet, afterOpening, afterFilling, tableOf, withTable, headWith, refusedWith, openedWith, cellsWith, isTable, leadRun, playedClosed, closedCells, playedFirst, playedOpen, openCells, played, playedCells};
+ghost use Rattle.play.specs.Playing.{started, isOver, counted as Playing·counted, moved as Playing·moved, quiet as Playing·quiet, afterOpening, afterFilling, tableOf, withTable, headWith, refusedWith, openedWith, cellsWith, isTable, playedClosed, closedCells, playedFirst, playedOpen, openCells, played, playedCells};
+ghost use Rattle.play.specs.Inner.Leading.{leadRun};
 
 // No call has come; a table has come; the book is open; a line was no call; the table or the opening was refused.
 pub enum Stage {

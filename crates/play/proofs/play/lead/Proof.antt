@@ -1,7 +1,7 @@
 -- `play::play::lead`: a table, or a line that is passed over.
 use mathlib.Core.Path.{sym, ap, _∙_}
 use Rattle.play.specs.declared.play.Played.{Played}
-use Rattle.play.specs.Playing.{leadRun}
+use Rattle.play.specs.Inner.Leading.{leadRun}
 use borrow.Author.Needs.{needs}
 use Rattle.play.proofs.play.lead.Statement.{statement}
 use Rattle.play.proofs.play.lead.Tie as tie
