@@ -1,4 +1,4 @@
--- One call of any kind: what it answers and leaves in its own lists is what `answer` and `after` say of all cells.
+-- One call of any kind: what it answers and leaves in its own lists is what `answer` and `after` say of all lists.
 use mathlib.Core.List.{List}
 use mathlib.Core.Path.{_≡_}
 use Prim.Native.Nat.{ℕ}
@@ -9,61 +9,86 @@ use Rattle.book.specs.declared.calls.Call.{Call}
 use Rattle.book.specs.declared.calls.Call.the-variants.{Delivery, Holiday, Register, Agreed}
 use Rattle.book.specs.Answers.{Answer}
 use Rattle.book.specs.Arguments.{callMeant}
-use Rattle.book.specs.Cells.{readsOf}
-use Rattle.book.specs.Filling.{deliverAnswer, deliverAfter, holidayAnswer, holidayAfter, registerAnswer, registerAfter, agreeAnswer, agreeAfter, answer, after}
+use Rattle.book.specs.Cells.{Book, readsOf}
+use Rattle.book.specs.Filling.{deliverAnswer, deliverAfter, countsAfter, holidayAnswer, holidayAfter, registerAnswer, registerAfter, agreeAnswer, agreeAfter, answer, after}
 
-module _ (h : Head) (b : Cells) (call : Call) (a : Answer) where
-  pub delivered : (slot version value status : ℕ) (values versions statuses : List ℕ) → call ≡ Delivery slot version value status
-      → a ≡ deliverAnswer h (b .slots) slot version value status
-      → values ≡ deliverAfter h (b .slots) slot version value status .values
-      → versions ≡ deliverAfter h (b .slots) slot version value status .versions
-      → statuses ≡ deliverAfter h (b .slots) slot version value status .statuses
-      → (a ≡ answer h b (callMeant call))
-      × (cells (slots values versions statuses) (b .holidays) (b .readings) (b .readVersions) (b .agreed) ≡ after h b (callMeant call))
+-- the lists of a book
+abbrev pub book : Cells → List ℕ → Book
+book b counts = record { cells = b; counts = counts }
+
+module _ (h : Head) (b : Cells) (counts : List ℕ) (call : Call) (a : Answer) where
+  pub delivered : (slot version value status : ℕ) (values versions statuses after-counts : List ℕ) → call ≡ Delivery slot version value status
+      → a ≡ deliverAnswer h (b .slots) counts slot version value status
+      → values ≡ deliverAfter h (b .slots) counts slot version value status .values
+      → versions ≡ deliverAfter h (b .slots) counts slot version value status .versions
+      → statuses ≡ deliverAfter h (b .slots) counts slot version value status .statuses
+      → after-counts ≡ countsAfter h (b .slots) counts slot version value status
+      → (a ≡ answer h (book b counts) (callMeant call))
+      × (book (cells (slots values versions statuses) (b .holidays) (b .readings) (b .readVersions) (b .agreed)) after-counts ≡ after h (book b counts) (callMeant call))
   unfolding answer after
-  delivered slot version value status values versions statuses k e p q r =
+  delivered slot version value status values versions statuses after-counts k e p q r s =
       rw k (
         e,
         λ t. record {
-          slots = record { values = p t; versions = q t; statuses = r t };
-          holidays = b .holidays;
-          readings = b .readings;
-          readVersions = b .readVersions;
-          agreed = b .agreed;
+          cells = record {
+            slots = record { values = p t; versions = q t; statuses = r t };
+            holidays = b .holidays;
+            readings = b .readings;
+            readVersions = b .readVersions;
+            agreed = b .agreed;
+          };
+          counts = s t;
         },
       )
 
   pub named : (day : ℕ) (holidays : List ℕ) → call ≡ Holiday day → a ≡ holidayAnswer h (b .holidays) day
       → holidays ≡ holidayAfter h (b .holidays) day
-      → (a ≡ answer h b (callMeant call)) × (cells (b .slots) holidays (b .readings) (b .readVersions) (b .agreed) ≡ after h b (callMeant call))
+      → (a ≡ answer h (book b counts) (callMeant call))
+      × (book (cells (b .slots) holidays (b .readings) (b .readVersions) (b .agreed)) counts ≡ after h (book b counts) (callMeant call))
   unfolding answer after
   named day holidays k e p =
-      rw k (e, λ t. record { slots = b .slots; holidays = p t; readings = b .readings; readVersions = b .readVersions; agreed = b .agreed })
+      rw k (
+        e,
+        λ t. record {
+          cells = record { slots = b .slots; holidays = p t; readings = b .readings; readVersions = b .readVersions; agreed = b .agreed };
+          counts = counts;
+        },
+      )
 
   pub registered : (boundary version reading : ℕ) (readings reads : List ℕ) → call ≡ Register boundary version reading
       → a ≡ registerAnswer h (readsOf b) boundary version reading
       → readings ≡ registerAfter h (readsOf b) boundary version reading .readings
       → reads ≡ registerAfter h (readsOf b) boundary version reading .readVersions
-      → (a ≡ answer h b (callMeant call)) × (cells (b .slots) (b .holidays) readings reads (b .agreed) ≡ after h b (callMeant call))
+      → (a ≡ answer h (book b counts) (callMeant call))
+      × (book (cells (b .slots) (b .holidays) readings reads (b .agreed)) counts ≡ after h (book b counts) (callMeant call))
   unfolding answer after
   registered boundary version reading readings reads k e p q =
-      rw k (e, λ t. record { slots = b .slots; holidays = b .holidays; readings = p t; readVersions = q t; agreed = b .agreed })
+      rw k (
+        e,
+        λ t. record {
+          cells = record { slots = b .slots; holidays = b .holidays; readings = p t; readVersions = q t; agreed = b .agreed };
+          counts = counts;
+        },
+      )
 
   pub settled : (slot version value : ℕ) (values versions : List ℕ) → call ≡ Agreed slot version value
       → a ≡ agreeAnswer h (b .agreed) slot version value
       → values ≡ agreeAfter h (b .agreed) slot version value .values
       → versions ≡ agreeAfter h (b .agreed) slot version value .versions
-      → (a ≡ answer h b (callMeant call))
-      × (cells (b .slots) (b .holidays) (b .readings) (b .readVersions) (agreedLists values versions) ≡ after h b (callMeant call))
+      → (a ≡ answer h (book b counts) (callMeant call))
+      × (book (cells (b .slots) (b .holidays) (b .readings) (b .readVersions) (agreedLists values versions)) counts ≡ after h (book b counts) (callMeant call))
   unfolding answer after
   settled slot version value values versions k e p q =
       rw k (
         e,
         λ t. record {
-          slots = b .slots;
-          holidays = b .holidays;
-          readings = b .readings;
-          readVersions = b .readVersions;
-          agreed = record { values = p t; versions = q t };
+          cells = record {
+            slots = b .slots;
+            holidays = b .holidays;
+            readings = b .readings;
+            readVersions = b .readVersions;
+            agreed = record { values = p t; versions = q t };
+          };
+          counts = counts;
         },
       )

@@ -9,7 +9,7 @@ use borrow.Author.Tests.{eqb-true}
 use Rattle.rules.specs.declared.Head.{Head}
 use Rattle.rules.specs.Opening.{slotCount, Cells}
 use Rattle.rules.proofs.Logic.{and-parts, passed}
-use Rattle.book.specs.Cells.{allLong, slotsFit, daysFit, readsFit, agreedFits, cellsFits, cellsFit}
+use Rattle.book.specs.Cells.{Book, allLong, slotsFit, daysFit, readsFit, agreedFits, cellsFits, cellsFit, countsFit, bookFits}
 
 -- length k of those that are all n
 pub long : (n : ℕ) (ls : List ℕ) → allLong n ls ≡ true → (k : ℕ) → getD ls k n ≡ n
@@ -46,3 +46,10 @@ lengths-of h b fit =
       agreed = agreed 0;
       agreedVersions = agreed 1;
     }
+
+-- the cells of lists that fit do, and the counts are D long
+pub fits-of : (h : Head) (b : Book) → bookFits h b ≡ true → (cellsFit h (b .cells) ≡ true) × (length (b .counts) ≡ h .days)
+unfolding bookFits countsFit
+fits-of h b fit =
+    let parts = and-parts (cellsFit h (b .cells)) (countsFit h (b .counts)) fit in
+    (parts .0, long _ _ (parts .1) 0)

@@ -5,7 +5,7 @@ use mathlib.Core.List.{List, [], _∷_, List·Memᴰ, List·Memᴰ·head, List·
 use Prim.Native.Nat.{ℕ, zero, suc, _≤_, _<_}
 use native.Mathlib.Omega.{arith}
 use lib.Dec.{eqb}
-use borrow.Author.Tests.{leb-false, ltb-false}
+use borrow.Author.Tests.{not-false, leb-false, ltb-false}
 use Rattle.rules.specs.declared.Head.{Head}
 use Rattle.rules.specs.Opening.{headOk, slotCount}
 use Rattle.book.specs.Answers.{Answer, isAccepted, Rule, unless}
@@ -72,6 +72,12 @@ unfolding plainAnswer
 accepted h kept c ok =
     let r = unless-accepted (rule 1 (not (headOk h)) ∷ argumentRules h c) (againstKept kept c) ok in
     (r .0, sound h c (r .1))
+
+-- and that under a good head
+pub accepted-head : (h : Head) (kept : List Call) (c : Call) → isAccepted (plainAnswer h kept c) ≡ true → headOk h ≡ true
+unfolding plainAnswer
+accepted-head h kept c ok =
+    not-false _ (unless-accepted (rule 1 (not (headOk h)) ∷ argumentRules h c) (againstKept kept c) ok .1 0)
 
 -- one call more, and a whole list more
 pub keep-kept : (h : Head) (kept : List Call) (c : Call) → Kept h kept → Kept h (keep h kept c)

@@ -4,6 +4,7 @@ pub mod Kept
 pub mod Members
 pub mod Clean
 pub mod Next
+pub mod Counting
 pub mod Agreement
 pub mod Order
 pub mod Soundness

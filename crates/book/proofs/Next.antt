@@ -2,18 +2,19 @@
 use mathlib.Core.Path.{_≡_, refl, sym}
 use mathlib.Core.Bool.{Bool, true, false, cond, _&&_, true≢false}
 use mathlib.Core.List.{List, _∷_}
-use Prim.Native.Nat.{ℕ, suc}
+use Prim.Native.Nat.{ℕ, suc, _/_}
 use lib.Dec.{eqb}
 use borrow.Author.Tests.{eqb-true, eq-eqb, ne-eqb}
 use Rattle.rules.specs.declared.Head.{Head}
-use Rattle.rules.specs.Opening.{slotCount, Cells}
+use Rattle.rules.specs.Opening.{slotsPerDay, slotCount, Cells}
 use Rattle.rules.proofs.Logic.{and-parts}
 use Rattle.rules.specs.Spans.{upTo}
 use Rattle.book.specs.Answers.{Answer, isAccepted, isStored, byVersion}
 use Rattle.book.specs.Answers.Answer.{done, stored, late, repeat, refused}
 use Rattle.book.specs.Arguments.{Call}
 use Rattle.book.specs.Arguments.Call.{delivery, holiday, register, agreed}
-use Rattle.book.specs.Filling.{storedIn, deliverAfter, holidayAfter, registerAfter, agreeAfter, answer, after}
+use Rattle.book.specs.Cells.{Book}
+use Rattle.book.specs.Filling.{storedIn, slotsWith, countsWith, deliverAfter, countsAfter, holidayAfter, registerAfter, agreeAfter, answer, after}
 use Rattle.book.specs.Plain.{Said, Measured, deliveries, reads, agreements, named, highest, slotVersion, slotContent, againstKept, bookOf}
 use Rattle.book.proofs.Tables.{upTo-filed}
 use Rattle.book.proofs.Said.{latest, said-filed}
@@ -21,11 +22,7 @@ use Rattle.book.proofs.Said.{latest, said-filed}
 -- the cells after a call with this answer
 unfoldable pub filedIn : Answer → Cells → Call → Cells
 filedIn a b (delivery slot version value status) = record {
-  slots = record {
-    values = storedIn a (b .slots .values) slot value;
-    versions = storedIn a (b .slots .versions) slot version;
-    statuses = storedIn a (b .slots .statuses) slot status;
-  };
+  slots = slotsWith a (b .slots) slot version value status;
   holidays = b .holidays;
   readings = b .readings;
   readVersions = b .readVersions;
@@ -53,8 +50,18 @@ filedIn a b (agreed slot version value) = record {
   agreed = record { values = storedIn a (b .agreed .values) slot value; versions = storedIn a (b .agreed .versions) slot version };
 }
 
-pub after-filed : (h : Head) (b : Cells) (c : Call) → after h b c ≡ filedIn (answer h b c) b c
-unfolding after answer deliverAfter holidayAfter registerAfter agreeAfter filedIn
+-- the counts after it
+unfoldable pub countedIn : Head → Answer → Book → Call → List ℕ
+countedIn h a b (delivery slot version value status) = countsWith a (b .cells .slots .versions) (b .counts) slot (slot / slotsPerDay h)
+countedIn h a b (holiday day) = b .counts
+countedIn h a b (register boundary version reading) = b .counts
+countedIn h a b (agreed slot version value) = b .counts
+
+abbrev pub booked : Head → Answer → Book → Call → Book
+booked h a b c = record { cells = filedIn a (b .cells) c; counts = countedIn h a b c }
+
+pub after-filed : (h : Head) (b : Book) (c : Call) → after h b c ≡ booked h (answer h b c) b c
+unfolding after answer deliverAfter countsAfter holidayAfter registerAfter agreeAfter filedIn countedIn
 after-filed h b (delivery slot version value status) = refl
 after-filed h b (holiday day) = refl
 after-filed h b (register boundary version reading) = refl
@@ -68,12 +75,12 @@ not-stored late e = absurd (true≢false e)
 not-stored repeat e = absurd (true≢false e)
 
 -- a call that is not accepted changes nothing
-pub filed-refused : (a : Answer) (b : Cells) (c : Call) → isAccepted a ≡ false → filedIn a b c ≡ b
-unfolding filedIn
-filed-refused a b (delivery slot version value status) e = rw (not-stored a e)
-filed-refused a b (holiday day) e = rw (not-stored a e)
-filed-refused a b (register boundary version reading) e = rw (not-stored a e)
-filed-refused a b (agreed slot version value) e = rw (not-stored a e)
+pub filed-refused : (h : Head) (a : Answer) (b : Book) (c : Call) → isAccepted a ≡ false → booked h a b c ≡ b
+unfolding filedIn countedIn
+filed-refused h a b (delivery slot version value status) e = rw (not-stored a e)
+filed-refused h a b (holiday day) e = rw (not-stored a e)
+filed-refused h a b (register boundary version reading) e = rw (not-stored a e)
+filed-refused h a b (agreed slot version value) e = rw (not-stored a e)
 
 -- equal tests of the content mean equal content
 pub same-measured : (m : Measured) (value status : ℕ) → (eqb (m .value) value && eqb (m .status) status) ≡ true

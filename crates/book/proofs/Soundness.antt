@@ -1,22 +1,24 @@
--- After any list of calls from an opening the lists have their lengths, and no cell is one that 11 speaks of.
-use mathlib.Core.Path.{_≡_}
+-- After any list of calls from an opening the lists have their lengths, and no cell or count is one that 11 speaks of.
+use mathlib.Core.Path.{_≡_, refl}
 use mathlib.Core.Bool.{true, false}
 use mathlib.Core.List.{List, []}
-use Prim.Native.Nat.{suc, _<_}
+use Prim.Native.Nat.{ℕ, suc, _<_}
 use native.Mathlib.Omega.{arith}
 use Rattle.rules.specs.declared.Head.{Head}
+use borrow.Author.Tests.{eq-eqb}
 use Rattle.rules.specs.Opening.{slotCount}
 use Rattle.rules.specs.Lists.{any}
 use Rattle.rules.proofs.Sums.{any-none}
 use Rattle.book.specs.Arguments.{Call}
-use Rattle.book.specs.Cells.{readsOf, slotFaultAt, dayFaultAt, readFaultAt, agreedFaultAt, cellsFit, cellsOk}
+use Rattle.book.specs.Cells.{readsOf, slotFaultAt, dayFaultAt, readFaultAt, agreedFaultAt, countFaultAt, cellsOk, bookFits, bookOk}
 use Rattle.book.specs.Opening.{opened}
 use Rattle.book.specs.Filling.{afterAll}
-use Rattle.book.specs.Plain.{keptOf, bookOf}
+use Rattle.book.specs.Plain.{keptOf, bookOf, deliveredOn, countsOf, listsOf}
 use Rattle.book.proofs.Tables.{getD-upTo}
 use Rattle.book.proofs.Kept.{Kept, keptOf-kept}
 use Rattle.book.proofs.Clean.{slot-clean, day-clean, read-clean, agreed-clean}
-use Rattle.book.proofs.Agreement.{book-fits, cells-agree}
+use Rattle.book.proofs.Agreement.{book-fits, lists-agree}
+use Rattle.book.proofs.Counting.{day-within, delivered-on}
 
 module _ (h : Head) (kept : List Call) (ok : Kept h kept) where
   slots-clean : any (slotFaultAt (bookOf h kept .slots)) 0 (slotCount h) ≡ false
@@ -43,10 +45,24 @@ module _ (h : Head) (kept : List Call) (ok : Kept h kept) where
       any-none (agreedFaultAt (bookOf h kept .agreed)) 0 (slotCount h)
       (λ i l m. let lt : i < slotCount h = omega arith in simp getD-upTo (agreed-clean h kept ok i))
 
-  book-ok : cellsOk h (bookOf h kept) ≡ true
+  cells-ok : cellsOk h (bookOf h kept) ≡ true
   unfolding cellsOk
-  book-ok = rw (slots-clean, days-clean, reads-clean, agreements-clean)
+  cells-ok = rw (slots-clean, days-clean, reads-clean, agreements-clean)
 
-pub cells-sound : (h : Head) (cs : List Call)
-    → (cellsFit h (afterAll h (opened h) cs) ≡ true) × (cellsOk h (afterAll h (opened h) cs) ≡ true)
-cells-sound h cs = rw (cells-agree h cs) (book-fits h (keptOf h [] cs), book-ok h (keptOf h [] cs) (keptOf-kept h [] cs tt))
+-- each count is the number of delivered slots in its day
+count-right : (h : Head) (kept : List Call) (d : ℕ) → d < h .days → countFaultAt h (bookOf h kept .slots .versions) (countsOf h kept) d ≡ false
+unfolding countsOf
+count-right h kept d lt =
+    rw (getD-upTo (deliveredOn h kept) (h .days) d lt, delivered-on h kept d (day-within h d lt), eq-eqb (deliveredOn h kept d) (deliveredOn h kept d) refl)
+
+counts-right : (h : Head) (kept : List Call) → any (countFaultAt h (bookOf h kept .slots .versions) (countsOf h kept)) 0 (h .days) ≡ false
+counts-right h kept =
+    any-none (countFaultAt h (bookOf h kept .slots .versions) (countsOf h kept)) 0 (h .days)
+    (λ d l m. count-right h kept d (omega arith))
+
+pub book-sound : (h : Head) (cs : List Call)
+    → (bookFits h (afterAll h (opened h) cs) ≡ true) × (bookOk h (afterAll h (opened h) cs) ≡ true)
+unfolding bookOk listsOf
+book-sound h cs =
+    rw (lists-agree h cs)
+    (book-fits h (keptOf h [] cs), rw (cells-ok h (keptOf h [] cs) (keptOf-kept h [] cs tt), counts-right h (keptOf h [] cs)))

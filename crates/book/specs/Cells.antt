@@ -1,12 +1,12 @@
--- The lent lists: their lengths (01, Opening; 2), and the cells that no calls could leave (11).
-use mathlib.Core.Bool.{Bool, true, not, _&&_, _||_}
+-- The lent lists: their lengths (01, Opening; 2), and the cells that no calls could leave (11; 02, W1 and W6).
+use mathlib.Core.Bool.{Bool, true, cond, not, _&&_, _||_}
 use mathlib.Core.List.{List, [], _∷_}
-use Prim.Native.Nat.{ℕ, suc}
+use Prim.Native.Nat.{ℕ, suc, _*_}
 use lib.Dec.{ltb, eqb}
 use lib.ListN.{length, getD}
 use Rattle.rules.specs.declared.Head.{Head}
-use Rattle.rules.specs.Lists.{every, any}
-use Rattle.rules.specs.Opening.{slotCount, Slots, Agreed, Cells}
+use Rattle.rules.specs.Lists.{every, sum, any}
+use Rattle.rules.specs.Opening.{slotsPerDay, slotCount, Slots, Agreed, Cells}
 
 -- the two lent lists of boundaries
 pub record Reads : Type 0 where
@@ -15,6 +15,11 @@ pub record Reads : Type 0 where
 
 abbrev pub readsOf : Cells → Reads
 readsOf b = record { readings = b .readings; readVersions = b .readVersions }
+
+-- the lent lists of a book: the cells that the rules read, and the counts of delivered slots (02, W6)
+pub record Book : Type 0 where
+  pub cells : Cells
+  pub counts : List ℕ
 
 -- each of these lengths is n
 unfoldable pub allLong : ℕ → List ℕ → Bool
@@ -39,6 +44,13 @@ cellsFits h b = slotsFit h (b .slots) ∷ daysFit h (b .holidays) ∷ readsFit h
 
 unfoldable pub cellsFit : Head → Cells → Bool
 cellsFit h b = every (cellsFits h b)
+
+-- the counts D long (02, W6)
+unfoldable pub countsFit : Head → List ℕ → Bool
+countsFit h counts = allLong (h .days) (length counts ∷ [])
+
+unfoldable pub bookFits : Head → Book → Bool
+bookFits h b = cellsFit h (b .cells) && countsFit h (b .counts)
 
 -- status over 7, or version 0 beside a non-zero value or status
 unfoldable pub slotFault : ℕ → ℕ → ℕ → Bool
@@ -78,3 +90,14 @@ cellsOk h b =
     ∷ not (any (readFaultAt (readsOf b)) 0 (suc (h .days)))
     ∷ not (any (agreedFaultAt (b .agreed)) 0 (slotCount h))
     ∷ [])
+
+-- the number of delivered slots, those with a version above 0, in day d (02, W6)
+unfoldable pub deliveredIn : Head → List ℕ → ℕ → ℕ
+deliveredIn h versions d = sum (λ i. cond (ltb 0 (getD versions i 0)) 1 0) (d * slotsPerDay h) (slotsPerDay h)
+
+-- a count that differs from it
+abbrev pub countFaultAt : Head → List ℕ → List ℕ → ℕ → Bool
+countFaultAt h versions counts d = not (eqb (getD counts d 0) (deliveredIn h versions d))
+
+unfoldable pub bookOk : Head → Book → Bool
+bookOk h b = cellsOk h (b .cells) && not (any (countFaultAt h (b .cells .slots .versions) (b .counts)) 0 (h .days))

@@ -1,17 +1,17 @@
--- What the filling calls answer, and what they leave in the lists they are lent (01, The three calls that fill it; 02, W1).
+-- What the filling calls answer, and what they leave in the lists they are lent (01, The three calls that fill it; 02, W1 and W6).
 use mathlib.Core.Bool.{Bool, not, cond, _&&_}
 use mathlib.Core.List.{List, [], _∷_}
-use Prim.Native.Nat.{ℕ}
-use lib.Dec.{eqb}
+use Prim.Native.Nat.{ℕ, _+_, _/_}
+use lib.Dec.{leb, eqb}
 use lib.ListN.{getD, set}
 use Rattle.rules.specs.declared.Head.{Head}
-use Rattle.rules.specs.Opening.{headOk, Slots, Agreed, Cells}
+use Rattle.rules.specs.Opening.{headOk, slotsPerDay, Slots, Agreed}
 use Rattle.book.specs.Answers.{Answer, isStored, Rule, unless, byVersion}
 use Rattle.book.specs.Answers.Answer.{stored, repeat, refused}
 use Rattle.book.specs.Answers.Rule.{rule}
 use Rattle.book.specs.Arguments.{Call, argumentRules}
 use Rattle.book.specs.Arguments.Call.{delivery, holiday, register, agreed}
-use Rattle.book.specs.Cells.{Reads, readsOf, slotsFit, daysFit, readsFit, agreedFits, slotFault, dayFault, readFault}
+use Rattle.book.specs.Cells.{Reads, Book, readsOf, slotsFit, daysFit, readsFit, agreedFits, countsFit, slotFault, dayFault, readFault}
 
 -- the rules from the input, where the lists that the call is lent fit or do not
 abbrev pub inputRules : Head → Bool → Call → List Rule
@@ -39,18 +39,42 @@ againstAgreed oldVersion oldValue version value = againstBoundary oldVersion old
 abbrev pub storedIn : Answer → List ℕ → ℕ → ℕ → List ℕ
 storedIn a cells i x = cond (isStored a) (set cells i x) cells
 
--- a delivery
-unfoldable pub deliverAnswer : Head → Slots → ℕ → ℕ → ℕ → ℕ → Answer
-deliverAnswer h s slot version value status =
-    unless (inputRules h (slotsFit h s) (delivery slot version value status))
+-- "A first delivery gives 11 where the count is n or more" (02, W6): the version in the cell, and the day's count
+unfoldable pub isFull : Head → ℕ → ℕ → Bool
+isFull h oldVersion count = eqb oldVersion 0 && leb (slotsPerDay h) count
+
+-- a delivery against its cell and its day's count
+unfoldable pub againstDelivery : Head → Slots → List ℕ → ℕ → ℕ → ℕ → ℕ → Answer
+againstDelivery h s counts slot version value status =
+    cond (isFull h (getD (s .versions) slot 0) (getD counts (slot / slotsPerDay h) 0)) (refused 11)
     (againstSlot (getD (s .versions) slot 0) (getD (s .values) slot 0) (getD (s .statuses) slot 0) version value status)
 
-unfoldable pub deliverAfter : Head → Slots → ℕ → ℕ → ℕ → ℕ → Slots
-deliverAfter h s slot version value status = record {
-  values = storedIn (deliverAnswer h s slot version value status) (s .values) slot value;
-  versions = storedIn (deliverAnswer h s slot version value status) (s .versions) slot version;
-  statuses = storedIn (deliverAnswer h s slot version value status) (s .statuses) slot status;
+-- a delivery
+unfoldable pub deliverAnswer : Head → Slots → List ℕ → ℕ → ℕ → ℕ → ℕ → Answer
+deliverAnswer h s counts slot version value status =
+    unless (inputRules h (slotsFit h s && countsFit h counts) (delivery slot version value status))
+    (againstDelivery h s counts slot version value status)
+
+-- the slots after a delivery with this answer
+abbrev pub slotsWith : Answer → Slots → ℕ → ℕ → ℕ → ℕ → Slots
+slotsWith a s slot version value status = record {
+  values = storedIn a (s .values) slot value;
+  versions = storedIn a (s .versions) slot version;
+  statuses = storedIn a (s .statuses) slot status;
 }
+
+-- "the first stored delivery of a slot raises its day's count" (02, W6): versions and counts as they were, the slot and its day
+abbrev pub countsWith : Answer → List ℕ → List ℕ → ℕ → ℕ → List ℕ
+countsWith a versions counts slot day =
+    storedIn a counts day (cond (eqb (getD versions slot 0) 0) (getD counts day 0 + 1) (getD counts day 0))
+
+unfoldable pub deliverAfter : Head → Slots → List ℕ → ℕ → ℕ → ℕ → ℕ → Slots
+deliverAfter h s counts slot version value status =
+    slotsWith (deliverAnswer h s counts slot version value status) s slot version value status
+
+unfoldable pub countsAfter : Head → Slots → List ℕ → ℕ → ℕ → ℕ → ℕ → List ℕ
+countsAfter h s counts slot version value status =
+    countsWith (deliverAnswer h s counts slot version value status) (s .versions) counts slot (slot / slotsPerDay h)
 
 -- a holiday
 unfoldable pub holidayAnswer : Head → List ℕ → ℕ → Answer
@@ -83,48 +107,60 @@ agreeAfter h a slot version value = record {
   versions = storedIn (agreeAnswer h a slot version value) (a .versions) slot version;
 }
 
--- any of the four, over all cells
-unfoldable pub answer : Head → Cells → Call → Answer
-answer h b (delivery slot version value status) = deliverAnswer h (b .slots) slot version value status
-answer h b (holiday day) = holidayAnswer h (b .holidays) day
-answer h b (register boundary version reading) = registerAnswer h (readsOf b) boundary version reading
-answer h b (agreed slot version value) = agreeAnswer h (b .agreed) slot version value
+-- any of the four, over all lists
+unfoldable pub answer : Head → Book → Call → Answer
+answer h b (delivery slot version value status) = deliverAnswer h (b .cells .slots) (b .counts) slot version value status
+answer h b (holiday day) = holidayAnswer h (b .cells .holidays) day
+answer h b (register boundary version reading) = registerAnswer h (readsOf (b .cells)) boundary version reading
+answer h b (agreed slot version value) = agreeAnswer h (b .cells .agreed) slot version value
 
-unfoldable pub after : Head → Cells → Call → Cells
+unfoldable pub after : Head → Book → Call → Book
 after h b (delivery slot version value status) = record {
-  slots = deliverAfter h (b .slots) slot version value status;
-  holidays = b .holidays;
-  readings = b .readings;
-  readVersions = b .readVersions;
-  agreed = b .agreed;
+  cells = record {
+    slots = deliverAfter h (b .cells .slots) (b .counts) slot version value status;
+    holidays = b .cells .holidays;
+    readings = b .cells .readings;
+    readVersions = b .cells .readVersions;
+    agreed = b .cells .agreed;
+  };
+  counts = countsAfter h (b .cells .slots) (b .counts) slot version value status;
 }
 after h b (holiday day) = record {
-  slots = b .slots;
-  holidays = holidayAfter h (b .holidays) day;
-  readings = b .readings;
-  readVersions = b .readVersions;
-  agreed = b .agreed;
+  cells = record {
+    slots = b .cells .slots;
+    holidays = holidayAfter h (b .cells .holidays) day;
+    readings = b .cells .readings;
+    readVersions = b .cells .readVersions;
+    agreed = b .cells .agreed;
+  };
+  counts = b .counts;
 }
 after h b (register boundary version reading) = record {
-  slots = b .slots;
-  holidays = b .holidays;
-  readings = registerAfter h (readsOf b) boundary version reading .readings;
-  readVersions = registerAfter h (readsOf b) boundary version reading .readVersions;
-  agreed = b .agreed;
+  cells = record {
+    slots = b .cells .slots;
+    holidays = b .cells .holidays;
+    readings = registerAfter h (readsOf (b .cells)) boundary version reading .readings;
+    readVersions = registerAfter h (readsOf (b .cells)) boundary version reading .readVersions;
+    agreed = b .cells .agreed;
+  };
+  counts = b .counts;
 }
 after h b (agreed slot version value) = record {
-  slots = b .slots;
-  holidays = b .holidays;
-  readings = b .readings;
-  readVersions = b .readVersions;
-  agreed = agreeAfter h (b .agreed) slot version value;
+  cells = record {
+    slots = b .cells .slots;
+    holidays = b .cells .holidays;
+    readings = b .cells .readings;
+    readVersions = b .cells .readVersions;
+    agreed = agreeAfter h (b .cells .agreed) slot version value;
+  };
+  counts = b .counts;
 }
 
 -- a list of calls, each given the lists as the call before left them
-unfoldable pub answers : Head → Cells → List Call → List Answer
+unfoldable pub answers : Head → Book → List Call → List Answer
 answers h b [] = []
 answers h b (c ∷ cs) = answer h b c ∷ answers h (after h b c) cs
 
-unfoldable pub afterAll : Head → Cells → List Call → Cells
+unfoldable pub afterAll : Head → Book → List Call → Book
 afterAll h b [] = b
 afterAll h b (c ∷ cs) = afterAll h (after h b c) cs

@@ -1,15 +1,17 @@
--- What a list of calls amounts to, from the head and the calls' arguments alone (01, The plain book; 02, W1).
+-- What a list of calls amounts to, from the head and the calls' arguments alone (01, The plain book; 02, W1 and W6).
 use mathlib.Core.Bool.{Bool, false, not, cond, _&&_, _||_}
 use mathlib.Core.List.{List, [], _∷_}
-use Prim.Native.Nat.{ℕ, suc, max}
-use lib.Dec.{eqb}
+use Prim.Native.Nat.{ℕ, suc, max, _*_}
+use lib.Dec.{ltb, eqb}
 use Rattle.rules.specs.declared.Head.{Head}
-use Rattle.rules.specs.Opening.{headOk, slotCount, Cells}
+use Rattle.rules.specs.Lists.{sum}
+use Rattle.rules.specs.Opening.{headOk, slotsPerDay, slotCount, Cells}
 use Rattle.rules.specs.Spans.{upTo}
 use Rattle.book.specs.Answers.{Answer, isAccepted, unless, byVersion}
 use Rattle.book.specs.Answers.Answer.{stored, repeat}
 use Rattle.book.specs.Answers.Rule.{rule}
 use Rattle.book.specs.Arguments.{Call, argumentRules}
+use Rattle.book.specs.Cells.{Book}
 use Rattle.book.specs.Arguments.Call.{delivery, holiday, register, agreed}
 
 -- what a kept delivery, register read or agreed call says: its version and its content
@@ -131,3 +133,14 @@ bookOf h kept = record {
     versions = upTo (agreedVersion kept) 0 (slotCount h);
   };
 }
+
+-- how many slots of day d have a kept delivery (02, W6)
+unfoldable pub deliveredOn : Head → List Call → ℕ → ℕ
+deliveredOn h kept d = sum (λ i. cond (ltb 0 (slotVersion kept i)) 1 0) (d * slotsPerDay h) (slotsPerDay h)
+
+unfoldable pub countsOf : Head → List Call → List ℕ
+countsOf h kept = upTo (deliveredOn h kept) 0 (h .days)
+
+-- what the nine lent lists hold then
+unfoldable pub listsOf : Head → List Call → Book
+listsOf h kept = record { cells = bookOf h kept; counts = countsOf h kept }

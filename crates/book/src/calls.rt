@@ -2,10 +2,10 @@
 use crate::Filed;
 use rules::Head;
 ghost use mathlib.Core.Path.{_≡_};
-ghost use Rattle.rules.specs.Inner.Lent.{lentCells};
 ghost use Rattle.book.specs.Answers.{filedMeant};
 ghost use Rattle.book.specs.Arguments.{callMeant};
 ghost use Rattle.book.specs.Filling.{answer, after};
+ghost use Rattle.book.specs.Inner.Lent.{lentBook};
 
 pub enum Call {
     Delivery {
@@ -37,14 +37,15 @@ pub fn fill(
     reads: &mut [u32],
     agreed: &mut [u32],
     agreed_versions: &mut [u32],
+    counts: &mut [u16],
     call: Call,
 ) -> Filed
     ensures { λ r. ⌜
-        (let cells =
-        lentCells (values .entry) (versions .entry) (statuses .entry) (holidays .entry) (readings .entry) (reads .entry) (agreed .entry) («agreed_versions» .entry) in
-        (filedMeant r ≡ answer head cells (callMeant call))
-        × (lentCells (values .exit) (versions .exit) (statuses .exit) (holidays .exit) (readings .exit) (reads .exit) (agreed .exit) («agreed_versions» .exit)
-        ≡ after head cells (callMeant call)))
+        (let book =
+        lentBook (values .entry) (versions .entry) (statuses .entry) (holidays .entry) (readings .entry) (reads .entry) (agreed .entry) («agreed_versions» .entry) (counts .entry) in
+        (filedMeant r ≡ answer head book (callMeant call))
+        × (lentBook (values .exit) (versions .exit) (statuses .exit) (holidays .exit) (readings .exit) (reads .exit) (agreed .exit) («agreed_versions» .exit) (counts .exit)
+        ≡ after head book (callMeant call)))
         ⌝ }
 {
     match call {
@@ -58,6 +59,7 @@ pub fn fill(
             values,
             versions,
             statuses,
+            counts,
             slot,
             version,
             value,

@@ -1,7 +1,7 @@
 // The lengths of lent lists (01, Numbers of a refusal, 2).
 use rules::Head;
 use rules::opening;
-ghost use mathlib.Core.Bool.{true};
+ghost use mathlib.Core.Bool.{true, _&&_};
 ghost use mathlib.Core.List.{[], _∷_};
 ghost use mathlib.Core.Path.{_≡_};
 ghost use Prim.Native.Nat.{suc};
@@ -23,10 +23,28 @@ pub fn slots_fit(head: Head, values: usize, versions: usize, statuses: usize) ->
     statuses == n
 }
 
-pub fn days_fit(head: Head, holidays: usize) -> bool
-    ensures { λ r. ⌜ r ≡ allLong (head .days) (holidays ∷ []) ⌝ }
+// a list of holidays, or of counts
+pub fn days_fit(head: Head, days: usize) -> bool
+    ensures { λ r. ⌜ r ≡ allLong (head .days) (days ∷ []) ⌝ }
 {
-    holidays == head.days as usize
+    days == head.days as usize
+}
+
+// The lists of a delivery (02, W6).
+pub fn delivery_fits(
+    head: Head,
+    values: usize,
+    versions: usize,
+    statuses: usize,
+    counts: usize,
+) -> bool
+    requires { ⌜ headOk head ≡ true ⌝ }
+    ensures { λ r. ⌜ r ≡ (allLong (slotCount head) (values ∷ versions ∷ statuses ∷ []) && allLong (head .days) (counts ∷ [])) ⌝ }
+{
+    if !slots_fit(head, values, versions, statuses) {
+        return false;
+    }
+    days_fit(head, counts)
 }
 
 pub fn reads_fit(head: Head, readings: usize, read_versions: usize) -> bool
@@ -50,8 +68,8 @@ pub fn agreed_fit(head: Head, agreed: usize, agreed_versions: usize) -> bool
     agreed_versions == n
 }
 
-// All eight lists, in the order of an opening's arguments.
-pub fn cells_fit(
+// The cells' eight lists, in the order of an opening's arguments.
+fn cells_fit(
     head: Head,
     values: usize,
     versions: usize,
@@ -82,4 +100,44 @@ pub fn cells_fit(
         return false;
     }
     agreed_fit(head, agreed, agreed_versions)
+}
+
+// All nine lists, the counts last (02, W6).
+pub fn book_fits(
+    head: Head,
+    values: usize,
+    versions: usize,
+    statuses: usize,
+    holidays: usize,
+    readings: usize,
+    read_versions: usize,
+    agreed: usize,
+    agreed_versions: usize,
+    counts: usize,
+) -> bool
+    requires { ⌜ headOk head ≡ true ⌝ }
+    ensures { λ r. ⌜
+        r ≡ (every
+        (allLong (slotCount head) (values ∷ versions ∷ statuses ∷ [])
+        ∷ allLong (head .days) (holidays ∷ [])
+        ∷ allLong (suc (head .days)) (readings ∷ «read_versions» ∷ [])
+        ∷ allLong (slotCount head) (agreed ∷ «agreed_versions» ∷ [])
+        ∷ [])
+        && allLong (head .days) (counts ∷ []))
+        ⌝ }
+{
+    if !cells_fit(
+        head,
+        values,
+        versions,
+        statuses,
+        holidays,
+        readings,
+        read_versions,
+        agreed,
+        agreed_versions,
+    ) {
+        return false;
+    }
+    days_fit(head, counts)
 }

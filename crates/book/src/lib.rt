@@ -1,6 +1,7 @@
-// The calls that open and fill a book (01, Opening; The three calls that fill it; 02, W1).
+// The calls that open and fill a book (01, Opening; The three calls that fill it; 02, W1 and W6).
 pub mod calls;
 pub mod cells;
+mod deliveries;
 mod filing;
 pub mod lengths;
 mod numbers;
@@ -11,11 +12,11 @@ mod zeros;
 use rules::Head;
 use rules::opening;
 ghost use mathlib.Core.Path.{_≡_};
-ghost use Rattle.rules.specs.Inner.Lent.{lentSlots, lentAgreed, lentCells};
+ghost use Rattle.rules.specs.Inner.Lent.{lentSlots, lentAgreed};
 ghost use Rattle.book.specs.Answers.{openedMeant, filedMeant};
 ghost use Rattle.book.specs.Opening.{openAnswer, openAfter};
-ghost use Rattle.book.specs.Filling.{deliverAnswer, deliverAfter, holidayAnswer, holidayAfter, registerAnswer, registerAfter, agreeAnswer, agreeAfter};
-ghost use Rattle.book.specs.Inner.Lent.{lentReads, HoldSlots, HoldAgreed, HoldCells};
+ghost use Rattle.book.specs.Filling.{deliverAnswer, deliverAfter, countsAfter, holidayAnswer, holidayAfter, registerAnswer, registerAfter, agreeAnswer, agreeAfter};
+ghost use Rattle.book.specs.Inner.Lent.{lentReads, lentBook, HoldSlots, HoldAgreed, HoldBook};
 
 // What opening answers.
 pub enum Opened {
@@ -41,19 +42,20 @@ pub fn open(
     read_versions: &mut [u32],
     agreed: &mut [u32],
     agreed_versions: &mut [u32],
+    counts: &mut [u16],
 ) -> Opened
     ensures { λ r. ⌜
-        (let cells =
-        lentCells (values .entry) (versions .entry) (statuses .entry) (holidays .entry) (readings .entry) («read_versions» .entry) (agreed .entry) («agreed_versions» .entry) in
-        (openedMeant r ≡ openAnswer head cells)
-        × HoldCells (values .exit) (versions .exit) (statuses .exit) (holidays .exit) (readings .exit) («read_versions» .exit) (agreed .exit) («agreed_versions» .exit)
-        (openAfter head cells))
+        (let book =
+        lentBook (values .entry) (versions .entry) (statuses .entry) (holidays .entry) (readings .entry) («read_versions» .entry) (agreed .entry) («agreed_versions» .entry) (counts .entry) in
+        (openedMeant r ≡ openAnswer head book)
+        × HoldBook (values .exit) (versions .exit) (statuses .exit) (holidays .exit) (readings .exit) («read_versions» .exit) (agreed .exit) («agreed_versions» .exit) (counts .exit)
+        (openAfter head book))
         ⌝ }
 {
     if !opening::head_ok(head) {
         return Opened::Refused(1);
     }
-    let fit = lengths::cells_fit(
+    let fit = lengths::book_fits(
         head,
         values.len(),
         versions.len(),
@@ -63,6 +65,7 @@ pub fn open(
         read_versions.len(),
         agreed.len(),
         agreed_versions.len(),
+        counts.len(),
     );
     if !fit {
         return Opened::Refused(2);
@@ -75,6 +78,7 @@ pub fn open(
     zeros::clear_words(read_versions);
     zeros::clear_words(agreed);
     zeros::clear_words(agreed_versions);
+    zeros::clear_counts(counts);
     Opened::Done
 }
 
@@ -83,20 +87,29 @@ pub fn deliver(
     values: &mut [u32],
     versions: &mut [u32],
     statuses: &mut [u8],
+    counts: &mut [u16],
     slot: u32,
     version: u32,
     value: u32,
     status: u8,
 ) -> Filed
     ensures { λ r. ⌜
-        (let slots = lentSlots (values .entry) (versions .entry) (statuses .entry) in (filedMeant r ≡ deliverAnswer head slots slot version value status)
-        × HoldSlots (values .exit) (versions .exit) (statuses .exit) (deliverAfter head slots slot version value status))
+        (let slots = lentSlots (values .entry) (versions .entry) (statuses .entry) in
+        (filedMeant r ≡ deliverAnswer head slots (now (counts .entry)) slot version value status)
+        × HoldSlots (values .exit) (versions .exit) (statuses .exit) (deliverAfter head slots (now (counts .entry)) slot version value status)
+        × (now (counts .exit) ≡ countsAfter head slots (now (counts .entry)) slot version value status))
         ⌝ }
 {
     if !opening::head_ok(head) {
         return Filed::Refused(1);
     }
-    if !lengths::slots_fit(head, values.len(), versions.len(), statuses.len()) {
+    if !lengths::delivery_fits(
+        head,
+        values.len(),
+        versions.len(),
+        statuses.len(),
+        counts.len(),
+    ) {
         return Filed::Refused(2);
     }
     let at = slot as usize;
@@ -109,14 +122,17 @@ pub fn deliver(
     if 7 < status {
         return Filed::Refused(5);
     }
-    let old_status = statuses[at];
-    let found = filing::against_slot(versions[at], values[at], old_status, version, value, status);
-    if filing::is_stored(found) {
-        values[at] = value;
-        versions[at] = version;
-        statuses[at] = status;
-    }
-    found
+    deliveries::file_delivery(
+        head,
+        values,
+        versions,
+        statuses,
+        counts,
+        at,
+        version,
+        value,
+        status,
+    )
 }
 
 pub fn holiday(head: Head, holidays: &mut [u8], day: u32) -> Filed

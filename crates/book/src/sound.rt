@@ -1,13 +1,17 @@
-// All cells of a book looked at for one that no calls could leave (01, Numbers of a refusal, 11; 02, W1).
+// All cells of a book looked at for one that no calls could leave, and its counts (01, Numbers of a refusal, 11; 02, W1 and W6).
 use crate::cells;
 use rules::Head;
-ghost use mathlib.Core.Bool.{true};
+use rules::opening;
+ghost use mathlib.Core.Bool.{true, cond};
 ghost use mathlib.Core.Path.{_≡_};
-ghost use lib.ListN.{length};
-ghost use Rattle.rules.specs.Lists.{any};
+ghost use Prim.Native.Nat.{_+_, _≤_};
+ghost use lib.Dec.{ltb};
+ghost use lib.ListN.{length, getD};
+ghost use Rattle.rules.specs.Lists.{sum, any};
+ghost use Rattle.rules.specs.Opening.{headOk, slotCount};
 ghost use Rattle.rules.specs.Inner.Lent.{lentSlots, lentCells};
-ghost use Rattle.book.specs.Cells.{slotFaultAt, dayFaultAt, readFaultAt, cellsFit, cellsOk};
-ghost use Rattle.book.specs.Inner.Lent.{lentReads};
+ghost use Rattle.book.specs.Cells.{slotFaultAt, dayFaultAt, readFaultAt, countFaultAt, cellsFit, cellsOk, bookFits, bookOk};
+ghost use Rattle.book.specs.Inner.Lent.{lentReads, lentBook};
 
 fn bad_slot(values: &[u32], versions: &[u32], statuses: &[u8]) -> bool
     requires { ⌜ (length (now versions) ≡ length (now values)) × (length (now statuses) ≡ length (now values)) ⌝ }
@@ -51,7 +55,7 @@ fn bad_number(numbers: &[u32], versions: &[u32]) -> bool
     false
 }
 
-pub fn cells_ok(
+fn cells_ok(
     head: Head,
     values: &[u32],
     versions: &[u32],
@@ -78,4 +82,71 @@ pub fn cells_ok(
         return false;
     }
     !bad_number(agreed, agreed_versions)
+}
+
+// How many of the `count` slots from slot `first` are delivered.
+fn delivered(versions: &[u32], first: usize, count: usize) -> usize
+    requires { ⌜ first + count ≤ length (now versions) ⌝ }
+    ensures { λ r. ⌜ r ≡ sum (λ i. cond (ltb 0 (getD (now (versions .entry)) i 0)) 1 0) first count ⌝ }
+{
+    let mut found = 0;
+    let mut k = 0;
+    while k < count {
+        if 0 < versions[first + k] {
+            found += 1;
+        }
+        k += 1;
+    }
+    found
+}
+
+// A day's count differs from the number of its delivered slots.
+fn bad_count(head: Head, versions: &[u32], counts: &[u16]) -> bool
+    requires { ⌜ (headOk head ≡ true) × (length (now versions) ≡ slotCount head) × (length (now counts) ≡ head .days) ⌝ }
+    ensures { λ r. ⌜ r ≡ any (countFaultAt head (now (versions .entry)) (now (counts .entry))) 0 (length (now (counts .entry))) ⌝ }
+{
+    let mut day = 0;
+    while day < counts.len() {
+        let n = opening::slots_per_day(head);
+        let count = counts[day] as usize;
+        if count != delivered(versions, day * n, n) {
+            return true;
+        }
+        day += 1;
+    }
+    false
+}
+
+pub fn book_ok(
+    head: Head,
+    values: &[u32],
+    versions: &[u32],
+    statuses: &[u8],
+    holidays: &[u8],
+    readings: &[u32],
+    reads: &[u32],
+    agreed: &[u32],
+    agreed_versions: &[u32],
+    counts: &[u16],
+) -> bool
+    requires { ⌜ (headOk head ≡ true) × (bookFits head (lentBook values versions statuses holidays readings reads agreed «agreed_versions» counts) ≡ true) ⌝ }
+    ensures { λ r. ⌜
+        r ≡ bookOk head
+        (lentBook (values .entry) (versions .entry) (statuses .entry) (holidays .entry) (readings .entry) (reads .entry) (agreed .entry) («agreed_versions» .entry) (counts .entry))
+        ⌝ }
+{
+    if !cells_ok(
+        head,
+        values,
+        versions,
+        statuses,
+        holidays,
+        readings,
+        reads,
+        agreed,
+        agreed_versions,
+    ) {
+        return false;
+    }
+    !bad_count(head, versions, counts)
 }

@@ -21,3 +21,13 @@ pub fn clear_bytes(bytes: &mut [u8])
         i += 1;
     }
 }
+
+pub fn clear_counts(counts: &mut [u16])
+    ensures { λ r. ⌜ now (counts .exit) ≡ replicate (length (now (counts .entry))) 0 ⌝ }
+{
+    let mut i = 0;
+    while i < counts.len() {
+        counts[i] = 0;
+        i += 1;
+    }
+}

@@ -1,10 +1,13 @@
--- The two register lists as a record of their contents, and lent lists that hold given cells.
+-- Lent lists as records of their contents, and lent lists that hold given cells.
 use mathlib.Core.List.{List}
 use mathlib.Core.Path.{_≡_}
-use Prim.Native.Nat.{ℕ}
+use Prim.Native.Nat.{ℕ, _<_}
 use denote.Ref.{RefT, now}
-use Rattle.rules.specs.Opening.{Slots, Agreed, Cells}
-use Rattle.book.specs.Cells.{Reads}
+use lib.ListN.{length}
+use Rattle.rules.specs.declared.Head.{Head}
+use Rattle.rules.specs.Opening.{slotCount, Slots, Agreed}
+use Rattle.rules.specs.Inner.Lent.{Fitted, lentCells}
+use Rattle.book.specs.Cells.{Reads, Book}
 
 abbrev pub lentReads : RefT (List ℕ) → RefT (List ℕ) → Reads
 lentReads readings readVersions = record { readings = now readings; readVersions = now readVersions }
@@ -17,8 +20,19 @@ HoldSlots values versions statuses s =
 abbrev pub HoldAgreed : RefT (List ℕ) → RefT (List ℕ) → Agreed → Type 0
 HoldAgreed agreed agreedVersions a = (now agreed ≡ a .values) × (now agreedVersions ≡ a .versions)
 
-abbrev pub HoldCells : RefT (List ℕ) → RefT (List ℕ) → RefT (List ℕ) → RefT (List ℕ) → RefT (List ℕ) → RefT (List ℕ) → RefT (List ℕ) → RefT (List ℕ) → Cells → Type 0
-HoldCells values versions statuses holidays readings readVersions agreed agreedVersions b =
-    (now values ≡ b .slots .values) × (now versions ≡ b .slots .versions) × (now statuses ≡ b .slots .statuses)
-    × (now holidays ≡ b .holidays) × (now readings ≡ b .readings) × (now readVersions ≡ b .readVersions)
-    × (now agreed ≡ b .agreed .values) × (now agreedVersions ≡ b .agreed .versions)
+abbrev pub lentBook : RefT (List ℕ) → RefT (List ℕ) → RefT (List ℕ) → RefT (List ℕ) → RefT (List ℕ) → RefT (List ℕ) → RefT (List ℕ) → RefT (List ℕ) → RefT (List ℕ) → Book
+lentBook values versions statuses holidays readings readVersions agreed agreedVersions counts =
+    record { cells = lentCells values versions statuses holidays readings readVersions agreed agreedVersions; counts = now counts }
+
+abbrev pub HoldBook : RefT (List ℕ) → RefT (List ℕ) → RefT (List ℕ) → RefT (List ℕ) → RefT (List ℕ) → RefT (List ℕ) → RefT (List ℕ) → RefT (List ℕ) → RefT (List ℕ) → Book → Type 0
+HoldBook values versions statuses holidays readings readVersions agreed agreedVersions counts b =
+    (now values ≡ b .cells .slots .values) × (now versions ≡ b .cells .slots .versions) × (now statuses ≡ b .cells .slots .statuses)
+    × (now holidays ≡ b .cells .holidays) × (now readings ≡ b .cells .readings) × (now readVersions ≡ b .cells .readVersions)
+    × (now agreed ≡ b .cells .agreed .values) × (now agreedVersions ≡ b .cells .agreed .versions)
+    × (now counts ≡ b .counts)
+
+-- a slot of lists that fit
+pub record Deliverable (h : Head) (s : Slots) (counted : List ℕ) (slot : ℕ) : Type 0 where
+  pub fitted : Fitted h s
+  pub counts : length counted ≡ h .days
+  pub inside : slot < slotCount h

@@ -37,35 +37,38 @@ same-length-2 c = search needs
 same-length-3 : tie.Need-same-length-3
 same-length-3 c = search needs
 
-returns : tie.Need-returns
-returns c = let e = c .before .before .before .before .before .before .deliver .ensures in
-    delivered _ _ _ _ _ _ _ _ _ _ _ (c .before .before .before .before .before .before .before .before .before .before .before .call .given .1) (e .0) (e .1 .0) (e .1 .1) (e .1 .2)
-
 same-length-4 : tie.Need-same-length-4
 same-length-4 c = search needs
 
-returns-2 : tie.Need-returns-2
-returns-2 c = let e = c .before .before .holiday .ensures in named _ _ _ _ _ _ (c .before .before .before .before .before .call2 .given .1) (e .0) (e .1)
+returns : tie.Need-returns
+returns c = let e = c .before .before .before .before .before .before .before .before .deliver .ensures in
+    delivered _ _ _ _ _ _ _ _ _ _ _ _ _ (c .before .before .before .before .before .before .before .before .before .before .before .before .before .before .call .given .1) (e .0) (e .1 .0) (e .1 .1) (e .1 .2) (e .2)
 
 same-length-5 : tie.Need-same-length-5
 same-length-5 c = search needs
 
+returns-2 : tie.Need-returns-2
+returns-2 c = let e = c .before .before .holiday .ensures in named _ _ _ _ _ _ _ (c .before .before .before .before .before .call2 .given .1) (e .0) (e .1)
+
 same-length-6 : tie.Need-same-length-6
 same-length-6 c = search needs
-
-returns-3 : tie.Need-returns-3
-returns-3 c = let e = c .before .before .before .before .register .ensures in
-    registered _ _ _ _ _ _ _ _ _ (c .before .before .before .before .before .before .before .before .call3 .given .1) (e .0) (e .1) (e .2)
 
 same-length-7 : tie.Need-same-length-7
 same-length-7 c = search needs
 
+returns-3 : tie.Need-returns-3
+returns-3 c = let e = c .before .before .before .before .register .ensures in
+    registered _ _ _ _ _ _ _ _ _ _ (c .before .before .before .before .before .before .before .before .call3 .given .1) (e .0) (e .1) (e .2)
+
 same-length-8 : tie.Need-same-length-8
 same-length-8 c = search needs
 
+same-length-9 : tie.Need-same-length-9
+same-length-9 c = search needs
+
 returns-4 : tie.Need-returns-4
 returns-4 c = let e = c .before .before .before .before .agree .ensures in
-    settled _ _ _ _ _ _ _ _ _ (c .before .before .before .before .before .before .before .before .call4 .given .1) (e .0) (e .1 .0) (e .1 .1)
+    settled _ _ _ _ _ _ _ _ _ _ (c .before .before .before .before .before .before .before .before .call4 .given .1) (e .0) (e .1 .0) (e .1 .1)
 
 pub fill-spec : {M : Type 1} → statement M
 fill-spec =
@@ -82,12 +85,13 @@ fill-spec =
     same-length
     same-length-2
     same-length-3
-    returns
     same-length-4
-    returns-2
+    returns
     same-length-5
+    returns-2
     same-length-6
-    returns-3
     same-length-7
+    returns-3
     same-length-8
+    same-length-9
     returns-4)

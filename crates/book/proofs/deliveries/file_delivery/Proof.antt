@@ -1,0 +1,158 @@
+-- `deliveries::file_delivery`: a full day is refused; else the answer is that of `against_slot`, and a stored delivery writes its cells and its day's count.
+use mathlib.Core.Bool.{true, false}
+use mathlib.Core.Path.{_≡_, refl, sym, _∙_}
+use Prim.Native.Nat.{_/_, _<_}
+use native.Mathlib.Omega.{arith}
+use lib.ListN.{length, getD}
+use Rattle.rules.specs.Opening.{slotsPerDay}
+use Rattle.rules.proofs.Bounds.{bounded, day-below}
+use Rattle.book.specs.Filling.{isFull, againstDelivery}
+use borrow.Author.Needs.{needs}
+use Rattle.book.proofs.deliveries.file_delivery.Statement.{statement}
+use Rattle.book.proofs.deliveries.file_delivery.Tie as tie
+use Rattle.book.proofs.deliveries.file_delivery.Reads as reads
+use Rattle.book.proofs.deliveries.file_delivery.Lts as lts
+use Rattle.book.proofs.deliveries.is_full.Reads as is-full-reads
+use Rattle.book.proofs.deliveries.raised.Reads as raised-reads
+use Rattle.book.proofs.filing.against_slot.Reads as against-slot-reads
+use Rattle.book.proofs.filing.is_stored.Reads as is-stored-reads
+use Rattle.book.proofs.deliveries.day_of.Reads as day-of-reads
+
+abbrev claims : lts.Claims
+claims = (
+  day-of-reads.Asked,
+  day-of-reads.Learnt,
+  is-full-reads.Asked,
+  is-full-reads.Learnt,
+  against-slot-reads.Asked,
+  against-slot-reads.Learnt,
+  is-stored-reads.Asked,
+  is-stored-reads.Learnt,
+  raised-reads.Asked,
+  raised-reads.Learnt,
+)
+
+-- the slot's day has a count
+day-inside : (c : lts.After-day-of claims reads.Pre reads.Post)
+    → c .day-of .result < length (c .before .before .before .before .before .args .counts .now)
+day-inside c =
+    let s = c .before .before .before .before .before in
+    omega (arith, c .day-of .ensures, s .pre .counts, day-below (s .args .head) (bounded _ (s .pre .fitted .head)) (s .args .slot) (s .pre .inside))
+
+day-of-requires : tie.Need-day-of-requires
+day-of-requires c κs = search needs
+
+mul-old-version : tie.Need-mul-old-version
+mul-old-version c = search needs
+
+slice-read-old-version : tie.Need-slice-read-old-version
+slice-read-old-version c = search needs
+
+mul-count : tie.Need-mul-count
+mul-count c = let i = day-inside (c .before) in search needs
+
+slice-read-count : tie.Need-slice-read-count
+slice-read-count c = day-inside (c .before .before)
+
+is-full-requires : tie.Need-is-full-requires
+is-full-requires c κs = search needs
+
+returns : tie.Need-returns
+unfolding againstDelivery
+returns c = let full : isFull (c .before .before .before .before .before .before .before .before .before .args .head) (getD (c .before .before .before .before .before .before .before .before .before .args .versions .now) (c .before .before .before .before .before .before .before .before .before .args .slot) 0) (getD (c .before .before .before .before .before .before .before .before .before .args .counts .now) (c .before .before .before .before .before .before .before .before .before .args .slot / slotsPerDay (c .before .before .before .before .before .before .before .before .before .args .head)) 0) ≡ true =
+    rw (c .before .before .before .before .day-of .ensures) at (sym (c .before .is-full .ensures) ∙ c .if1 .taken) in
+    rw full (refl, (refl, refl, refl), refl)
+
+slice-read-old-status : tie.Need-slice-read-old-status
+slice-read-old-status c = search needs
+
+mul-against-slot : tie.Need-mul-against-slot
+mul-against-slot c = search needs
+
+slice-read-against-slot : tie.Need-slice-read-against-slot
+slice-read-against-slot c = search needs
+
+against-slot-requires : tie.Need-against-slot-requires
+against-slot-requires c κs = search needs
+
+is-stored-requires : tie.Need-is-stored-requires
+is-stored-requires c κs = search needs
+
+mul-values : tie.Need-mul-values
+mul-values c = search needs
+
+slice-write-values : tie.Need-slice-write-values
+slice-write-values c = search needs
+
+mul-versions : tie.Need-mul-versions
+mul-versions c = search needs
+
+slice-write-versions : tie.Need-slice-write-versions
+slice-write-versions c = search needs
+
+slice-write-statuses : tie.Need-slice-write-statuses
+slice-write-statuses c = search needs
+
+raised-requires : tie.Need-raised-requires
+raised-requires c κs = (c .before .before .before .before .before .before .before .before .before .before .before .before .before .before .pre .fitted .head, sym (c .before .before .before .before .before .before .is-full .ensures) ∙ c .before .before .before .before .before .if1 .left)
+
+mul-counts : tie.Need-mul-counts
+mul-counts c = let i = day-inside (c .before .before .before .before .before .before .before .before .before .before) in search needs
+
+slice-write-counts : tie.Need-slice-write-counts
+slice-write-counts c = day-inside (c .before .before .before .before .before .before .before .before .before .before)
+
+same-length : tie.Need-same-length
+same-length c = search needs
+
+same-length-2 : tie.Need-same-length-2
+same-length-2 c = search needs
+
+same-length-3 : tie.Need-same-length-3
+same-length-3 c = search needs
+
+same-length-4 : tie.Need-same-length-4
+same-length-4 c = search needs
+
+returns-2 : tie.Need-returns-2
+unfolding againstDelivery
+returns-2 c = let full : isFull (c .before .before .before .before .before .before .before .before .before .before .before .before .before .before .before .args .head) (getD (c .before .before .before .before .before .before .before .before .before .before .before .before .before .before .before .args .versions .now) (c .before .before .before .before .before .before .before .before .before .before .before .before .before .before .before .args .slot) 0) (getD (c .before .before .before .before .before .before .before .before .before .before .before .before .before .before .before .args .counts .now) (c .before .before .before .before .before .before .before .before .before .before .before .before .before .before .before .args .slot / slotsPerDay (c .before .before .before .before .before .before .before .before .before .before .before .before .before .before .before .args .head)) 0) ≡ false =
+    rw (c .before .before .before .before .before .before .before .before .before .before .day-of .ensures) at (sym (c .before .before .before .before .before .before .before .is-full .ensures) ∙ c .before .before .before .before .before .before .if1 .left) in
+    rw (full, sym (c .before .before .before .against-slot .ensures), sym (c .before .before .is-stored .ensures) ∙ c .before .if2 .taken, c .raised .ensures, c .before .before .before .before .before .before .before .before .before .before .day-of .ensures) (refl, (refl, refl, refl), refl)
+
+returns-3 : tie.Need-returns-3
+unfolding againstDelivery
+returns-3 c = let full : isFull (c .before .before .before .before .before .before .before .before .before .before .before .before .before .before .args .head) (getD (c .before .before .before .before .before .before .before .before .before .before .before .before .before .before .args .versions .now) (c .before .before .before .before .before .before .before .before .before .before .before .before .before .before .args .slot) 0) (getD (c .before .before .before .before .before .before .before .before .before .before .before .before .before .before .args .counts .now) (c .before .before .before .before .before .before .before .before .before .before .before .before .before .before .args .slot / slotsPerDay (c .before .before .before .before .before .before .before .before .before .before .before .before .before .before .args .head)) 0) ≡ false =
+    rw (c .before .before .before .before .before .before .before .before .before .day-of .ensures) at (sym (c .before .before .before .before .before .before .is-full .ensures) ∙ c .before .before .before .before .before .if1 .left) in
+    rw (full, sym (c .before .before .against-slot .ensures), sym (c .before .is-stored .ensures) ∙ c .if2 .left) (refl, (refl, refl, refl), refl)
+
+pub file-delivery-spec : {M : Type 1} → statement M
+file-delivery-spec =
+    tie.close
+    (tie.spec
+    day-of-requires
+    mul-old-version
+    slice-read-old-version
+    mul-count
+    slice-read-count
+    is-full-requires
+    returns
+    slice-read-old-status
+    mul-against-slot
+    slice-read-against-slot
+    against-slot-requires
+    is-stored-requires
+    mul-values
+    slice-write-values
+    mul-versions
+    slice-write-versions
+    slice-write-statuses
+    raised-requires
+    mul-counts
+    slice-write-counts
+    same-length
+    same-length-2
+    same-length-3
+    same-length-4
+    returns-2
+    returns-3)
