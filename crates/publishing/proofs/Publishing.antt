@@ -20,12 +20,13 @@ use Rattle.rules.proofs.Counts.{span-count}
 use Rattle.rules.proofs.Logic.{passed, either}
 use Rattle.rules.proofs.Neighbours.{spans-few}
 use Rattle.rules.proofs.Sums.{any-some}
-use Rattle.book.specs.Cells.{slotFaultAt, dayFaultAt, readFault, readFaultAt, agreedFaultAt, readsOf, cellsFit, cellsOk}
+use Rattle.book.specs.Cells.{slotFaultAt, dayFaultAt, readFault, readFaultAt, agreedFaultAt, readsOf, cellsOk, Book, bookFits, bookOk}
 use Rattle.book.proofs.Fits.{lengths-of}
 use Rattle.publishing.specs.Publishing.{published, fileLength, publishAnswer, publishAfter}
+use Rattle.publishing.specs.declared.Published.{Published}
 use Rattle.publishing.specs.declared.Published.the-variants.{Length, Refused}
 use Rattle.file.specs.Layout.{fileOf}
-use Rattle.publishing.specs.Inner.Publishing.{Sound, Left}
+use Rattle.publishing.specs.Inner.Publishing.{Sound, Put, Left}
 use Rattle.rules.proofs.Lists.{length-upTo}
 
 module _ (version number : ℕ) where
@@ -89,25 +90,27 @@ module _ (h : Head) (b : Cells) (s : Sound h b) where
     length-found n f = omega (arith, spans-found, length-upTo (outcomeAt h b) 0 (slotCount h))
 
 -- each case of the answer, and of the buffer
-module _ (h : Head) (b : Cells) (d : List ℕ) where
+module _ (h : Head) (b : Book) (d : List ℕ) where
   pub refused-1 : headOk h ≡ false → Left h b d (Refused 1) d
   unfolding publishAfter publishAnswer
   refused-1 p = rw p (refl, refl)
 
   module _ (good : headOk h ≡ true) where
-    pub refused-2 : cellsFit h b ≡ false → Left h b d (Refused 2) d
+    pub refused-2 : bookFits h b ≡ false → Left h b d (Refused 2) d
     unfolding publishAfter publishAnswer
     refused-2 p = rw (good, p) (refl, refl)
 
-    pub refused-11 : cellsFit h b ≡ true → cellsOk h b ≡ false → Left h b d (Refused 11) d
+    pub refused-11 : bookFits h b ≡ true → bookOk h b ≡ false → Left h b d (Refused 11) d
     unfolding publishAfter publishAnswer
     refused-11 fit p = rw (good, fit, p) (refl, refl)
 
-  module _ (s : Sound h b) (n : ℕ) (found : n ≡ fileLength h b) where
-    pub refused-7 : length d < n → Left h b d (Refused 7) d
+    pub put-left : bookFits h b ≡ true → bookOk h b ≡ true → (p : Published) (e : List ℕ) → Put h (b .cells) d p e → Left h b d p e
     unfolding publishAfter publishAnswer
-    refused-7 p = rw (s .head, s .fit, s .cells, lt-ltb (length d) (fileLength h b) (rw found at p)) (refl, refl)
+    put-left fit ok p e put = rw (good, fit, ok) put
 
-    pub long-enough : n ≤ length d → (e : List ℕ) → e ≡ fileOf (published h b) ++ drop (fileLength h b) d → Left h b d (Length n) e
-    unfolding publishAfter publishAnswer
-    long-enough p e q = rw (s .head, s .fit, s .cells, le-ltb (length d) (fileLength h b) (rw found at p), found) (refl, q)
+module _ (h : Head) (b : Cells) (d : List ℕ) (n : ℕ) (found : n ≡ fileLength h b) where
+  pub refused-7 : length d < n → Put h b d (Refused 7) d
+  refused-7 p = rw (lt-ltb (length d) (fileLength h b) (rw found at p)) (refl, refl)
+
+  pub long-enough : n ≤ length d → (e : List ℕ) → e ≡ fileOf (published h b) ++ drop (fileLength h b) d → Put h b d (Length n) e
+  long-enough p e q = rw (le-ltb (length d) (fileLength h b) (rw found at p), found) (refl, q)

@@ -9,7 +9,7 @@ use Rattle.rules.specs.Opening.{Cells, headOk, firstDay}
 use Rattle.rules.specs.Spans.{outcomes, spans}
 use Rattle.book.specs.Answers.{Rule}
 use Rattle.book.specs.Answers.Rule.{rule}
-use Rattle.book.specs.Cells.{cellsFit, cellsOk}
+use Rattle.book.specs.Cells.{Book, bookFits, bookOk}
 use Rattle.publishing.specs.declared.Published.{Published}
 use Rattle.publishing.specs.declared.Published.the-variants.{Length, Refused}
 use Rattle.file.specs.Layout.{Content, fileOf}
@@ -33,18 +33,18 @@ abbrev pub lengthUnless : List Rule → ℕ → Published
 lengthUnless [] n = Length n
 lengthUnless (rule k broken ∷ rules) n = cond broken (Refused k) (lengthUnless rules n)
 
--- 11, of all cells, goes before 7
-unfoldable pub publishAnswer : Head → Cells → List ℕ → Published
+-- 11, of all cells and counts, goes before 7
+unfoldable pub publishAnswer : Head → Book → List ℕ → Published
 publishAnswer h b out =
     lengthUnless
-    (rule 1 (not (headOk h)) ∷ rule 2 (not (cellsFit h b)) ∷ rule 11 (not (cellsOk h b))
-    ∷ rule 7 (ltb (length out) (fileLength h b)) ∷ [])
-    (fileLength h b)
+    (rule 1 (not (headOk h)) ∷ rule 2 (not (bookFits h b)) ∷ rule 11 (not (bookOk h b))
+    ∷ rule 7 (ltb (length out) (fileLength h (b .cells))) ∷ [])
+    (fileLength h (b .cells))
 
 -- the file stands in the first bytes; bytes after it, and all on a refusal, stay
 abbrev pub bytesAfter : Published → Content → List ℕ → List ℕ
 bytesAfter (Length n) f out = fileOf f ++ drop n out
 bytesAfter (Refused k) f out = out
 
-unfoldable pub publishAfter : Head → Cells → List ℕ → List ℕ
-publishAfter h b out = bytesAfter (publishAnswer h b out) (published h b) out
+unfoldable pub publishAfter : Head → Book → List ℕ → List ℕ
+publishAfter h b out = bytesAfter (publishAnswer h b out) (published h (b .cells)) out

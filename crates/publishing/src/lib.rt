@@ -17,10 +17,11 @@ ghost use lib.ListN.{length, drop};
 ghost use Rattle.rules.specs.Opening.{headOk, slotCount};
 ghost use Rattle.rules.specs.Spans.{spans as spansOf};
 ghost use Rattle.rules.specs.Inner.Lent.{lentCells};
-ghost use Rattle.book.specs.Cells.{cellsFit};
+ghost use Rattle.book.specs.Cells.{bookFits};
+ghost use Rattle.book.specs.Inner.Lent.{lentBook};
 ghost use Rattle.file.specs.Layout.{fileOf};
 ghost use Rattle.publishing.specs.Publishing.{published, fileLength, publishAnswer, publishAfter};
-ghost use Rattle.publishing.specs.Inner.Publishing.{Sound, Roomy, Left};
+ghost use Rattle.publishing.specs.Inner.Publishing.{Sound, Roomy, Put, Left};
 
 // The length of the file, or the refusal's number.
 pub enum Published {
@@ -105,7 +106,7 @@ fn put_sound(
     out: &mut [u8],
 ) -> Published
     requires { ⌜ Sound head (lentCells values versions statuses holidays readings reads agreed «agreed_versions») ⌝ }
-    ensures { λ r. ⌜ Left head (lentCells (values .entry) (versions .entry) (statuses .entry) (holidays .entry) (readings .entry) (reads .entry) (agreed .entry) («agreed_versions» .entry)) (now (out .entry)) r (now (out .exit)) ⌝ }
+    ensures { λ r. ⌜ Put head (lentCells (values .entry) (versions .entry) (statuses .entry) (holidays .entry) (readings .entry) (reads .entry) (agreed .entry) («agreed_versions» .entry)) (now (out .entry)) r (now (out .exit)) ⌝ }
 {
     let spans = readings::span_count(reads);
     let length = length_of(head, spans);
@@ -128,7 +129,7 @@ fn put_sound(
     Published::Length(length)
 }
 
-// The eight lists have the lengths that the head asks.
+// The nine lists have the lengths that the head asks.
 fn lists_fit(
     head: Head,
     values: &[u32],
@@ -139,11 +140,12 @@ fn lists_fit(
     reads: &[u32],
     agreed: &[u32],
     agreed_versions: &[u32],
+    counts: &[u16],
 ) -> bool
     requires { ⌜ headOk head ≡ true ⌝ }
-    ensures { λ r. ⌜ r ≡ cellsFit head (lentCells (values .entry) (versions .entry) (statuses .entry) (holidays .entry) (readings .entry) (reads .entry) (agreed .entry) («agreed_versions» .entry)) ⌝ }
+    ensures { λ r. ⌜ r ≡ bookFits head (lentBook (values .entry) (versions .entry) (statuses .entry) (holidays .entry) (readings .entry) (reads .entry) (agreed .entry) («agreed_versions» .entry) (counts .entry)) ⌝ }
 {
-    lengths::cells_fit(
+    lengths::book_fits(
         head,
         values.len(),
         versions.len(),
@@ -153,6 +155,7 @@ fn lists_fit(
         reads.len(),
         agreed.len(),
         agreed_versions.len(),
+        counts.len(),
     )
 }
 
@@ -167,12 +170,13 @@ fn put_fitted(
     reads: &[u32],
     agreed: &[u32],
     agreed_versions: &[u32],
+    counts: &[u16],
     out: &mut [u8],
 ) -> Published
-    requires { ⌜ (headOk head ≡ true) × (cellsFit head (lentCells values versions statuses holidays readings reads agreed «agreed_versions») ≡ true) ⌝ }
-    ensures { λ r. ⌜ Left head (lentCells (values .entry) (versions .entry) (statuses .entry) (holidays .entry) (readings .entry) (reads .entry) (agreed .entry) («agreed_versions» .entry)) (now (out .entry)) r (now (out .exit)) ⌝ }
+    requires { ⌜ (headOk head ≡ true) × (bookFits head (lentBook values versions statuses holidays readings reads agreed «agreed_versions» counts) ≡ true) ⌝ }
+    ensures { λ r. ⌜ Left head (lentBook (values .entry) (versions .entry) (statuses .entry) (holidays .entry) (readings .entry) (reads .entry) (agreed .entry) («agreed_versions» .entry) (counts .entry)) (now (out .entry)) r (now (out .exit)) ⌝ }
 {
-    if !sound::cells_ok(
+    if !sound::book_ok(
         head,
         values,
         versions,
@@ -182,6 +186,7 @@ fn put_fitted(
         reads,
         agreed,
         agreed_versions,
+        counts,
     ) {
         return Published::Refused(11);
     }
@@ -210,13 +215,14 @@ pub fn publish(
     reads: &[u32],
     agreed: &[u32],
     agreed_versions: &[u32],
+    counts: &[u16],
     out: &mut [u8],
 ) -> Published
     ensures { λ r. ⌜
-        (let cells =
-        lentCells (values .entry) (versions .entry) (statuses .entry) (holidays .entry) (readings .entry) (reads .entry) (agreed .entry) («agreed_versions» .entry) in
-        (r ≡ publishAnswer head cells (now (out .entry)))
-        × (now (out .exit) ≡ publishAfter head cells (now (out .entry))))
+        (let book =
+        lentBook (values .entry) (versions .entry) (statuses .entry) (holidays .entry) (readings .entry) (reads .entry) (agreed .entry) («agreed_versions» .entry) (counts .entry) in
+        (r ≡ publishAnswer head book (now (out .entry)))
+        × (now (out .exit) ≡ publishAfter head book (now (out .entry))))
         ⌝ }
 {
     if !opening::head_ok(head) {
@@ -232,6 +238,7 @@ pub fn publish(
         reads,
         agreed,
         agreed_versions,
+        counts,
     ) {
         return Published::Refused(2);
     }
@@ -245,6 +252,7 @@ pub fn publish(
         reads,
         agreed,
         agreed_versions,
+        counts,
         out,
     )
 }

@@ -1,15 +1,15 @@
 -- `lists_fit` looks at each length.
-use Rattle.book.specs.Cells.{slotsFit, daysFit, readsFit, agreedFits, cellsFit}
+use Rattle.book.specs.Cells.{slotsFit, daysFit, readsFit, agreedFits, cellsFit, countsFit, bookFits}
 use borrow.Author.Needs.{needs}
 use Rattle.publishing.proofs.lists_fit.Statement.{statement}
 use Rattle.publishing.proofs.lists_fit.Tie as tie
 
-cells-fit-requires : tie.Need-cells-fit-requires
-cells-fit-requires c κs = search needs
+book-fits-requires : tie.Need-book-fits-requires
+book-fits-requires c κs = search needs
 
 returns : tie.Need-returns
-unfolding cellsFit slotsFit daysFit readsFit agreedFits
-returns c = c .cells-fit .ensures
+unfolding cellsFit slotsFit daysFit readsFit agreedFits countsFit bookFits
+returns c = c .book-fits .ensures
 
 pub lists-fit-spec : {M : Type 1} → statement M
-lists-fit-spec = tie.close (tie.spec cells-fit-requires returns)
+lists-fit-spec = tie.close (tie.spec book-fits-requires returns)

@@ -3,10 +3,10 @@ use borrow.Author.Needs.{needs}
 use mathlib.Core.Bool.{true}
 use mathlib.Core.Path.{_≡_, sym, _∙_}
 use borrow.Author.Tests.{not-true, not-false}
-use Rattle.rules.specs.Opening.{Cells, headOk}
-use Rattle.rules.specs.Inner.Lent.{lentCells}
+use Rattle.rules.specs.Opening.{headOk}
 use Rattle.rules.proofs.opening.head_ok.Reads as head-ok-reads
-use Rattle.book.specs.Cells.{cellsFit}
+use Rattle.book.specs.Cells.{Book, bookFits}
+use Rattle.book.specs.Inner.Lent.{lentBook}
 use Rattle.publishing.proofs.Publishing.{refused-1, refused-2}
 use Rattle.publishing.proofs.lists_fit.Reads as lists-fit-reads
 use Rattle.publishing.proofs.put_fitted.Reads as put-fitted-reads
@@ -28,8 +28,8 @@ claims = (
 abbrev Start : Type 0
 Start = lts.Start claims reads.Pre reads.Post
 
-abbrev lent : Start → Cells
-lent c = lentCells (c .args .values) (c .args .versions) (c .args .statuses) (c .args .holidays) (c .args .readings) (c .args .reads) (c .args .agreed) (c .args .agreed-versions)
+abbrev lent : Start → Book
+lent c = lentBook (c .args .values) (c .args .versions) (c .args .statuses) (c .args .holidays) (c .args .readings) (c .args .reads) (c .args .agreed) (c .args .agreed-versions) (c .args .counts)
 
 -- ---- The tests that were passed
 
@@ -40,7 +40,7 @@ abbrev Past2 : Type 0
 Past2 = lts.Else2 claims reads.Pre reads.Post
 
 abbrev from1 : Past1 → Start
-from1 c = c .before .before .before .before .before .before .before .before .before .before .before
+from1 c = c .before .before .before .before .before .before .before .before .before .before .before .before
 
 abbrev from2 : Past2 → Start
 from2 c = from1 (c .before .before)
@@ -48,7 +48,7 @@ from2 c = from1 (c .before .before)
 head-passed : (c : Past1) → headOk (from1 c .args .head) ≡ true
 head-passed c = sym (c .before .head-ok .ensures) ∙ not-false _ (c .if1 .left)
 
-lists-passed : (c : Past2) → cellsFit (from2 c .args .head) (lent (from2 c)) ≡ true
+lists-passed : (c : Past2) → bookFits (from2 c .args .head) (lent (from2 c)) ≡ true
 lists-passed c = sym (c .before .lists-fit .ensures) ∙ not-false _ (c .if2 .left)
 
 -- ---- The needs
@@ -58,7 +58,7 @@ head-ok-requires c κs = search needs
 
 returns : tie.Need-returns
 returns c =
-    let start = c .before .before .before .before .before .before .before .before .before .before .before in
+    let start = c .before .before .before .before .before .before .before .before .before .before .before .before in
     refused-1 (start .args .head) (lent start) (start .args .out .now) (sym (c .before .head-ok .ensures) ∙ not-true _ (c .if1 .taken))
 
 lists-fit-requires : tie.Need-lists-fit-requires

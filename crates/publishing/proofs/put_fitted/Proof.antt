@@ -1,38 +1,51 @@
--- `put_fitted` refuses cells that no calls could leave.
+-- `put_fitted` refuses cells and counts that no calls could leave.
 use borrow.Author.Needs.{needs}
 use mathlib.Core.Path.{sym, _∙_}
 use borrow.Author.Tests.{not-true, not-false}
-use Rattle.rules.specs.Inner.Lent.{slots, agreedLists, cells}
-use Rattle.publishing.proofs.Publishing.{refused-11}
+use Rattle.rules.proofs.Logic.{and-parts}
+use Rattle.book.specs.Cells.{bookOk}
+use Rattle.book.specs.Inner.Lent.{lentBook}
+use Rattle.book.proofs.Fits.{fits-of}
+use Rattle.publishing.proofs.Publishing.{refused-11, put-left}
 use Rattle.publishing.proofs.put_fitted.Statement.{statement}
 use Rattle.publishing.proofs.put_fitted.Tie as tie
 
-cells-ok-requires : tie.Need-cells-ok-requires
-cells-ok-requires c κs = c .before .before .before .before .before .before .before .before .before .pre .1
+book-ok-requires : tie.Need-book-ok-requires
+book-ok-requires c κs = c .before .before .before .before .before .before .before .before .before .before .pre
 
 returns : tie.Need-returns
-returns c = let a = c .before .before .before .before .before .before .before .before .before .before .before .args in
-    let b = cells (slots (a .values .now) (a .versions .now) (a .statuses .now)) (a .holidays .now) (a .readings .now) (a .reads .now) (agreedLists (a .agreed .now) (a .agreed-versions .now)) in
-    refused-11 (a .head) b (a .out .now) (c .before .before .before .before .before .before .before .before .before .before .before .pre .0) (c .before .before .before .before .before .before .before .before .before .before .before .pre .1) (sym (c .before .cells-ok .ensures) ∙ not-true _ (c .if1 .taken))
+returns c = let start = c .before .before .before .before .before .before .before .before .before .before .before .before in
+    let a = start .args in
+    let b = lentBook (a .values) (a .versions) (a .statuses) (a .holidays) (a .readings) (a .reads) (a .agreed) (a .agreed-versions) (a .counts) in
+    refused-11 (a .head) b (a .out .now) (start .pre .0) (start .pre .1) (sym (c .before .book-ok .ensures) ∙ not-true _ (c .if1 .taken))
 
 put-sound-requires : tie.Need-put-sound-requires
-put-sound-requires c κs = record {
-  head = c .before .before .before .before .before .before .before .before .before .before .before .before .pre .0;
-  fit = c .before .before .before .before .before .before .before .before .before .before .before .before .pre .1;
-  cells = sym (c .before .before .cells-ok .ensures) ∙ not-false _ (c .before .if1 .left);
-}
+unfolding bookOk
+put-sound-requires c κs = let start = c .before .before .before .before .before .before .before .before .before .before .before .before .before in
+    let a = start .args in
+    let b = lentBook (a .values) (a .versions) (a .statuses) (a .holidays) (a .readings) (a .reads) (a .agreed) (a .agreed-versions) (a .counts) in
+    record {
+      head = start .pre .0;
+      fit = fits-of (a .head) b (start .pre .1) .0;
+      cells = and-parts _ _ (sym (c .before .before .book-ok .ensures) ∙ not-false _ (c .before .if1 .left)) .0;
+    }
 
 same-length : tie.Need-same-length
 same-length c = search needs
 
 returns-2 : tie.Need-returns-2
-returns-2 c = c .before .before .put-sound .ensures
+returns-2 c = let at-else = c .before .before .before .before in
+    let start = at-else .before .before .before .before .before .before .before .before .before .before .before .before in
+    let a = start .args in
+    let b = lentBook (a .values) (a .versions) (a .statuses) (a .holidays) (a .readings) (a .reads) (a .agreed) (a .agreed-versions) (a .counts) in
+    put-left (a .head) b (a .out .now) (start .pre .0) (start .pre .1) (sym (at-else .before .book-ok .ensures) ∙ not-false _ (at-else .if1 .left))
+    _ _ (c .before .before .put-sound .ensures)
 
 pub put-fitted-spec : {M : Type 1} → statement M
 put-fitted-spec =
     tie.close
     (tie.spec
-    cells-ok-requires
+    book-ok-requires
     returns
     put-sound-requires
     same-length

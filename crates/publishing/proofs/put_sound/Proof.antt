@@ -21,7 +21,7 @@ length-of-requires c κs = let a = c .before .before .before .before .before .be
 returns : tie.Need-returns
 returns c = let a = c .before .before .before .before .before .before .before .before .before .before .before .before .args in
     let b = cells (slots (a .values .now) (a .versions .now) (a .statuses .now)) (a .holidays .now) (a .readings .now) (a .reads .now) (agreedLists (a .agreed .now) (a .agreed-versions .now)) in
-    refused-7 (a .head) b (a .out .now) (c .before .before .before .before .before .before .before .before .before .before .before .before .pre) _ (length-found (a .head) b (c .before .before .before .before .before .before .before .before .before .before .before .before .pre) _ (c .before .before .span-count .ensures) _ (c .before .length-of .ensures)) (c .if1 .taken)
+    refused-7 (a .head) b (a .out .now) _ (length-found (a .head) b (c .before .before .before .before .before .before .before .before .before .before .before .before .pre) _ (c .before .before .span-count .ensures) _ (c .before .length-of .ensures)) (c .if1 .taken)
 
 put-file-requires : tie.Need-put-file-requires
 put-file-requires c κs = let a = c .before .before .before .before .before .before .before .before .before .before .before .before .before .args in
@@ -36,7 +36,7 @@ same-length c = search needs
 returns-2 : tie.Need-returns-2
 returns-2 c = let a = c .before .before .before .before .before .before .before .before .before .before .before .before .before .before .before .before .args in
     let b = cells (slots (a .values .now) (a .versions .now) (a .statuses .now)) (a .holidays .now) (a .readings .now) (a .reads .now) (agreedLists (a .agreed .now) (a .agreed-versions .now)) in
-    long-enough (a .head) b (a .out .now) (c .before .before .before .before .before .before .before .before .before .before .before .before .before .before .before .before .pre) _ (length-found (a .head) b (c .before .before .before .before .before .before .before .before .before .before .before .before .before .before .before .before .pre) _ (c .before .before .before .before .before .before .span-count .ensures) _ (c .before .before .before .before .before .length-of .ensures)) (c .before .before .before .before .if1 .left) _ (c .before .before .put-file .ensures)
+    long-enough (a .head) b (a .out .now) _ (length-found (a .head) b (c .before .before .before .before .before .before .before .before .before .before .before .before .before .before .before .before .pre) _ (c .before .before .before .before .before .before .span-count .ensures) _ (c .before .before .before .before .before .length-of .ensures)) (c .before .before .before .before .if1 .left) _ (c .before .before .put-file .ensures)
 
 pub put-sound-spec : {M : Type 1} → statement M
 put-sound-spec =

@@ -1,8 +1,9 @@
 -- What the functions that publish know between two slots.
 use mathlib.Core.Bool.{true}
 use mathlib.Core.Path.{_≡_}
-use mathlib.Core.List.{List}
+use mathlib.Core.List.{List, [], _∷_}
 use Prim.Native.Nat.{ℕ, _+_, _*_, _≤_, _<_}
+use lib.Dec.{ltb}
 use lib.ListN.{length}
 use Rattle.rules.specs.declared.Head.{Head}
 use Rattle.rules.specs.declared.Outcome.{Outcome}
@@ -11,12 +12,13 @@ use Rattle.rules.specs.Spans.{isA, isS, isF, isN, outcomeAt, upTo, spans}
 use Rattle.rules.specs.Inner.Lent.{Whole}
 use Rattle.rules.specs.Inner.Stretches.{beginsAt}
 use Rattle.rules.specs.Inner.Passes.{passAt, listOf, begunBefore}
-use Rattle.book.specs.Cells.{cellsFit, cellsOk}
+use Rattle.book.specs.Answers.Rule.{rule}
+use Rattle.book.specs.Cells.{Book, cellsFit, cellsOk}
 use Rattle.publishing.specs.declared.Published.{Published}
 use Rattle.publishing.specs.declared.tables.Totals.{Totals}
 use Rattle.publishing.specs.declared.tables.Progress.{Progress}
 use Rattle.file.specs.Layout.{one, total, row, table, slotRow, spanRow}
-use Rattle.publishing.specs.Publishing.{publishAnswer, publishAfter}
+use Rattle.publishing.specs.Publishing.{published, fileLength, lengthUnless, publishAnswer, bytesAfter, publishAfter}
 use Rattle.file.specs.Inner.Writing.{written}
 
 -- the counts of each quality and the sum of a list of outcomes
@@ -64,8 +66,15 @@ pub record Sound (h : Head) (b : Cells) : Type 0 where
   pub fit : cellsFit h b ≡ true
   pub cells : cellsOk h b ≡ true
 
--- what publishing answers, and leaves of a buffer d
-abbrev pub Left : Head → Cells → List ℕ → Published → List ℕ → Type 0
+-- what publishing such cells answers, and leaves of a buffer d
+abbrev pub putAnswer : Head → Cells → List ℕ → Published
+putAnswer h b d = lengthUnless (rule 7 (ltb (length d) (fileLength h b)) ∷ []) (fileLength h b)
+
+abbrev pub Put : Head → Cells → List ℕ → Published → List ℕ → Type 0
+Put h b d p e = (p ≡ putAnswer h b d) × (e ≡ bytesAfter (putAnswer h b d) (published h b) d)
+
+-- the same of publishing any lists
+abbrev pub Left : Head → Book → List ℕ → Published → List ℕ → Type 0
 Left h b d p e = (p ≡ publishAnswer h b d) × (e ≡ publishAfter h b d)
 
 -- such cells, and room for the file
