@@ -7,21 +7,22 @@ use native.Mathlib.Omega.{arith}
 use lib.Dec.{ltb}
 use lib.ListN.{length}
 use Rattle.rules.specs.declared.Head.{Head}
-use Rattle.rules.specs.Opening.{Cells, headOk}
+use Rattle.rules.specs.Opening.{headOk}
 use Rattle.rules.specs.Lists.{every}
 use Rattle.book.specs.Answers.{Answer, Rule, unless}
 use Rattle.book.specs.Answers.Answer.{done, refused}
 use Rattle.book.specs.Answers.Rule.{rule}
-use Rattle.book.specs.Cells.{cellsFit}
+use Rattle.book.specs.Cells.{Book, bookFits}
 use Rattle.book.specs.Opening.{openAnswer, openedIn, openAfter}
 use Rattle.book.specs.Filling.{answers as answersOf, afterAll}
-use Rattle.book.proofs.Agreement.{answers-agree, cells-agree}
-use Rattle.book.proofs.Soundness.{cells-sound}
+use Rattle.book.specs.Plain.{keptOf, listsOf}
+use Rattle.book.proofs.Agreement.{answers-agree, lists-agree}
+use Rattle.book.proofs.Soundness.{book-sound}
 use Rattle.publishing.specs.Publishing.{fileLength, lengthUnless, publishAnswer, publishAfter}
 use Rattle.replay.specs.declared.Replayed.{Replayed}
 use Rattle.replay.specs.declared.Replayed.the-variants.{Malformed, Refused}
 use Rattle.replay.specs.Packing.{unpack}
-use Rattle.replay.specs.Replaying.{packingOk, plainBook, isPlayed, publishedMeant, replayAnswer, answersAfter, cellsAfter, outAfter}
+use Rattle.replay.specs.Replaying.{packingOk, plainBook, isPlayed, publishedMeant, replayAnswer, answersAfter, listsAfter, outAfter}
 use Rattle.book.specs.Answers.{answerCode}
 use Rattle.replay.proofs.Last.{answer-last, bytes-last}
 
@@ -37,85 +38,91 @@ refused-tests true true n rules m e = let z : _≡_ {A = ℕ} 0 1 = cc in absurd
 refused-tests true false n rules m e = ((cc), refl)
 refused-tests false y n rules m e = ((cc), refl)
 
--- cells are equal where their eight lists are
-pub same-cells : {b b' : Cells} → b .slots .values ≡ b' .slots .values → b .slots .versions ≡ b' .slots .versions
-    → b .slots .statuses ≡ b' .slots .statuses → b .holidays ≡ b' .holidays → b .readings ≡ b' .readings
-    → b .readVersions ≡ b' .readVersions → b .agreed .values ≡ b' .agreed .values → b .agreed .versions ≡ b' .agreed .versions → b ≡ b'
-same-cells values versions statuses holidays readings reads agreed agreed-versions =
+-- books are equal where their nine lists are
+pub same-lists : {b b' : Book} → b .cells .slots .values ≡ b' .cells .slots .values → b .cells .slots .versions ≡ b' .cells .slots .versions
+    → b .cells .slots .statuses ≡ b' .cells .slots .statuses → b .cells .holidays ≡ b' .cells .holidays → b .cells .readings ≡ b' .cells .readings
+    → b .cells .readVersions ≡ b' .cells .readVersions → b .cells .agreed .values ≡ b' .cells .agreed .values
+    → b .cells .agreed .versions ≡ b' .cells .agreed .versions → b .counts ≡ b' .counts → b ≡ b'
+same-lists values versions statuses holidays readings reads agreed agreed-versions counts =
     λ t. record {
-      slots = record { values = values t; versions = versions t; statuses = statuses t };
-      holidays = holidays t;
-      readings = readings t;
-      readVersions = reads t;
-      agreed = record { values = agreed t; versions = agreed-versions t };
+      cells = record {
+        slots = record { values = values t; versions = versions t; statuses = statuses t };
+        holidays = holidays t;
+        readings = readings t;
+        readVersions = reads t;
+        agreed = record { values = agreed t; versions = agreed-versions t };
+      };
+      counts = counts t;
     }
 
 -- what the contract says
-pub record Meant (h : Head) (calls answers : List ℕ) (b : Cells) (out : List ℕ) (r : Replayed) (answers' : List ℕ) (b' : Cells)
+pub record Meant (h : Head) (calls answers : List ℕ) (b : Book) (out : List ℕ) (r : Replayed) (answers' : List ℕ) (b' : Book)
     (out' : List ℕ) : Type 0 where
   pub answer : r ≡ replayAnswer h calls answers b out
   pub told : answers' ≡ answersAfter h calls answers b
-  pub cells : b' ≡ cellsAfter h calls answers b
+  pub lists : b' ≡ listsAfter h calls answers b
   pub bytes : out' ≡ outAfter h calls answers b out
 
-module _ {h : Head} {calls answers : List ℕ} {b : Cells} {out : List ℕ} where
-  -- the eight lists one by one, as the contract has them
-  pub each : {r : Replayed} {answers' : List ℕ} {b' : Cells} {out' : List ℕ} → Meant h calls answers b out r answers' b' out'
-      → (let after = cellsAfter h calls answers b in
+module _ {h : Head} {calls answers : List ℕ} {b : Book} {out : List ℕ} where
+  -- the nine lists one by one, as the contract has them
+  pub each : {r : Replayed} {answers' : List ℕ} {b' : Book} {out' : List ℕ} → Meant h calls answers b out r answers' b' out'
+      → (let after = listsAfter h calls answers b in
       (r ≡ replayAnswer h calls answers b out)
       × (answers' ≡ answersAfter h calls answers b)
-      × ((b' .slots .values ≡ after .slots .values)
-      × (b' .slots .versions ≡ after .slots .versions)
-      × (b' .slots .statuses ≡ after .slots .statuses)
-      × (b' .holidays ≡ after .holidays)
-      × (b' .readings ≡ after .readings)
-      × (b' .readVersions ≡ after .readVersions)
-      × (b' .agreed .values ≡ after .agreed .values)
-      × (b' .agreed .versions ≡ after .agreed .versions))
+      × ((b' .cells .slots .values ≡ after .cells .slots .values)
+      × (b' .cells .slots .versions ≡ after .cells .slots .versions)
+      × (b' .cells .slots .statuses ≡ after .cells .slots .statuses)
+      × (b' .cells .holidays ≡ after .cells .holidays)
+      × (b' .cells .readings ≡ after .cells .readings)
+      × (b' .cells .readVersions ≡ after .cells .readVersions)
+      × (b' .cells .agreed .values ≡ after .cells .agreed .values)
+      × (b' .cells .agreed .versions ≡ after .cells .agreed .versions)
+      × (b' .counts ≡ after .counts))
       × (out' ≡ outAfter h calls answers b out))
   each m =
-      let e = m .cells in (
+      let e = m .lists in (
         m .answer,
         m .told,
         (
-          (λ t. e t .slots .values),
-          (λ t. e t .slots .versions),
-          (λ t. e t .slots .statuses),
-          (λ t. e t .holidays),
-          (λ t. e t .readings),
-          (λ t. e t .readVersions),
-          (λ t. e t .agreed .values),
-          (λ t. e t .agreed .versions),
+          (λ t. e t .cells .slots .values),
+          (λ t. e t .cells .slots .versions),
+          (λ t. e t .cells .slots .statuses),
+          (λ t. e t .cells .holidays),
+          (λ t. e t .cells .readings),
+          (λ t. e t .cells .readVersions),
+          (λ t. e t .cells .agreed .values),
+          (λ t. e t .cells .agreed .versions),
+          (λ t. e t .counts),
         ),
         m .bytes,
       )
 
   pub malformed : packingOk calls answers ≡ false → Meant h calls answers b out Malformed answers b out
-  unfolding replayAnswer answersAfter cellsAfter outAfter isPlayed
-  malformed e = record { answer = rw e; told = rw e; cells = rw e; bytes = rw e }
+  unfolding replayAnswer answersAfter listsAfter outAfter isPlayed
+  malformed e = record { answer = rw e; told = rw e; lists = rw e; bytes = rw e }
 
   module _ (good : packingOk calls answers ≡ true) where
-    pub refused-open : {n : ℕ} {o : Cells} → openAnswer h b ≡ refused n → o ≡ openAfter h b → Meant h calls answers b out (Refused n) answers o out
-    unfolding openAnswer openAfter replayAnswer answersAfter cellsAfter outAfter isPlayed
+    pub refused-open : {n : ℕ} {o : Book} → openAnswer h b ≡ refused n → o ≡ openAfter h b → Meant h calls answers b out (Refused n) answers o out
+    unfolding openAnswer openAfter replayAnswer answersAfter listsAfter outAfter isPlayed
     refused-open {n} e left =
-        let t = refused-tests (headOk h) (cellsFit h b) n (rule 7 (ltb (length out) (fileLength h (plainBook h calls))) ∷ []) (fileLength h (plainBook h calls)) e in
-        record { answer = rw good (t .0); told = rw (good, t .1); cells = rw (good, t .1) (left ∙ rw e); bytes = rw (good, t .1) }
+        let t = refused-tests (headOk h) (bookFits h b) n (rule 7 (ltb (length out) (fileLength h (plainBook h calls))) ∷ []) (fileLength h (plainBook h calls)) e in
+        record { answer = rw good (t .0); told = rw (good, t .1); lists = rw (good, t .1) (left ∙ rw e); bytes = rw (good, t .1) }
 
-    pub played : {r : Replayed} {answers' : List ℕ} {o b' : Cells} {out' : List ℕ} → openAnswer h b ≡ done → o ≡ openAfter h b
+    pub played : {r : Replayed} {answers' : List ℕ} {o b' : Book} {out' : List ℕ} → openAnswer h b ≡ done → o ≡ openAfter h b
         → (r ≡ publishedMeant (publishAnswer h (afterAll h o (unpack calls)) out))
         × (answers' ≡ map answerCode (answersOf h o (unpack calls)))
         × (b' ≡ afterAll h o (unpack calls))
         × (out' ≡ publishAfter h (afterAll h o (unpack calls)) out)
         → Meant h calls answers b out r answers' b' out'
-    unfolding openAnswer openAfter plainBook replayAnswer answersAfter cellsAfter outAfter isPlayed
+    unfolding openAnswer openAfter plainBook listsOf replayAnswer answersAfter listsAfter outAfter isPlayed
     played e first made =
-        let t = done-tests (headOk h) (cellsFit h b) e in
+        let t = done-tests (headOk h) (bookFits h b) e in
         let new = first ∙ ap (λ (a : Answer). openedIn a h b) e in
-        let same = cells-agree h (unpack calls) in
-        let sound = rw same at (cells-sound h (unpack calls)) in
+        let same = lists-agree h (unpack calls) in
+        let sound = rw same at (book-sound h (unpack calls)) in
         record {
-          answer = rw (good, t .0, t .1) (made .0 ∙ rw (new, same) (ap publishedMeant (answer-last h (plainBook h calls) out (t .0) (sound .0) (sound .1))));
+          answer = rw (good, t .0, t .1) (made .0 ∙ rw (new, same) (ap publishedMeant (answer-last h (listsOf h (keptOf h [] (unpack calls))) out (t .0) (sound .0) (sound .1))));
           told = rw (good, t .0, t .1) (made .1 ∙ rw (new, answers-agree h (unpack calls)));
-          cells = rw (good, t .0, t .1) (made .2 ∙ rw (new, same));
-          bytes = rw (good, t .0, t .1) (made .3 ∙ rw (new, same) (bytes-last h (plainBook h calls) out (t .0) (sound .0) (sound .1)));
+          lists = rw (good, t .0, t .1) (made .2 ∙ rw (new, same));
+          bytes = rw (good, t .0, t .1) (made .3 ∙ rw (new, same) (bytes-last h (listsOf h (keptOf h [] (unpack calls))) out (t .0) (sound .0) (sound .1)));
         }

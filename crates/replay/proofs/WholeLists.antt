@@ -1,8 +1,7 @@
 -- The claim about whole lists holds of every two good heads and every two lists of calls.
 use mathlib.Core.Bool.{Bool, true, false, cond}
-use mathlib.Core.List.{List, [], _∷_, _++_}
-use mathlib.Core.Logic.{_↔_}
-use mathlib.Core.Path.{_≡_, refl, sym, ap, ap₂, _∙_}
+use mathlib.Core.List.{List, _++_}
+use mathlib.Core.Path.{_≡_, refl, sym, ap, _∙_}
 use Prim.Native.Nat.{ℕ, _<_}
 use native.Mathlib.Nat.{zero-add}
 use native.Mathlib.Omega.{arith}
@@ -15,21 +14,23 @@ use Rattle.rules.specs.declared.Outcome.{Outcome}
 use Rattle.rules.specs.declared.Span.{Span}
 use Rattle.rules.specs.Opening.{Cells, dayTests, headTests, headOk, firstDay, slotsPerDay, slotCount}
 use Rattle.rules.specs.Spans.{outcomeAt, noSpan, upTo, outcomes, spans}
-use Rattle.rules.proofs.Logic.{passed, either}
+use Rattle.rules.proofs.Logic.{and-parts, passed}
 use Rattle.book.specs.Arguments.{Call}
+use Rattle.book.specs.Cells.{cellsOk, bookOk}
 use Rattle.book.proofs.Agreement.{answers-agree, cells-agree}
+use Rattle.book.proofs.Fits.{fits-of}
 use Rattle.book.proofs.Order.{order-does-not-matter}
-use Rattle.book.proofs.Soundness.{cells-sound}
+use Rattle.book.proofs.Soundness.{book-sound}
 use Rattle.publishing.specs.declared.Published.the-variants.{Length, Refused}
 use Rattle.file.specs.Contents.{noSlot}
 use Rattle.file.specs.Layout.{Content, fileOf}
 use Rattle.publishing.specs.Publishing.{published, fileLength, bytesAfter, publishAnswer, publishAfter}
 use Rattle.publishing.specs.Inner.Publishing.{Sound}
 use Rattle.file.proofs.Content.{length-file}
-use Rattle.rules.proofs.Lists.{length-upTo, getD-upTo, upTo-cong}
+use Rattle.rules.proofs.Lists.{getD-upTo, upTo-cong}
 use Rattle.publishing.proofs.Files.{files-equal}
 use Rattle.replay.proofs.Last.{answer-last}
-use Rattle.replay.specs.Claim.{cellsOf, plainOf, plainFile, SameOutcomes, AcceptedIn, Claim}
+use Rattle.replay.specs.Claim.{leftBy, plainOf, plainFile, SameOutcomes, Claim}
 
 -- the file's length as publishing computes it
 long : (h : Head) (b : Cells) → fileLength h b ≡ length (fileOf (published h b))
@@ -38,11 +39,11 @@ long h b = sym (length-file (published h b))
 
 -- publishing after a list of calls
 module _ (h : Head) (good : headOk h ≡ true) (cs : List Call) (out : List ℕ) where
-  answered : publishAnswer h (cellsOf h cs) out ≡ cond (ltb (length out) (length (plainFile h cs))) (Refused 7) (Length (length (plainFile h cs)))
+  answered : publishAnswer h (leftBy h cs) out ≡ cond (ltb (length out) (length (plainFile h cs))) (Refused 7) (Length (length (plainFile h cs)))
   answered =
-      answer-last h (cellsOf h cs) out good (cells-sound h cs .0) (cells-sound h cs .1) ∙ (rw (cells-agree h cs, long h (plainOf h cs)))
+      answer-last h (leftBy h cs) out good (book-sound h cs .0) (book-sound h cs .1) ∙ (rw (cells-agree h cs, long h (plainOf h cs)))
 
-  wrote : publishAfter h (cellsOf h cs) out ≡ cond (ltb (length out) (length (plainFile h cs))) out (plainFile h cs ++ drop (length (plainFile h cs)) out)
+  wrote : publishAfter h (leftBy h cs) out ≡ cond (ltb (length out) (length (plainFile h cs))) out (plainFile h cs ++ drop (length (plainFile h cs)) out)
   unfolding publishAfter
   wrote = rw (answered, cells-agree h cs) (go (ltb (length out) (length (plainFile h cs))))
     where
@@ -108,9 +109,11 @@ module _ (h g : Head) (b c : Cells) where
 
 -- publishing does not refuse the plain book
 sound : (h : Head) (cs : List Call) → headOk h ≡ true → Sound h (plainOf h cs)
+unfolding bookOk
 sound h cs good =
-    let s = rw (cells-agree h cs) at (cells-sound h cs) in
-    record { head = good; fit = s .0; cells = s .1 }
+    let fits = fits-of h (leftBy h cs) (book-sound h cs .0) .0 in
+    let clean = and-parts (cellsOk h (leftBy h cs .cells)) _ (book-sound h cs .1) .0 in
+    record { head = good; fit = rw (cells-agree h cs) at fits; cells = rw (cells-agree h cs) at clean }
 
 pub claim : (h g : Head) (cs ds : List Call) → headOk h ≡ true → headOk g ≡ true → Claim h g cs ds
 claim h g cs ds p q =

@@ -1,6 +1,6 @@
 -- The claim about whole lists (01, demand 3): what is proved of every two lists of calls of the four kinds, each after an opening.
 use mathlib.Core.Bool.{cond}
-use mathlib.Core.List.{List, [], _∷_, _++_, List·Memᴰ}
+use mathlib.Core.List.{List, [], _++_, List·Memᴰ}
 use mathlib.Core.Logic.{_↔_}
 use mathlib.Core.Path.{_≡_}
 use Prim.Native.Nat.{ℕ, _<_}
@@ -10,6 +10,7 @@ use Rattle.rules.specs.declared.Head.{Head}
 use Rattle.rules.specs.Opening.{Cells, slotCount}
 use Rattle.rules.specs.Spans.{outcomeAt, noSpan, spans}
 use Rattle.book.specs.Arguments.{Call}
+use Rattle.book.specs.Cells.{Book}
 use Rattle.book.specs.Opening.{opened}
 use Rattle.book.specs.Filling.{answers, afterAll}
 use Rattle.book.specs.Plain.{plainAnswers, keptOf, bookOf}
@@ -17,9 +18,9 @@ use Rattle.publishing.specs.declared.Published.the-variants.{Length, Refused}
 use Rattle.file.specs.Layout.{fileOf}
 use Rattle.publishing.specs.Publishing.{published, publishAnswer, publishAfter}
 
--- what the calls leave in the eight lists, and the plain book of the same calls
-abbrev pub cellsOf : Head → List Call → Cells
-cellsOf h cs = afterAll h (opened h) cs
+-- what the calls leave in the nine lists, and the plain book of the same calls
+abbrev pub leftBy : Head → List Call → Book
+leftBy h cs = afterAll h (opened h) cs
 
 abbrev pub plainOf : Head → List Call → Cells
 plainOf h cs = bookOf h (keptOf h [] cs)
@@ -48,9 +49,9 @@ pub record Claim (h g : Head) (cs ds : List Call) : Type 0 where
   pub answers-plain : answers h (opened h) cs ≡ plainAnswers h [] cs
   -- 2. publishing refuses only for a short buffer, and writes 01's file of the plain book's outcomes
   pub publish-answers : (out : List ℕ)
-      → publishAnswer h (cellsOf h cs) out ≡ cond (ltb (length out) (length (plainFile h cs))) (Refused 7) (Length (length (plainFile h cs)))
+      → publishAnswer h (leftBy h cs) out ≡ cond (ltb (length out) (length (plainFile h cs))) (Refused 7) (Length (length (plainFile h cs)))
   pub publish-writes : (out : List ℕ)
-      → publishAfter h (cellsOf h cs) out ≡ cond (ltb (length out) (length (plainFile h cs))) out (plainFile h cs ++ drop (length (plainFile h cs)) out)
+      → publishAfter h (leftBy h cs) out ≡ cond (ltb (length out) (length (plainFile h cs))) out (plainFile h cs ++ drop (length (plainFile h cs)) out)
   -- 3. two files are equal exactly when first day, days, interval, all outcomes and all spans are, also under two heads
   pub equal-exactly : (plainFile h cs ≡ plainFile g ds) ↔ SameOutcomes h g (plainOf h cs) (plainOf g ds)
   -- 4. under one head equal accepted calls give equal files, in whatever order and however often

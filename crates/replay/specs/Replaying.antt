@@ -9,8 +9,8 @@ use Rattle.rules.specs.Lists.{every}
 use Rattle.rules.specs.Opening.{Cells, headOk}
 use Rattle.book.specs.Answers.{answerCode}
 use Rattle.book.specs.Answers.Rule.{rule}
-use Rattle.book.specs.Cells.{cellsFit}
-use Rattle.book.specs.Plain.{plainAnswers, keptOf, bookOf}
+use Rattle.book.specs.Cells.{Book, bookFits}
+use Rattle.book.specs.Plain.{plainAnswers, keptOf, bookOf, listsOf}
 use Rattle.file.specs.Layout.{fileOf}
 use Rattle.publishing.specs.declared.Published.{Published}
 use Rattle.publishing.specs.declared.Published.the-variants as published
@@ -28,8 +28,8 @@ unfoldable pub plainBook : Head → List ℕ → Cells
 plainBook h calls = bookOf h (keptOf h [] (unpack calls))
 
 -- the calls are made: the packing is good and opening is done
-unfoldable pub isPlayed : Head → List ℕ → List ℕ → Cells → Bool
-isPlayed h calls answers b = every (packingOk calls answers ∷ headOk h ∷ cellsFit h b ∷ [])
+unfoldable pub isPlayed : Head → List ℕ → List ℕ → Book → Bool
+isPlayed h calls answers b = every (packingOk calls answers ∷ headOk h ∷ bookFits h b ∷ [])
 
 -- what publishing answers, as replaying does
 abbrev pub publishedMeant : Published → Replayed
@@ -37,26 +37,26 @@ publishedMeant (published.Length n) = Length n
 publishedMeant (published.Refused k) = Refused k
 
 -- opening refuses with 1 and 2; publishing, which comes last, for a short buffer only
-unfoldable pub replayAnswer : Head → List ℕ → List ℕ → Cells → List ℕ → Replayed
+unfoldable pub replayAnswer : Head → List ℕ → List ℕ → Book → List ℕ → Replayed
 replayAnswer h calls answers b out =
     cond (packingOk calls answers)
     (publishedMeant
     (lengthUnless
-    (rule 1 (not (headOk h)) ∷ rule 2 (not (cellsFit h b))
+    (rule 1 (not (headOk h)) ∷ rule 2 (not (bookFits h b))
     ∷ rule 7 (ltb (length out) (fileLength h (plainBook h calls))) ∷ [])
     (fileLength h (plainBook h calls))))
     Malformed
 
 -- the lent lists afterwards: where no call is made they stay
-unfoldable pub answersAfter : Head → List ℕ → List ℕ → Cells → List ℕ
+unfoldable pub answersAfter : Head → List ℕ → List ℕ → Book → List ℕ
 answersAfter h calls answers b =
     cond (isPlayed h calls answers b) (map answerCode (plainAnswers h [] (unpack calls))) answers
 
-unfoldable pub cellsAfter : Head → List ℕ → List ℕ → Cells → Cells
-cellsAfter h calls answers b = cond (isPlayed h calls answers b) (plainBook h calls) b
+unfoldable pub listsAfter : Head → List ℕ → List ℕ → Book → Book
+listsAfter h calls answers b = cond (isPlayed h calls answers b) (listsOf h (keptOf h [] (unpack calls))) b
 
 -- the file stands in the first bytes; bytes after it, and all where there is no room, stay
-unfoldable pub outAfter : Head → List ℕ → List ℕ → Cells → List ℕ → List ℕ
+unfoldable pub outAfter : Head → List ℕ → List ℕ → Book → List ℕ → List ℕ
 outAfter h calls answers b out =
     cond (isPlayed h calls answers b && not (ltb (length out) (fileLength h (plainBook h calls))))
     (fileOf (publishedOf h (plainBook h calls)) ++ drop (fileLength h (plainBook h calls)) out)

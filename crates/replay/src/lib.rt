@@ -10,12 +10,12 @@ ghost use mathlib.Core.List.{map};
 ghost use mathlib.Core.Path.{_≡_};
 ghost use Prim.Native.Nat.{_*_};
 ghost use lib.ListN.{length};
-ghost use Rattle.rules.specs.Inner.Lent.{lentCells};
+ghost use Rattle.book.specs.Inner.Lent.{lentBook};
 ghost use Rattle.book.specs.Filling.{answers as answersOf, afterAll};
-ghost use Rattle.book.specs.Inner.Lent.{HoldCells};
+ghost use Rattle.book.specs.Inner.Lent.{HoldBook};
 ghost use Rattle.publishing.specs.Publishing.{publishAnswer, publishAfter};
 ghost use Rattle.replay.specs.Packing.{packedOk, unpack};
-ghost use Rattle.replay.specs.Replaying.{replayAnswer, answersAfter, cellsAfter, outAfter};
+ghost use Rattle.replay.specs.Replaying.{replayAnswer, answersAfter, listsAfter, outAfter};
 ghost use Rattle.book.specs.Answers.{answerCode};
 ghost use Rattle.replay.specs.Replaying.{publishedMeant};
 
@@ -48,15 +48,16 @@ fn play_and_publish(
     reads: &mut [u32],
     agreed: &mut [u32],
     agreed_versions: &mut [u32],
+    counts: &mut [u16],
     out: &mut [u8],
 ) -> Replayed
     requires { ⌜ (packedOk (now calls) ≡ true) × (length (now calls) ≡ 5 * length (now answers)) ⌝ }
     ensures { λ r. ⌜
-        (let cells = lentCells (values .entry) (versions .entry) (statuses .entry) (holidays .entry) (readings .entry) (reads .entry) (agreed .entry) («agreed_versions» .entry) in
-        let after = afterAll head cells (unpack (now (calls .entry))) in
+        (let book = lentBook (values .entry) (versions .entry) (statuses .entry) (holidays .entry) (readings .entry) (reads .entry) (agreed .entry) («agreed_versions» .entry) (counts .entry) in
+        let after = afterAll head book (unpack (now (calls .entry))) in
         (r ≡ publishedMeant (publishAnswer head after (now (out .entry))))
-        × (now (answers .exit) ≡ map answerCode (answersOf head cells (unpack (now (calls .entry)))))
-        × (lentCells (values .exit) (versions .exit) (statuses .exit) (holidays .exit) (readings .exit) (reads .exit) (agreed .exit) («agreed_versions» .exit) ≡ after)
+        × (now (answers .exit) ≡ map answerCode (answersOf head book (unpack (now (calls .entry)))))
+        × (lentBook (values .exit) (versions .exit) (statuses .exit) (holidays .exit) (readings .exit) (reads .exit) (agreed .exit) («agreed_versions» .exit) (counts .exit) ≡ after)
         × (now (out .exit) ≡ publishAfter head after (now (out .entry))))
         ⌝ }
 {
@@ -72,6 +73,7 @@ fn play_and_publish(
         reads,
         agreed,
         agreed_versions,
+        counts,
     );
     told(publishing::publish(
         head,
@@ -83,6 +85,7 @@ fn play_and_publish(
         reads,
         agreed,
         agreed_versions,
+        counts,
         out,
     ))
 }
@@ -100,14 +103,15 @@ pub fn replay(
     reads: &mut [u32],
     agreed: &mut [u32],
     agreed_versions: &mut [u32],
+    counts: &mut [u16],
     out: &mut [u8],
 ) -> Replayed
     ensures { λ r. ⌜
-        (let cells = lentCells (values .entry) (versions .entry) (statuses .entry) (holidays .entry) (readings .entry) (reads .entry) (agreed .entry) («agreed_versions» .entry) in
-        (r ≡ replayAnswer head (now (calls .entry)) (now (answers .entry)) cells (now (out .entry)))
-        × (now (answers .exit) ≡ answersAfter head (now (calls .entry)) (now (answers .entry)) cells)
-        × HoldCells (values .exit) (versions .exit) (statuses .exit) (holidays .exit) (readings .exit) (reads .exit) (agreed .exit) («agreed_versions» .exit) (cellsAfter head (now (calls .entry)) (now (answers .entry)) cells)
-        × (now (out .exit) ≡ outAfter head (now (calls .entry)) (now (answers .entry)) cells (now (out .entry))))
+        (let book = lentBook (values .entry) (versions .entry) (statuses .entry) (holidays .entry) (readings .entry) (reads .entry) (agreed .entry) («agreed_versions» .entry) (counts .entry) in
+        (r ≡ replayAnswer head (now (calls .entry)) (now (answers .entry)) book (now (out .entry)))
+        × (now (answers .exit) ≡ answersAfter head (now (calls .entry)) (now (answers .entry)) book)
+        × HoldBook (values .exit) (versions .exit) (statuses .exit) (holidays .exit) (readings .exit) (reads .exit) (agreed .exit) («agreed_versions» .exit) (counts .exit) (listsAfter head (now (calls .entry)) (now (answers .entry)) book)
+        × (now (out .exit) ≡ outAfter head (now (calls .entry)) (now (answers .entry)) book (now (out .entry))))
         ⌝ }
 {
     if !packing::packed_ok(calls) {
@@ -126,6 +130,7 @@ pub fn replay(
         reads,
         agreed,
         agreed_versions,
+        counts,
     );
     match opened {
         Opened::Done => play_and_publish(
@@ -140,6 +145,7 @@ pub fn replay(
             reads,
             agreed,
             agreed_versions,
+            counts,
             out,
         ),
         Opened::Refused(n) => Replayed::Refused(n),

@@ -9,7 +9,7 @@ ghost use mathlib.Core.List.{map};
 ghost use mathlib.Core.Path.{_≡_};
 ghost use Prim.Native.Nat.{_*_};
 ghost use lib.ListN.{length};
-ghost use Rattle.rules.specs.Inner.Lent.{lentCells};
+ghost use Rattle.book.specs.Inner.Lent.{lentBook};
 ghost use Rattle.book.specs.Answers.{filedMeant};
 ghost use Rattle.book.specs.Filling.{answer, after, answers as answersOf, afterAll};
 ghost use Rattle.replay.specs.Packing.{callOk, callOf, packedOk, unpack};
@@ -36,13 +36,14 @@ fn play(
     reads: &mut [u32],
     agreed: &mut [u32],
     agreed_versions: &mut [u32],
+    counts: &mut [u16],
     call: Packed,
 ) -> u8
     requires { ⌜ callOk call ≡ true ⌝ }
     ensures { λ r. ⌜
-        (let cells = lentCells (values .entry) (versions .entry) (statuses .entry) (holidays .entry) (readings .entry) (reads .entry) (agreed .entry) («agreed_versions» .entry) in
-        (r ≡ answerCode (answer head cells (callOf call)))
-        × (lentCells (values .exit) (versions .exit) (statuses .exit) (holidays .exit) (readings .exit) (reads .exit) (agreed .exit) («agreed_versions» .exit) ≡ after head cells (callOf call)))
+        (let book = lentBook (values .entry) (versions .entry) (statuses .entry) (holidays .entry) (readings .entry) (reads .entry) (agreed .entry) («agreed_versions» .entry) (counts .entry) in
+        (r ≡ answerCode (answer head book (callOf call)))
+        × (lentBook (values .exit) (versions .exit) (statuses .exit) (holidays .exit) (readings .exit) (reads .exit) (agreed .exit) («agreed_versions» .exit) (counts .exit) ≡ after head book (callOf call)))
         ⌝ }
 {
     byte_of(calls::fill(
@@ -55,6 +56,7 @@ fn play(
         reads,
         agreed,
         agreed_versions,
+        counts,
         packing::call_of(call),
     ))
 }
@@ -72,12 +74,13 @@ pub fn play_all(
     reads: &mut [u32],
     agreed: &mut [u32],
     agreed_versions: &mut [u32],
+    counts: &mut [u16],
 )
     requires { ⌜ (packedOk (now calls) ≡ true) × (length (now calls) ≡ 5 * length (now answers)) ⌝ }
     ensures { λ _. ⌜
-        (let cells = lentCells (values .entry) (versions .entry) (statuses .entry) (holidays .entry) (readings .entry) (reads .entry) (agreed .entry) («agreed_versions» .entry) in
-        (now (answers .exit) ≡ map answerCode (answersOf head cells (unpack (now (calls .entry)))))
-        × (lentCells (values .exit) (versions .exit) (statuses .exit) (holidays .exit) (readings .exit) (reads .exit) (agreed .exit) («agreed_versions» .exit) ≡ afterAll head cells (unpack (now (calls .entry)))))
+        (let book = lentBook (values .entry) (versions .entry) (statuses .entry) (holidays .entry) (readings .entry) (reads .entry) (agreed .entry) («agreed_versions» .entry) (counts .entry) in
+        (now (answers .exit) ≡ map answerCode (answersOf head book (unpack (now (calls .entry)))))
+        × (lentBook (values .exit) (versions .exit) (statuses .exit) (holidays .exit) (readings .exit) (reads .exit) (agreed .exit) («agreed_versions» .exit) (counts .exit) ≡ afterAll head book (unpack (now (calls .entry)))))
         ⌝ }
 {
     let mut i = 0;
@@ -93,6 +96,7 @@ pub fn play_all(
             reads,
             agreed,
             agreed_versions,
+            counts,
             call,
         );
         answers[i] = byte;

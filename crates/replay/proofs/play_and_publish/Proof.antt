@@ -1,6 +1,6 @@
--- `play_and_publish`: publishing is given the cells that the calls left.
+-- `play_and_publish`: publishing is given the lists that the calls left.
 use mathlib.Core.Path.{ap, _∙_}
-use Rattle.rules.specs.Opening.{Cells}
+use Rattle.book.specs.Cells.{Book}
 use Rattle.publishing.specs.Publishing.{publishAnswer, publishAfter}
 use Rattle.replay.specs.Replaying.{publishedMeant}
 use borrow.Author.Needs.{needs}
@@ -46,16 +46,19 @@ same-length-9 c = search needs
 same-length-10 : tie.Need-same-length-10
 same-length-10 c = search needs
 
+same-length-11 : tie.Need-same-length-11
+same-length-11 c = search needs
+
 returns : tie.Need-returns
 returns c =
     let at-publish = c .before .before .before in
-    let at-play-all = at-publish .before .before .before .before .before .before .before .before .before .before .before .before .before .before .before .before .before .before .before .before .before .before .before .before .before .before .before .before in
-    let a = at-play-all .before .before .before .before .before .before .before .before .before .before .before .before .before .before .before .before .before .before .before .before .before .args in
+    let at-play-all = at-publish .before .before .before .before .before .before .before .before .before .before .before .before .before .before .before .before .before .before .before .before .before .before .before .before .before .before .before .before .before .before .before in
+    let a = at-play-all .before .before .before .before .before .before .before .before .before .before .before .before .before .before .before .before .before .before .before .before .before .before .before .args in
     let same = at-play-all .play-all .ensures .1 in (
-      c .told .ensures ∙ ap publishedMeant (at-publish .publish .ensures .0 ∙ ap (λ (b : Cells). publishAnswer (a .head) b (a .out .now)) same),
+      c .told .ensures ∙ ap publishedMeant (at-publish .publish .ensures .0 ∙ ap (λ (b : Book). publishAnswer (a .head) b (a .out .now)) same),
       at-play-all .play-all .ensures .0,
       same,
-      at-publish .publish .ensures .1 ∙ ap (λ (b : Cells). publishAfter (a .head) b (a .out .now)) same,
+      at-publish .publish .ensures .1 ∙ ap (λ (b : Book). publishAfter (a .head) b (a .out .now)) same,
     )
 
 pub play-and-publish-spec : {M : Type 1} → statement M
@@ -75,4 +78,5 @@ play-and-publish-spec =
     same-length-8
     same-length-9
     same-length-10
+    same-length-11
     returns)

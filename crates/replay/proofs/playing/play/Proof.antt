@@ -1,6 +1,6 @@
 -- `playing::play`: the packed call is made as the call that it is.
 use mathlib.Core.Path.{ap, _∙_}
-use Rattle.rules.specs.Inner.Lent.{slots, agreedLists, cells}
+use Rattle.book.specs.Inner.Lent.{lentBook}
 use Rattle.book.specs.Answers.{answerCode}
 use Rattle.book.specs.Filling.{answer, after}
 use borrow.Author.Needs.{needs}
@@ -40,12 +40,15 @@ same-length-7 c = search needs
 same-length-8 : tie.Need-same-length-8
 same-length-8 c = search needs
 
+same-length-9 : tie.Need-same-length-9
+same-length-9 c = search needs
+
 returns : tie.Need-returns
 returns c =
-    let a = c .before .before .before .before .before .before .before .before .before .before .before .before .before .before .before .before .before .before .before .before .before .before .before .before .before .before .before .before .before .before .before .before .before .before .before .args in
-    let b = cells (slots (a .values .now) (a .versions .now) (a .statuses .now)) (a .holidays .now) (a .readings .now) (a .reads .now) (agreedLists (a .agreed .now) (a .agreed-versions .now)) in
-    let e = c .before .before .before .before .before .before .before .before .before .before .before .before .before .before .before .before .before .before .call-of .ensures in
-    let f = c .before .before .before .before .before .before .before .before .before .before .before .before .before .before .before .before .before .fill .ensures in
+    let a = c .before .before .before .before .before .before .before .before .before .before .before .before .before .before .before .before .before .before .before .before .before .before .before .before .before .before .before .before .before .before .before .before .before .before .before .before .before .before .before .args in
+    let b = lentBook (a .values) (a .versions) (a .statuses) (a .holidays) (a .readings) (a .reads) (a .agreed) (a .agreed-versions) (a .counts) in
+    let e = c .before .before .before .before .before .before .before .before .before .before .before .before .before .before .before .before .before .before .before .before .call-of .ensures in
+    let f = c .before .before .before .before .before .before .before .before .before .before .before .before .before .before .before .before .before .before .before .fill .ensures in
     (c .byte-of .ensures ∙ ap answerCode (f .0 ∙ ap (λ k. answer (a .head) b k) e), f .1 ∙ ap (λ k. after (a .head) b k) e)
 
 pub play-spec : {M : Type 1} → statement M
@@ -63,4 +66,5 @@ play-spec =
     same-length-6
     same-length-7
     same-length-8
+    same-length-9
     returns)
