@@ -80,6 +80,7 @@ fn answer_log(
     reads: &mut [u32],
     agreed: &mut [u32],
     agreed_versions: &mut [u32],
+    counts: &mut [u16],
 )
     requires { ⌜ Held (lead .first .source) (length (now block)) (length (now part)) ⌝ }
 {
@@ -100,6 +101,7 @@ fn answer_log(
         reads,
         agreed,
         agreed_versions,
+        counts,
     );
     if !program::is_done(end) {
         return;
@@ -120,6 +122,7 @@ fn main() {
     let mut reads = [0u32; 401];
     let mut agreed = [0u32; 115200];
     let mut agreed_versions = [0u32; 115200];
+    let mut counts = [0u16; 400];
     let mut block = io::large_buffer();
     let mut part = [0u8; 257];
     // Standard input is read before the temporary file is made, which would take its place where it is closed.
@@ -147,5 +150,6 @@ fn main() {
         &mut reads[..boundaries],
         &mut agreed[..slots],
         &mut agreed_versions[..slots],
+        &mut counts[..days],
     );
 }

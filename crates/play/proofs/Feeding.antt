@@ -11,10 +11,10 @@ use lib.Seq.{take-suc, take-suc-set, take-at, take-all, length-take-le, take-len
 use Rattle.log.specs.declared.line.Entry.{Entry}
 use Rattle.log.specs.Words.{split}
 use Rattle.log.specs.Line.{entryOf}
-use Rattle.rules.specs.Opening.{Cells}
+use Rattle.book.specs.Cells.{Book}
 use Rattle.play.specs.declared.feed.Taken.{Taken}
 use Rattle.play.specs.declared.play.Run.{Run}
-use Rattle.play.specs.Playing.{played, playedCells}
+use Rattle.play.specs.Playing.{played, playedLists}
 use Rattle.play.specs.Log.{linesFrom, withAnswer, outcome}
 use Rattle.play.specs.declared.source.Source.{Source}
 use Rattle.play.specs.Inner.Feeding.{Stepped, Held}
@@ -66,10 +66,10 @@ pub held-as : {s : Source} {m n : ℕ} (m′ n′ : ℕ) → Held s m n → m �
 held-as m′ n′ h e f = record { order = h .order; inside = omega (arith, h .inside); room = omega (arith, h .room); held = omega (arith, h .held) }
 
 -- what a log comes to is what its line in hand does, and then what the bytes after it come to, wherever a block ends
-pub blocks-make-no-difference : (run : Run) (b : Cells) (block part part′ : List ℕ) (at count : ℕ) (r : Taken) → r .ended ≡ true
+pub blocks-make-no-difference : (run : Run) (b : Book) (block part part′ : List ℕ) (at count : ℕ) (r : Taken) → r .ended ≡ true
     → Stepped block at part part′ count r → (more : List ℕ)
     → outcome run b (linesFrom (take count part) (drop at block ++ more))
-    ≡ withAnswer (played run b (r .entry) .said) (outcome (played run b (r .entry) .run) (playedCells run b (r .entry)) (linesFrom [] (drop (r .at) block ++ more)))
+    ≡ withAnswer (played run b (r .entry) .said) (outcome (played run b (r .entry) .run) (playedLists run b (r .entry)) (linesFrom [] (drop (r .at) block ++ more)))
 unfolding outcome
 blocks-make-no-difference run b block part part′ at count r e s more =
     let line : linesFrom (take count part) (drop at block ++ more) ≡ r .entry ∷ linesFrom [] (drop (r .at) block ++ more) = rw e at (s .same more) in

@@ -4,7 +4,7 @@ use mathlib.Core.Path.{_≡_, refl, sym, ap, _∙_}
 use Prim.Native.Nat.{ℕ, _+_, _≤_, _<_}
 use borrow.Author.Tests.{lt-ltb, le-ltb}
 use Rattle.rules.specs.declared.Head.{Head}
-use Rattle.rules.specs.Opening.{Cells}
+use Rattle.book.specs.Cells.{Book}
 use Rattle.book.specs.Answers.{Answer}
 use Rattle.book.specs.Answers.Answer.{refused}
 use Rattle.book.specs.Opening.{openAnswer, openAfter}
@@ -21,7 +21,7 @@ use Rattle.play.specs.declared.play.Stage.the-variants as stage
 use Rattle.play.specs.declared.play.Said.the-variants as said
 use Rattle.play.specs.declared.play.Run.{Run}
 use Rattle.play.specs.declared.play.Played.{Played}
-use Rattle.play.specs.Playing.{saidOf, counted, moved, quiet, stageOf, afterOpening, refusedAfter, afterFilling, tableOf, withTable, headWith, refusedWith, openedWith, cellsWith, isTable, playedClosed, closedCells, playedFirst, playedOpen, openCells, playedAt, played, cellsAt, playedCells}
+use Rattle.play.specs.Playing.{saidOf, counted, moved, quiet, stageOf, afterOpening, refusedAfter, afterFilling, tableOf, withTable, headWith, refusedWith, openedWith, listsWith, isTable, playedClosed, closedLists, playedFirst, playedOpen, openLists, playedAt, played, listsAt, playedLists}
 
 pub count-more : (n : ℕ) → n < 18446744073709551615 → n + 1 ≡ counted n
 unfolding counted
@@ -49,22 +49,22 @@ pub refused-as : (run : Run) (a : Answer) (n : ℕ) → a ≡ refused n → (nex
 unfolding afterFilling moved
 refused-as run a n e next count f g = rw (e, g, f)
 
-module _ (run : Run) (b : Cells) (l : Line) (p : Played) (c : Cells) where
+module _ (run : Run) (b : Book) (l : Line) (p : Played) (c : Book) where
   module _ (x : Line) (e : l ≡ x) where
-    pub closed-as : p ≡ playedClosed run b x → c ≡ closedCells run b x → (p ≡ playedClosed run b l) × (c ≡ closedCells run b l)
+    pub closed-as : p ≡ playedClosed run b x → c ≡ closedLists run b x → (p ≡ playedClosed run b l) × (c ≡ closedLists run b l)
     closed-as f g = rw e (f, g)
 
-    pub open-as : p ≡ playedOpen run b x → c ≡ openCells run b x → (p ≡ playedOpen run b l) × (c ≡ openCells run b l)
+    pub open-as : p ≡ playedOpen run b x → c ≡ openLists run b x → (p ≡ playedOpen run b l) × (c ≡ openLists run b l)
     open-as f g = rw e (f, g)
 
-module _ (run : Run) (b : Cells) (o : Opening) (a : Loaded) (p : Played) (c : Cells) where
+module _ (run : Run) (b : Book) (o : Opening) (a : Loaded) (p : Played) (c : Book) where
   pub loaded-as : (n : ℕ) (h : Head) (x : Answer) → a ≡ loaded.Limit n → h ≡ headWith o n → p ≡ afterOpening run h x → x ≡ openAnswer h b
-      → c ≡ openAfter h b → (p ≡ openedWith run b o a) × (c ≡ cellsWith b o a)
-  unfolding openedWith cellsWith
+      → c ≡ openAfter h b → (p ≡ openedWith run b o a) × (c ≡ listsWith b o a)
+  unfolding openedWith listsWith
   loaded-as n h x e k f g m = rw (e, ← k) (f ∙ ap (afterOpening run h) g, m)
 
-  pub unloaded-as : (n : ℕ) → a ≡ loaded.Refused n → p ≡ refusedWith run n → c ≡ b → (p ≡ openedWith run b o a) × (c ≡ cellsWith b o a)
-  unfolding openedWith cellsWith
+  pub unloaded-as : (n : ℕ) → a ≡ loaded.Refused n → p ≡ refusedWith run n → c ≡ b → (p ≡ openedWith run b o a) × (c ≡ listsWith b o a)
+  unfolding openedWith listsWith
   unloaded-as n e f g = rw e (f, g)
 
 module _ (run : Run) (limits : Limits) (a : Loaded) (n : ℕ) where
@@ -78,25 +78,25 @@ module _ (run : Run) (limits : Limits) (a : Loaded) (n : ℕ) where
   table-refused e = rw e
 
 -- a table leaves the lists as they are
-table-cells : (run : Run) (b : Cells) (l : Line) → isTable l ≡ true → b ≡ closedCells run b l
-unfolding closedCells
-table-cells run b line.Passed e = refl
-table-cells run b line.Table e = refl
-table-cells run b (line.Open o) e = absurd (false≢true e)
-table-cells run b (line.Fill call) e = refl
-table-cells run b line.NoCall e = refl
+table-lists : (run : Run) (b : Book) (l : Line) → isTable l ≡ true → b ≡ closedLists run b l
+unfolding closedLists
+table-lists run b line.Passed e = refl
+table-lists run b line.Table e = refl
+table-lists run b (line.Open o) e = absurd (false≢true e)
+table-lists run b (line.Fill call) e = refl
+table-lists run b line.NoCall e = refl
 
-module _ (run : Run) (b : Cells) (x : Entry) (p : Played) (c : Cells) where
+module _ (run : Run) (b : Book) (x : Entry) (p : Played) (c : Book) where
   pub table-as : isTable (x .line) ≡ true → p ≡ withTable run (x .limits) (loadAnswer (tableOf (x .limits)) 1) → c ≡ b
-      → (p ≡ playedFirst run b x) × (c ≡ closedCells run b (x .line))
+      → (p ≡ playedFirst run b x) × (c ≡ closedLists run b (x .line))
   unfolding playedFirst
-  table-as e f g = (rw e f, g ∙ table-cells run b (x .line) e)
+  table-as e f g = (rw e f, g ∙ table-lists run b (x .line) e)
 
-  pub first-as : isTable (x .line) ≡ false → (p ≡ playedClosed run b (x .line)) → c ≡ closedCells run b (x .line)
-      → (p ≡ playedFirst run b x) × (c ≡ closedCells run b (x .line))
+  pub first-as : isTable (x .line) ≡ false → (p ≡ playedClosed run b (x .line)) → c ≡ closedLists run b (x .line)
+      → (p ≡ playedFirst run b x) × (c ≡ closedLists run b (x .line))
   unfolding playedFirst
   first-as e f g = (rw e f, g)
 
-  pub stage-as : (s : Stage) → run .stage ≡ s → p ≡ playedAt s run b x → c ≡ cellsAt s run b x → (p ≡ played run b x) × (c ≡ playedCells run b x)
-  unfolding played playedCells
-  stage-as s e f g = (f ∙ ap (λ (y : Stage). playedAt y run b x) (sym e), g ∙ ap (λ (y : Stage). cellsAt y run b x) (sym e))
+  pub stage-as : (s : Stage) → run .stage ≡ s → p ≡ playedAt s run b x → c ≡ listsAt s run b x → (p ≡ played run b x) × (c ≡ playedLists run b x)
+  unfolding played playedLists
+  stage-as s e f g = (f ∙ ap (λ (y : Stage). playedAt y run b x) (sym e), g ∙ ap (λ (y : Stage). listsAt y run b x) (sym e))

@@ -8,10 +8,10 @@ use Rattle.rules.specs.Limits.{loadAnswer}
 use Rattle.rules.specs.declared.limits.Loaded.{Loaded}
 use Rattle.rules.specs.declared.limits.Loaded.the-variants as loaded
 use Rattle.rules.specs.declared.Head.{Head}
-use Rattle.rules.specs.Opening.{Cells}
 use Rattle.book.specs.Answers.{Answer}
 use Rattle.book.specs.Answers.Answer.{done, stored, late, repeat, refused}
 use Rattle.book.specs.Arguments.{callMeant}
+use Rattle.book.specs.Cells.{Book}
 use Rattle.book.specs.Filling.{answer, after}
 use Rattle.book.specs.Opening.{openAnswer, openAfter}
 use Rattle.log.specs.declared.line.Line.{Line}
@@ -117,28 +117,28 @@ headWith o limit = record {
 unfoldable pub refusedWith : Run → ℕ → Played
 refusedWith run n = record { run = moved run (stage.Refused n); said = said.Refused n }
 
-unfoldable pub openedWith : Run → Cells → Opening → Loaded → Played
+unfoldable pub openedWith : Run → Book → Opening → Loaded → Played
 openedWith run b o (loaded.Limit n) = afterOpening run (headWith o n) (openAnswer (headWith o n) b)
 openedWith run b o (loaded.Refused n) = refusedWith run n
 
-unfoldable pub cellsWith : Cells → Opening → Loaded → Cells
-cellsWith b o (loaded.Limit n) = openAfter (headWith o n) b
-cellsWith b o (loaded.Refused n) = b
+unfoldable pub listsWith : Book → Opening → Loaded → Book
+listsWith b o (loaded.Limit n) = openAfter (headWith o n) b
+listsWith b o (loaded.Refused n) = b
 
 -- before the opening: the first call line is an opening, and there is no second table
-unfoldable pub playedClosed : Run → Cells → Line → Played
+unfoldable pub playedClosed : Run → Book → Line → Played
 playedClosed run b line.Passed = quiet run (run .stage)
 playedClosed run b line.Table = quiet run stage.Unfit
 playedClosed run b (line.Open o) = openedWith run b o (loadAnswer (tableOf (run .limits)) (o .kind))
 playedClosed run b (line.Fill call) = quiet run stage.Unfit
 playedClosed run b line.NoCall = quiet run stage.Unfit
 
-unfoldable pub closedCells : Run → Cells → Line → Cells
-closedCells run b line.Passed = b
-closedCells run b line.Table = b
-closedCells run b (line.Open o) = cellsWith b o (loadAnswer (tableOf (run .limits)) (o .kind))
-closedCells run b (line.Fill call) = b
-closedCells run b line.NoCall = b
+unfoldable pub closedLists : Run → Book → Line → Book
+closedLists run b line.Passed = b
+closedLists run b line.Table = b
+closedLists run b (line.Open o) = listsWith b o (loadAnswer (tableOf (run .limits)) (o .kind))
+closedLists run b (line.Fill call) = b
+closedLists run b line.NoCall = b
 
 abbrev pub isTable : Line → Bool
 isTable line.Passed = false
@@ -148,42 +148,42 @@ isTable (line.Fill call) = false
 isTable line.NoCall = false
 
 -- before a table too; a good table has a first place
-unfoldable pub playedFirst : Run → Cells → Entry → Played
+unfoldable pub playedFirst : Run → Book → Entry → Played
 playedFirst run b x =
     cond (isTable (x .line)) (withTable run (x .limits) (loadAnswer (tableOf (x .limits)) 1)) (playedClosed run b (x .line))
 
 -- after the opening: no second one, and no table
-unfoldable pub playedOpen : Run → Cells → Line → Played
+unfoldable pub playedOpen : Run → Book → Line → Played
 playedOpen run b line.Passed = quiet run stage.Open
 playedOpen run b line.Table = quiet run stage.Unfit
 playedOpen run b (line.Open o) = quiet run stage.Unfit
 playedOpen run b (line.Fill call) = afterFilling run (answer (run .head) b (callMeant call))
 playedOpen run b line.NoCall = quiet run stage.Unfit
 
-unfoldable pub openCells : Run → Cells → Line → Cells
-openCells run b line.Passed = b
-openCells run b line.Table = b
-openCells run b (line.Open o) = b
-openCells run b (line.Fill call) = after (run .head) b (callMeant call)
-openCells run b line.NoCall = b
+unfoldable pub openLists : Run → Book → Line → Book
+openLists run b line.Passed = b
+openLists run b line.Table = b
+openLists run b (line.Open o) = b
+openLists run b (line.Fill call) = after (run .head) b (callMeant call)
+openLists run b line.NoCall = b
 
 -- where the log is over, nothing more is done
-abbrev pub playedAt : Stage → Run → Cells → Entry → Played
+abbrev pub playedAt : Stage → Run → Book → Entry → Played
 playedAt stage.Closed run b x = playedFirst run b x
 playedAt stage.Limited run b x = playedClosed run b (x .line)
 playedAt stage.Open run b x = playedOpen run b (x .line)
 playedAt stage.Unfit run b x = record { run = run; said = said.Nothing }
 playedAt (stage.Refused n) run b x = record { run = run; said = said.Nothing }
 
-unfoldable pub played : Run → Cells → Entry → Played
+unfoldable pub played : Run → Book → Entry → Played
 played run b x = playedAt (run .stage) run b x
 
-abbrev pub cellsAt : Stage → Run → Cells → Entry → Cells
-cellsAt stage.Closed run b x = closedCells run b (x .line)
-cellsAt stage.Limited run b x = closedCells run b (x .line)
-cellsAt stage.Open run b x = openCells run b (x .line)
-cellsAt stage.Unfit run b x = b
-cellsAt (stage.Refused n) run b x = b
+abbrev pub listsAt : Stage → Run → Book → Entry → Book
+listsAt stage.Closed run b x = closedLists run b (x .line)
+listsAt stage.Limited run b x = closedLists run b (x .line)
+listsAt stage.Open run b x = openLists run b (x .line)
+listsAt stage.Unfit run b x = b
+listsAt (stage.Refused n) run b x = b
 
-unfoldable pub playedCells : Run → Cells → Entry → Cells
-playedCells run b x = cellsAt (run .stage) run b x
+unfoldable pub playedLists : Run → Book → Entry → Book
+playedLists run b x = listsAt (run .stage) run b x

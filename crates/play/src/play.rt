@@ -10,10 +10,10 @@ use rules::Head;
 use rules::limits;
 use rules::limits::Loaded;
 ghost use mathlib.Core.Path.{_≡_};
-ghost use Rattle.rules.specs.Inner.Lent.{lentCells};
+ghost use Rattle.book.specs.Inner.Lent.{lentBook};
 ghost use Rattle.book.specs.Answers.{openedMeant, filedMeant};
 ghost use Rattle.rules.specs.Limits.{loadAnswer};
-ghost use Rattle.play.specs.Playing.{started, isOver, counted as Playing·counted, moved as Playing·moved, quiet as Playing·quiet, afterOpening, afterFilling, tableOf, withTable, headWith, refusedWith, openedWith, cellsWith, isTable, playedClosed, closedCells, playedFirst, playedOpen, openCells, played, playedCells};
+ghost use Rattle.play.specs.Playing.{started, isOver, counted as Playing·counted, moved as Playing·moved, quiet as Playing·quiet, afterOpening, afterFilling, tableOf, withTable, headWith, refusedWith, openedWith, listsWith, isTable, playedClosed, closedLists, playedFirst, playedOpen, openLists, played, playedLists};
 ghost use Rattle.play.specs.Inner.Leading.{leadRun};
 
 // No call has come; a table has come; the book is open; a line was no call; the table or the opening was refused.
@@ -288,14 +288,15 @@ fn play_opening(
     reads: &mut [u32],
     agreed: &mut [u32],
     agreed_versions: &mut [u32],
+    counts: &mut [u16],
     opening: Opening,
 ) -> Played
     ensures { λ r. ⌜
-        (let cells =
-        lentCells (values .entry) (versions .entry) (statuses .entry) (holidays .entry) (readings .entry) (reads .entry) (agreed .entry) («agreed_versions» .entry) in
-        (r ≡ openedWith run cells opening (loadAnswer (tableOf (run .limits)) (opening .kind)))
-        × (lentCells (values .exit) (versions .exit) (statuses .exit) (holidays .exit) (readings .exit) (reads .exit) (agreed .exit) («agreed_versions» .exit)
-        ≡ cellsWith cells opening (loadAnswer (tableOf (run .limits)) (opening .kind))))
+        (let book =
+        lentBook (values .entry) (versions .entry) (statuses .entry) (holidays .entry) (readings .entry) (reads .entry) (agreed .entry) («agreed_versions» .entry) (counts .entry) in
+        (r ≡ openedWith run book opening (loadAnswer (tableOf (run .limits)) (opening .kind)))
+        × (lentBook (values .exit) (versions .exit) (statuses .exit) (holidays .exit) (readings .exit) (reads .exit) (agreed .exit) («agreed_versions» .exit) (counts .exit)
+        ≡ listsWith book opening (loadAnswer (tableOf (run .limits)) (opening .kind))))
         ⌝ }
 {
     let limits = run.limits;
@@ -313,6 +314,7 @@ fn play_opening(
                 reads,
                 agreed,
                 agreed_versions,
+                counts,
             );
             after_opening(run, head, opened)
         }
@@ -331,14 +333,15 @@ fn play_closed(
     reads: &mut [u32],
     agreed: &mut [u32],
     agreed_versions: &mut [u32],
+    counts: &mut [u16],
     line: Line,
 ) -> Played
     ensures { λ r. ⌜
-        (let cells =
-        lentCells (values .entry) (versions .entry) (statuses .entry) (holidays .entry) (readings .entry) (reads .entry) (agreed .entry) («agreed_versions» .entry) in
-        (r ≡ playedClosed run cells line)
-        × (lentCells (values .exit) (versions .exit) (statuses .exit) (holidays .exit) (readings .exit) (reads .exit) (agreed .exit) («agreed_versions» .exit)
-        ≡ closedCells run cells line))
+        (let book =
+        lentBook (values .entry) (versions .entry) (statuses .entry) (holidays .entry) (readings .entry) (reads .entry) (agreed .entry) («agreed_versions» .entry) (counts .entry) in
+        (r ≡ playedClosed run book line)
+        × (lentBook (values .exit) (versions .exit) (statuses .exit) (holidays .exit) (readings .exit) (reads .exit) (agreed .exit) («agreed_versions» .exit) (counts .exit)
+        ≡ closedLists run book line))
         ⌝ }
 {
     match line {
@@ -357,6 +360,7 @@ fn play_closed(
             reads,
             agreed,
             agreed_versions,
+            counts,
             opening,
         ),
         Line::Fill(_) => quiet(run, Stage::Unfit),
@@ -375,14 +379,15 @@ fn play_first(
     reads: &mut [u32],
     agreed: &mut [u32],
     agreed_versions: &mut [u32],
+    counts: &mut [u16],
     entry: Entry,
 ) -> Played
     ensures { λ r. ⌜
-        (let cells =
-        lentCells (values .entry) (versions .entry) (statuses .entry) (holidays .entry) (readings .entry) (reads .entry) (agreed .entry) («agreed_versions» .entry) in
-        (r ≡ playedFirst run cells entry)
-        × (lentCells (values .exit) (versions .exit) (statuses .exit) (holidays .exit) (readings .exit) (reads .exit) (agreed .exit) («agreed_versions» .exit)
-        ≡ closedCells run cells (entry .line)))
+        (let book =
+        lentBook (values .entry) (versions .entry) (statuses .entry) (holidays .entry) (readings .entry) (reads .entry) (agreed .entry) («agreed_versions» .entry) (counts .entry) in
+        (r ≡ playedFirst run book entry)
+        × (lentBook (values .exit) (versions .exit) (statuses .exit) (holidays .exit) (readings .exit) (reads .exit) (agreed .exit) («agreed_versions» .exit) (counts .exit)
+        ≡ closedLists run book (entry .line)))
         ⌝ }
 {
     let line = entry.line;
@@ -400,6 +405,7 @@ fn play_first(
         reads,
         agreed,
         agreed_versions,
+        counts,
         line,
     )
 }
@@ -415,14 +421,15 @@ fn play_open(
     reads: &mut [u32],
     agreed: &mut [u32],
     agreed_versions: &mut [u32],
+    counts: &mut [u16],
     line: Line,
 ) -> Played
     ensures { λ r. ⌜
-        (let cells =
-        lentCells (values .entry) (versions .entry) (statuses .entry) (holidays .entry) (readings .entry) (reads .entry) (agreed .entry) («agreed_versions» .entry) in
-        (r ≡ playedOpen run cells line)
-        × (lentCells (values .exit) (versions .exit) (statuses .exit) (holidays .exit) (readings .exit) (reads .exit) (agreed .exit) («agreed_versions» .exit)
-        ≡ openCells run cells line))
+        (let book =
+        lentBook (values .entry) (versions .entry) (statuses .entry) (holidays .entry) (readings .entry) (reads .entry) (agreed .entry) («agreed_versions» .entry) (counts .entry) in
+        (r ≡ playedOpen run book line)
+        × (lentBook (values .exit) (versions .exit) (statuses .exit) (holidays .exit) (readings .exit) (reads .exit) (agreed .exit) («agreed_versions» .exit) (counts .exit)
+        ≡ openLists run book line))
         ⌝ }
 {
     match line {
@@ -441,6 +448,7 @@ fn play_open(
                 reads,
                 agreed,
                 agreed_versions,
+                counts,
                 call,
             );
             after_filling(run, filed)
@@ -460,14 +468,15 @@ pub fn play(
     reads: &mut [u32],
     agreed: &mut [u32],
     agreed_versions: &mut [u32],
+    counts: &mut [u16],
     entry: Entry,
 ) -> Played
     ensures { λ r. ⌜
-        (let cells =
-        lentCells (values .entry) (versions .entry) (statuses .entry) (holidays .entry) (readings .entry) (reads .entry) (agreed .entry) («agreed_versions» .entry) in
-        (r ≡ played run cells entry)
-        × (lentCells (values .exit) (versions .exit) (statuses .exit) (holidays .exit) (readings .exit) (reads .exit) (agreed .exit) («agreed_versions» .exit)
-        ≡ playedCells run cells entry))
+        (let book =
+        lentBook (values .entry) (versions .entry) (statuses .entry) (holidays .entry) (readings .entry) (reads .entry) (agreed .entry) («agreed_versions» .entry) (counts .entry) in
+        (r ≡ played run book entry)
+        × (lentBook (values .exit) (versions .exit) (statuses .exit) (holidays .exit) (readings .exit) (reads .exit) (agreed .exit) («agreed_versions» .exit) (counts .exit)
+        ≡ playedLists run book entry))
         ⌝ }
 {
     let stage = run.stage;
@@ -483,6 +492,7 @@ pub fn play(
             reads,
             agreed,
             agreed_versions,
+            counts,
             entry,
         ),
         Stage::Limited => play_closed(
@@ -495,6 +505,7 @@ pub fn play(
             reads,
             agreed,
             agreed_versions,
+            counts,
             line,
         ),
         Stage::Open => play_open(
@@ -507,6 +518,7 @@ pub fn play(
             reads,
             agreed,
             agreed_versions,
+            counts,
             line,
         ),
         Stage::Unfit => Played {

@@ -167,6 +167,7 @@ pub fn play_log(
     reads: &mut [u32],
     agreed: &mut [u32],
     agreed_versions: &mut [u32],
+    counts: &mut [u16],
 ) -> Ended
     requires { ⌜ Held (lead .first .source) (length (now block)) (length (now part)) ⌝ }
 {
@@ -186,6 +187,7 @@ pub fn play_log(
             reads,
             agreed,
             agreed_versions,
+            counts,
             entry,
         );
         run = played.run;

@@ -26,6 +26,7 @@ fn write_file(
     reads: &[u32],
     agreed: &[u32],
     agreed_versions: &[u32],
+    counts: &[u16],
 ) {
     let mut out = file_buffer();
     match publishing::publish(
@@ -38,6 +39,7 @@ fn write_file(
         reads,
         agreed,
         agreed_versions,
+        counts,
         &mut out,
     ) {
         Published::Length(n) => {
@@ -74,6 +76,7 @@ fn publish_log(
     reads: &mut [u32],
     agreed: &mut [u32],
     agreed_versions: &mut [u32],
+    counts: &mut [u16],
 )
     requires { ⌜ Held (lead .first .source) (length (now block)) (length (now part)) ⌝ }
 {
@@ -90,6 +93,7 @@ fn publish_log(
         reads,
         agreed,
         agreed_versions,
+        counts,
     );
     if !program::is_done(end) {
         return;
@@ -105,6 +109,7 @@ fn publish_log(
         reads,
         agreed,
         agreed_versions,
+        counts,
     );
     tell_refused(run.refused);
 }
@@ -118,6 +123,7 @@ fn main() {
     let mut reads = [0u32; 401];
     let mut agreed = [0u32; 115200];
     let mut agreed_versions = [0u32; 115200];
+    let mut counts = [0u16; 400];
     let mut block = io::large_buffer();
     let mut part = [0u8; 257];
     let lead = program::read_lead(&mut block, &mut part);
@@ -141,5 +147,6 @@ fn main() {
         &mut reads[..boundaries],
         &mut agreed[..slots],
         &mut agreed_versions[..slots],
+        &mut counts[..days],
     );
 }

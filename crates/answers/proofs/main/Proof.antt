@@ -77,6 +77,12 @@ array-borrow-prefix-agreed-versions c = search needs
 slice-aggregate-answer-log-10 : tie.Need-slice-aggregate-answer-log-10
 slice-aggregate-answer-log-10 c = sym (length-take-le _ _ (array-borrow-prefix-agreed-versions (c .before)))
 
+array-borrow-prefix-counts : tie.Need-array-borrow-prefix-counts
+array-borrow-prefix-counts c = search needs
+
+slice-aggregate-answer-log-11 : tie.Need-slice-aggregate-answer-log-11
+slice-aggregate-answer-log-11 c = sym (length-take-le _ _ (array-borrow-prefix-counts (c .before)))
+
 answer-log-requires : tie.Need-answer-log-requires
 answer-log-requires c κs = search needs
 
@@ -111,5 +117,7 @@ main-spec =
     slice-aggregate-answer-log-9
     array-borrow-prefix-agreed-versions
     slice-aggregate-answer-log-10
+    array-borrow-prefix-counts
+    slice-aggregate-answer-log-11
     answer-log-requires
     returns-2)

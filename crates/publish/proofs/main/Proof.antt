@@ -74,6 +74,12 @@ array-borrow-prefix-agreed-versions c = search needs
 slice-aggregate-publish-log-10 : tie.Need-slice-aggregate-publish-log-10
 slice-aggregate-publish-log-10 c = sym (length-take-le _ _ (array-borrow-prefix-agreed-versions (c .before)))
 
+array-borrow-prefix-counts : tie.Need-array-borrow-prefix-counts
+array-borrow-prefix-counts c = search needs
+
+slice-aggregate-publish-log-11 : tie.Need-slice-aggregate-publish-log-11
+slice-aggregate-publish-log-11 c = sym (length-take-le _ _ (array-borrow-prefix-counts (c .before)))
+
 publish-log-requires : tie.Need-publish-log-requires
 publish-log-requires c κs = search needs
 
@@ -107,5 +113,7 @@ main-spec =
     slice-aggregate-publish-log-9
     array-borrow-prefix-agreed-versions
     slice-aggregate-publish-log-10
+    array-borrow-prefix-counts
+    slice-aggregate-publish-log-11
     publish-log-requires
     returns)

@@ -53,11 +53,11 @@ same-length-7 c = search needs
 same-length-8 : tie.Need-same-length-8
 same-length-8 c = search needs
 
-returns : tie.Need-returns
-returns c = stage-as _ _ _ _ _ _ (c .before .before .before .before .before .before .before .before .before .before .before .before .before .before .before .before .before .before .before .before .before .before .before .before .before .enum-told .given .1) (c .before .before .before .before .before .before .before .before .before .before .before .before .before .before .before .before .play-first .ensures .0) (c .before .before .before .before .before .before .before .before .before .before .before .before .before .before .before .before .play-first .ensures .1)
-
 same-length-9 : tie.Need-same-length-9
 same-length-9 c = search needs
+
+returns : tie.Need-returns
+returns c = stage-as _ _ _ _ _ _ (c .before .before .before .before .before .before .before .before .before .before .before .before .before .before .before .before .before .before .before .before .before .before .before .before .before .before .before .before .enum-told .given .1) (c .before .before .before .before .before .before .before .before .before .before .before .before .before .before .before .before .before .before .play-first .ensures .0) (c .before .before .before .before .before .before .before .before .before .before .before .before .before .before .before .before .before .before .play-first .ensures .1)
 
 same-length-10 : tie.Need-same-length-10
 same-length-10 c = search needs
@@ -80,14 +80,14 @@ same-length-15 c = search needs
 same-length-16 : tie.Need-same-length-16
 same-length-16 c = search needs
 
-returns-2 : tie.Need-returns-2
-returns-2 c = stage-as _ _ _ _ _ _ (c .before .before .before .before .before .before .before .before .before .before .before .before .before .before .before .before .before .before .before .before .before .before .before .before .before .enum-told2 .given .1) (c .before .before .before .before .before .before .before .before .before .before .before .before .before .before .before .before .play-closed .ensures .0) (c .before .before .before .before .before .before .before .before .before .before .before .before .before .before .before .before .play-closed .ensures .1)
-
 same-length-17 : tie.Need-same-length-17
 same-length-17 c = search needs
 
 same-length-18 : tie.Need-same-length-18
 same-length-18 c = search needs
+
+returns-2 : tie.Need-returns-2
+returns-2 c = stage-as _ _ _ _ _ _ (c .before .before .before .before .before .before .before .before .before .before .before .before .before .before .before .before .before .before .before .before .before .before .before .before .before .before .before .before .enum-told2 .given .1) (c .before .before .before .before .before .before .before .before .before .before .before .before .before .before .before .before .before .before .play-closed .ensures .0) (c .before .before .before .before .before .before .before .before .before .before .before .before .before .before .before .before .before .before .play-closed .ensures .1)
 
 same-length-19 : tie.Need-same-length-19
 same-length-19 c = search needs
@@ -107,8 +107,17 @@ same-length-23 c = search needs
 same-length-24 : tie.Need-same-length-24
 same-length-24 c = search needs
 
+same-length-25 : tie.Need-same-length-25
+same-length-25 c = search needs
+
+same-length-26 : tie.Need-same-length-26
+same-length-26 c = search needs
+
+same-length-27 : tie.Need-same-length-27
+same-length-27 c = search needs
+
 returns-3 : tie.Need-returns-3
-returns-3 c = stage-as _ _ _ _ _ _ (c .before .before .before .before .before .before .before .before .before .before .before .before .before .before .before .before .before .before .before .before .before .before .before .before .before .enum-told3 .given .1) (c .before .before .before .before .before .before .before .before .before .before .before .before .before .before .before .before .play-open .ensures .0) (c .before .before .before .before .before .before .before .before .before .before .before .before .before .before .before .before .play-open .ensures .1)
+returns-3 c = stage-as _ _ _ _ _ _ (c .before .before .before .before .before .before .before .before .before .before .before .before .before .before .before .before .before .before .before .before .before .before .before .before .before .before .before .before .enum-told3 .given .1) (c .before .before .before .before .before .before .before .before .before .before .before .before .before .before .before .before .before .before .play-open .ensures .0) (c .before .before .before .before .before .before .before .before .before .before .before .before .before .before .before .before .before .before .play-open .ensures .1)
 
 returns-4 : tie.Need-returns-4
 returns-4 c = stage-as _ _ _ _ _ _ (c .enum-told4 .given .1) refl refl
@@ -136,8 +145,8 @@ play-spec =
     same-length-6
     same-length-7
     same-length-8
-    returns
     same-length-9
+    returns
     same-length-10
     same-length-11
     same-length-12
@@ -145,15 +154,18 @@ play-spec =
     same-length-14
     same-length-15
     same-length-16
-    returns-2
     same-length-17
     same-length-18
+    returns-2
     same-length-19
     same-length-20
     same-length-21
     same-length-22
     same-length-23
     same-length-24
+    same-length-25
+    same-length-26
+    same-length-27
     returns-3
     returns-4
     returns-5)

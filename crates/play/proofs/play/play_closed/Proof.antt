@@ -1,6 +1,6 @@
 -- `play::play::play_closed` meets its contract.
 use mathlib.Core.Path.{refl}
-use Rattle.play.specs.Playing.{playedClosed, closedCells}
+use Rattle.play.specs.Playing.{playedClosed, closedLists}
 use Rattle.play.proofs.Played.{closed-as}
 use borrow.Author.Needs.{needs}
 use Rattle.play.proofs.play.play_closed.Statement.{statement}
@@ -37,11 +37,11 @@ quiet-requires-4 : tie.Need-quiet-requires-4
 quiet-requires-4 c κs = search needs
 
 returns : tie.Need-returns
-unfolding playedClosed closedCells
+unfolding playedClosed closedLists
 returns c = closed-as _ _ _ _ _ _ (c .before .enum-told .given .1) (c .quiet .ensures) refl
 
 returns-2 : tie.Need-returns-2
-unfolding playedClosed closedCells
+unfolding playedClosed closedLists
 returns-2 c = closed-as _ _ _ _ _ _ (c .before .enum-told2 .given .1) (c .quiet2 .ensures) refl
 
 same-length : tie.Need-same-length
@@ -68,16 +68,19 @@ same-length-7 c = search needs
 same-length-8 : tie.Need-same-length-8
 same-length-8 c = search needs
 
+same-length-9 : tie.Need-same-length-9
+same-length-9 c = search needs
+
 returns-3 : tie.Need-returns-3
-unfolding playedClosed closedCells
-returns-3 c = closed-as _ _ _ _ _ _ (c .before .before .before .before .before .before .before .before .before .before .before .before .before .before .before .before .before .before .before .before .before .before .before .before .before .before .line .given .1) (c .before .before .before .before .before .before .before .before .before .before .before .before .before .before .before .before .play-opening .ensures .0) (c .before .before .before .before .before .before .before .before .before .before .before .before .before .before .before .before .play-opening .ensures .1)
+unfolding playedClosed closedLists
+returns-3 c = closed-as _ _ _ _ _ _ (c .before .before .before .before .before .before .before .before .before .before .before .before .before .before .before .before .before .before .before .before .before .before .before .before .before .before .before .before .before .line .given .1) (c .before .before .before .before .before .before .before .before .before .before .before .before .before .before .before .before .before .before .play-opening .ensures .0) (c .before .before .before .before .before .before .before .before .before .before .before .before .before .before .before .before .before .before .play-opening .ensures .1)
 
 returns-4 : tie.Need-returns-4
-unfolding playedClosed closedCells
+unfolding playedClosed closedLists
 returns-4 c = closed-as _ _ _ _ _ _ (c .before .enum-told3 .given .1) (c .quiet3 .ensures) refl
 
 returns-5 : tie.Need-returns-5
-unfolding playedClosed closedCells
+unfolding playedClosed closedLists
 returns-5 c = closed-as _ _ _ _ _ _ (c .before .enum-told4 .given .1) (c .quiet4 .ensures) refl
 
 pub play-closed-spec : {M : Type 1} → statement M
@@ -104,6 +107,7 @@ play-closed-spec =
     same-length-6
     same-length-7
     same-length-8
+    same-length-9
     returns-3
     returns-4
     returns-5)

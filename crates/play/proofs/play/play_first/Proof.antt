@@ -12,7 +12,7 @@ with-table-requires : tie.Need-with-table-requires
 with-table-requires c κs = search needs
 
 returns : tie.Need-returns
-returns c = table-as (c .before .before .before .before .before .before .before .before .before .before .before .before .args .run) _ (c .before .before .before .before .before .before .before .before .before .before .before .before .args .entry) _ _ (sym (c .before .before .before .is-table .ensures) ∙ c .before .before .if1 .taken) (c .with-table .ensures) refl
+returns c = table-as (c .before .before .before .before .before .before .before .before .before .before .before .before .before .args .run) _ (c .before .before .before .before .before .before .before .before .before .before .before .before .before .args .entry) _ _ (sym (c .before .before .before .is-table .ensures) ∙ c .before .before .if1 .taken) (c .with-table .ensures) refl
 
 play-closed-requires : tie.Need-play-closed-requires
 play-closed-requires c κs = search needs
@@ -41,8 +41,11 @@ same-length-7 c = search needs
 same-length-8 : tie.Need-same-length-8
 same-length-8 c = search needs
 
+same-length-9 : tie.Need-same-length-9
+same-length-9 c = search needs
+
 returns-2 : tie.Need-returns-2
-returns-2 c = first-as (c .before .before .before .before .before .before .before .before .before .before .before .before .before .before .before .before .before .before .before .before .before .before .before .before .before .before .before .before .before .before .before .before .before .before .before .args .run) _ (c .before .before .before .before .before .before .before .before .before .before .before .before .before .before .before .before .before .before .before .before .before .before .before .before .before .before .before .before .before .before .before .before .before .before .before .args .entry) _ _ (sym (c .before .before .before .before .before .before .before .before .before .before .before .before .before .before .before .before .before .before .before .before .before .before .before .before .before .before .is-table .ensures) ∙ c .before .before .before .before .before .before .before .before .before .before .before .before .before .before .before .before .before .before .before .before .before .before .before .before .before .if1 .left) (c .before .before .before .before .before .before .before .before .before .before .before .before .before .before .before .before .play-closed .ensures .0) (c .before .before .before .before .before .before .before .before .before .before .before .before .before .before .before .before .play-closed .ensures .1)
+returns-2 c = first-as (c .before .before .before .before .before .before .before .before .before .before .before .before .before .before .before .before .before .before .before .before .before .before .before .before .before .before .before .before .before .before .before .before .before .before .before .before .before .before .before .args .run) _ (c .before .before .before .before .before .before .before .before .before .before .before .before .before .before .before .before .before .before .before .before .before .before .before .before .before .before .before .before .before .before .before .before .before .before .before .before .before .before .before .args .entry) _ _ (sym (c .before .before .before .before .before .before .before .before .before .before .before .before .before .before .before .before .before .before .before .before .before .before .before .before .before .before .before .before .before .is-table .ensures) ∙ c .before .before .before .before .before .before .before .before .before .before .before .before .before .before .before .before .before .before .before .before .before .before .before .before .before .before .before .before .if1 .left) (c .before .before .before .before .before .before .before .before .before .before .before .before .before .before .before .before .before .before .play-closed .ensures .0) (c .before .before .before .before .before .before .before .before .before .before .before .before .before .before .before .before .before .before .play-closed .ensures .1)
 
 pub play-first-spec : {M : Type 1} → statement M
 play-first-spec =
@@ -60,4 +63,5 @@ play-first-spec =
     same-length-6
     same-length-7
     same-length-8
+    same-length-9
     returns-2)

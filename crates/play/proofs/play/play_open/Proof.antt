@@ -1,6 +1,6 @@
 -- `play::play::play_open` meets its contract.
 use mathlib.Core.Path.{refl, ap, _∙_}
-use Rattle.play.specs.Playing.{afterFilling, playedOpen, openCells}
+use Rattle.play.specs.Playing.{afterFilling, playedOpen, openLists}
 use Rattle.play.proofs.Played.{open-as}
 use borrow.Author.Needs.{needs}
 use Rattle.play.proofs.play.play_open.Statement.{statement}
@@ -40,15 +40,15 @@ quiet-requires-4 : tie.Need-quiet-requires-4
 quiet-requires-4 c κs = search needs
 
 returns : tie.Need-returns
-unfolding playedOpen openCells
+unfolding playedOpen openLists
 returns c = open-as _ _ _ _ _ _ (c .before .enum-told .given .1) (c .quiet .ensures) refl
 
 returns-2 : tie.Need-returns-2
-unfolding playedOpen openCells
+unfolding playedOpen openLists
 returns-2 c = open-as _ _ _ _ _ _ (c .before .enum-told2 .given .1) (c .quiet2 .ensures) refl
 
 returns-3 : tie.Need-returns-3
-unfolding playedOpen openCells
+unfolding playedOpen openLists
 returns-3 c = open-as _ _ _ _ _ _ (c .before .enum-told3 .given .1) (c .quiet3 .ensures) refl
 
 same-length : tie.Need-same-length
@@ -75,12 +75,15 @@ same-length-7 c = search needs
 same-length-8 : tie.Need-same-length-8
 same-length-8 c = search needs
 
+same-length-9 : tie.Need-same-length-9
+same-length-9 c = search needs
+
 returns-4 : tie.Need-returns-4
-unfolding playedOpen openCells
-returns-4 c = open-as _ _ _ _ _ _ (c .before .before .before .before .before .before .before .before .before .before .before .before .before .before .before .before .before .before .before .before .before .before .before .before .before .before .before .before .line .given .1) (c .after-filling .ensures ∙ ap (afterFilling (c .before .before .before .before .before .before .before .before .before .before .before .before .before .before .before .before .before .before .before .before .before .before .before .before .before .before .before .before .before .before .before .before .before .before .before .before .before .before .args .run)) (c .before .before .before .before .before .before .before .before .before .before .before .before .before .before .before .before .before .fill .ensures .0)) (c .before .before .before .before .before .before .before .before .before .before .before .before .before .before .before .before .before .fill .ensures .1)
+unfolding playedOpen openLists
+returns-4 c = open-as _ _ _ _ _ _ (c .before .before .before .before .before .before .before .before .before .before .before .before .before .before .before .before .before .before .before .before .before .before .before .before .before .before .before .before .before .before .before .line .given .1) (c .after-filling .ensures ∙ ap (afterFilling (c .before .before .before .before .before .before .before .before .before .before .before .before .before .before .before .before .before .before .before .before .before .before .before .before .before .before .before .before .before .before .before .before .before .before .before .before .before .before .before .before .before .before .args .run)) (c .before .before .before .before .before .before .before .before .before .before .before .before .before .before .before .before .before .before .before .fill .ensures .0)) (c .before .before .before .before .before .before .before .before .before .before .before .before .before .before .before .before .before .before .before .fill .ensures .1)
 
 returns-5 : tie.Need-returns-5
-unfolding playedOpen openCells
+unfolding playedOpen openLists
 returns-5 c = open-as _ _ _ _ _ _ (c .before .enum-told4 .given .1) (c .quiet4 .ensures) refl
 
 pub play-open-spec : {M : Type 1} → statement M
@@ -109,5 +112,6 @@ play-open-spec =
     same-length-6
     same-length-7
     same-length-8
+    same-length-9
     returns-4
     returns-5)
