@@ -58,3 +58,7 @@ answerText (Refused number) = refused ++ field number
 -- a file of at most 65,536 bytes
 unfoldable pub line : List ℕ → List ℕ
 line bs = cond (leb (length bs) 65536) (answerText (readFile bs)) tooLong ++ newline
+
+-- a day, how many of its slots have come, and n (02, W6); the last day is 36,524
+unfoldable pub dayLine : ℕ → ℕ → ℕ → List ℕ
+dayLine day count slots = cond (leb day 36524) (dateText (dateOf day) ++ field count ++ field slots ++ newline) []

@@ -7,7 +7,7 @@ ghost use mathlib.Core.List.{_++_};
 ghost use Prim.Native.Nat.{_+_, _<_, _≤_};
 ghost use lib.ListN.{length, take};
 ghost use Rattle.calendar.specs.Calendar.{dateOf};
-ghost use Rattle.line.specs.Line.{digits, places as Line·places, dateText, field, figuresText, refused, newline, line as Line·line};
+ghost use Rattle.line.specs.Line.{digits, places as Line·places, dateText, field, figuresText, refused, newline, line as Line·line, dayLine};
 ghost use Rattle.line.specs.Inner.Adding.{Added};
 
 // Copies `text` to `at` and on, and answers the place after it.
@@ -134,4 +134,17 @@ pub fn line(bytes: &[u8], out: &mut [u8; 160]) -> usize
         Verdict::Accepted(g) => put_figures(out, g),
         Verdict::Refused(number) => put_refusal(out, number),
     }
+}
+
+// Puts the line of a day at the start of `out`, and answers its length.
+pub fn day_line(day: u32, count: u64, slots: u64, out: &mut [u8; 160]) -> usize
+    ensures { λ r. ⌜ (take r (now (out .exit)) ≡ dayLine day count slots) × (r ≤ length (now (out .exit))) ⌝ }
+{
+    if 36524 < day {
+        return 0;
+    }
+    let date = put_date(out, calendar::date_of(day));
+    let come = put_field(out, date, count);
+    let all = put_field(out, come, slots);
+    put_text(out, all, b"\n")
 }
