@@ -12,6 +12,7 @@
 #define LENGTH (6 * SLOTS + 10 + 32)
 
 static uint32_t values[SLOTS], versions[SLOTS], readings[DAYS + 1], reads[DAYS + 1], agreed[SLOTS], agreed_versions[SLOTS];
+static uint16_t counts[DAYS];
 static uint8_t statuses[SLOTS], holidays[DAYS], file[LENGTH];
 static uint64_t figures[SAWMAUVE_FIGURES];
 
@@ -38,11 +39,12 @@ int main(void)
     EXPECT(
         sawmauve_open(
             HEAD, values, SLOTS, versions, SLOTS, statuses, SLOTS, holidays, DAYS, readings, DAYS + 1, reads, DAYS + 1, agreed,
-            SLOTS, agreed_versions, SLOTS)
+            SLOTS, agreed_versions, SLOTS, counts, DAYS)
         == SAWMAUVE_DONE);
     for (uint32_t slot = 0; slot < SLOTS; slot++)
         EXPECT(
-            sawmauve_deliver(HEAD, values, SLOTS, versions, SLOTS, statuses, SLOTS, slot, 1, 100, 0) == SAWMAUVE_STORED);
+            sawmauve_deliver(HEAD, values, SLOTS, versions, SLOTS, statuses, SLOTS, counts, DAYS, slot, 1, 100, 0)
+            == SAWMAUVE_STORED);
 
     /* A dial of another length, or with a half byte above 9, is turned away and files nothing. */
     EXPECT(take(0, morning, SAWMAUVE_PACKED - 1) == 2);
@@ -63,7 +65,7 @@ int main(void)
     EXPECT(
         sawmauve_publish(
             HEAD, values, SLOTS, versions, SLOTS, statuses, SLOTS, holidays, DAYS, readings, DAYS + 1, reads, DAYS + 1, agreed,
-            SLOTS, agreed_versions, SLOTS, file, LENGTH)
+            SLOTS, agreed_versions, SLOTS, counts, DAYS, file, LENGTH)
         == LENGTH);
     EXPECT(sawmauve_read(file, LENGTH, figures, SAWMAUVE_FIGURES) == SAWMAUVE_DONE);
 

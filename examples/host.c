@@ -12,12 +12,13 @@
 #define LENGTH (6 * SLOTS + 32)
 
 static uint32_t values[SLOTS], versions[SLOTS], readings[DAYS + 1], reads[DAYS + 1], agreed[SLOTS], agreed_versions[SLOTS];
+static uint16_t counts[DAYS];
 static uint8_t statuses[SLOTS], holidays[DAYS], out[LENGTH + 1];
 static uint64_t figures[SAWMAUVE_FIGURES];
 
 static uint32_t deliver(uint32_t slot, uint32_t version, uint32_t value)
 {
-    return sawmauve_deliver(HEAD, values, SLOTS, versions, SLOTS, statuses, SLOTS, slot, version, value, 0);
+    return sawmauve_deliver(HEAD, values, SLOTS, versions, SLOTS, statuses, SLOTS, counts, DAYS, slot, version, value, 0);
 }
 
 static uint32_t agree(uint32_t slot, uint32_t version, uint32_t value)
@@ -29,7 +30,7 @@ static uint64_t publish(size_t room)
 {
     return sawmauve_publish(
         HEAD, values, SLOTS, versions, SLOTS, statuses, SLOTS, holidays, DAYS, readings, DAYS + 1, reads, DAYS + 1, agreed, SLOTS,
-        agreed_versions, SLOTS, out, room);
+        agreed_versions, SLOTS, counts, DAYS, out, room);
 }
 
 int main(void)
@@ -49,10 +50,11 @@ int main(void)
     memset(reads, 0xFF, sizeof reads);
     memset(statuses, 0xFF, sizeof statuses);
     memset(agreed, 0xFF, sizeof agreed);
+    memset(counts, 0xFF, sizeof counts);
     EXPECT(
         sawmauve_open(
             HEAD, values, SLOTS, versions, SLOTS, statuses, SLOTS, holidays, DAYS, readings, DAYS + 1, reads, DAYS + 1, agreed,
-            SLOTS, agreed_versions, SLOTS)
+            SLOTS, agreed_versions, SLOTS, counts, DAYS)
         == SAWMAUVE_DONE);
     for (uint32_t slot = 0; slot < SLOTS; slot++)
         if (slot != 10)
@@ -64,6 +66,13 @@ int main(void)
     EXPECT(deliver(0, 2, 7) == 10);
     EXPECT(sawmauve_holiday(HEAD, holidays, DAYS, DAYS) == 3);
     EXPECT(sawmauve_register(HEAD, readings, DAYS + 1, reads, DAYS + 1, 0, 1, 100000000) == 6);
+
+    /* The day's count, for a screen; with another one nothing is published. */
+    EXPECT(counts[0] == SLOTS - 1);
+    counts[0] = SLOTS;
+    EXPECT(deliver(10, 1, 100) == 11);
+    EXPECT(publish(sizeof out) == 11);
+    counts[0] = SLOTS - 1;
 
     /* A buffer that is a byte short is refused; in a longer one the byte after the file stays. */
     EXPECT(publish(LENGTH - 1) == 7);

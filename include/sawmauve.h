@@ -14,7 +14,7 @@
  *    8  reader: length, distance or a trailer's head field or layout wrong
  *    9  reader: anything else in the file broken
  *   10  conflict: equal version, other content
- *   11  a cell that no calls could leave
+ *   11  a cell or count that no calls could leave
  *   12  agreed value over 99,999,999
  *   13  a table that is not 1 to 24 demand limits, each above the one before, none over 1,000,000
  *   14  identifier that is not ten characters of A to Z without I and O, 0 to 9
@@ -68,8 +68,9 @@ extern "C" {
 /* The demand limit in W at a place of a table, counted from 1; or 100,000,000 plus 13 for the table, plus 1 for a kind that is no place. */
 uint32_t sawmauve_limit(const uint32_t *table, size_t table_len, uint32_t kind);
 
-/* Opens a book: sets all cells to 0. values, versions, statuses, agreed and agreed_versions are N = 1440 / L * D long,
- * holidays D, readings and reads (the register versions) D + 1. 0, or 1 or 2. */
+/* Opens a book: sets all cells and counts to 0. values, versions, statuses, agreed and agreed_versions are N = 1440 / L * D long,
+ * holidays and counts D, readings and reads (the register versions) D + 1. 0, or 1 or 2. A day's count is how many of its slots
+ * have come, 1440 / L where all have: a screen may read it at any time between two calls. */
 uint32_t sawmauve_open(
     SAWMAUVE_HEAD,
     uint32_t *values, size_t values_len,
@@ -79,14 +80,17 @@ uint32_t sawmauve_open(
     uint32_t *readings, size_t readings_len,
     uint32_t *reads, size_t reads_len,
     uint32_t *agreed, size_t agreed_len,
-    uint32_t *agreed_versions, size_t agreed_versions_len);
+    uint32_t *agreed_versions, size_t agreed_versions_len,
+    uint16_t *counts, size_t counts_len);
 
-/* A delivery for a slot. Status bits: 0 time change, 1 power outage, 2 partial interval. 0, 100 or 101, or 1 to 5, 10, 11. */
+/* A delivery for a slot; the first that is stored raises its day's count. Status bits: 0 time change, 1 power outage, 2 partial interval.
+ * 0, 100 or 101, or 1 to 5, 10, 11. */
 uint32_t sawmauve_deliver(
     SAWMAUVE_HEAD,
     uint32_t *values, size_t values_len,
     uint32_t *versions, size_t versions_len,
     uint8_t *statuses, size_t statuses_len,
+    uint16_t *counts, size_t counts_len,
     uint32_t slot, uint32_t version, uint32_t value, uint8_t status);
 
 /* A value agreed with the skipper for a slot, up to 99,999,999 Wh, by the version rule of a delivery. It is published where the
@@ -121,6 +125,7 @@ uint64_t sawmauve_publish(
     const uint32_t *reads, size_t reads_len,
     const uint32_t *agreed, size_t agreed_len,
     const uint32_t *agreed_versions, size_t agreed_versions_len,
+    const uint16_t *counts, size_t counts_len,
     uint8_t *out, size_t out_len);
 
 /* Reads a file: 0 and the figures; or 8 or 9, or 2 where figures_len is not 9, and the figures stay as they were. */

@@ -4,7 +4,7 @@ use file::Verdict;
 use publishing::Published;
 ghost use mathlib.Core.Path.{_≡_};
 ghost use lib.ListN.{length};
-ghost use Rattle.rules.specs.Inner.Lent.{lentCells};
+ghost use Rattle.book.specs.Inner.Lent.{lentBook};
 ghost use Rattle.publishing.specs.Publishing.{publishAnswer, publishAfter};
 ghost use Rattle.file.specs.Reader.{tablesPart};
 ghost use Rattle.host.specs.Codes.{headOf, publishCode, readAnswer, figuresAfter};
@@ -36,13 +36,14 @@ pub extern "C" fn sawmauve_publish(
     reads: &[u32],
     agreed: &[u32],
     agreed_versions: &[u32],
+    counts: &[u16],
     out: &mut [u8],
 ) -> u64
     ensures { λ r. ⌜
         (let head = headOf year month day days interval limit tolerance in
-        let cells = lentCells (values .entry) (versions .entry) (statuses .entry) (holidays .entry) (readings .entry) (reads .entry) (agreed .entry) («agreed_versions» .entry) in
-        (r ≡ publishCode (publishAnswer head cells (now (out .entry))))
-        × (now (out .exit) ≡ publishAfter head cells (now (out .entry))))
+        let book = lentBook (values .entry) (versions .entry) (statuses .entry) (holidays .entry) (readings .entry) (reads .entry) (agreed .entry) («agreed_versions» .entry) (counts .entry) in
+        (r ≡ publishCode (publishAnswer head book (now (out .entry))))
+        × (now (out .exit) ≡ publishAfter head book (now (out .entry))))
         ⌝ }
 {
     let head = head_of(year, month, day, days, interval, limit, tolerance);
@@ -56,6 +57,7 @@ pub extern "C" fn sawmauve_publish(
         reads,
         agreed,
         agreed_versions,
+        counts,
         out,
     ))
 }

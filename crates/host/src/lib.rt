@@ -10,11 +10,11 @@ use book::Filed;
 use book::Opened;
 use rules::Head;
 ghost use mathlib.Core.Path.{_≡_};
-ghost use Rattle.rules.specs.Inner.Lent.{lentSlots, lentAgreed, lentCells};
+ghost use Rattle.rules.specs.Inner.Lent.{lentSlots, lentAgreed};
 ghost use Rattle.book.specs.Answers.{openedMeant, filedMeant, answerCode};
 ghost use Rattle.book.specs.Opening.{openAnswer, openAfter};
-ghost use Rattle.book.specs.Filling.{deliverAnswer, deliverAfter, agreeAnswer, agreeAfter, holidayAnswer, holidayAfter, registerAnswer, registerAfter};
-ghost use Rattle.book.specs.Inner.Lent.{lentReads, HoldSlots, HoldAgreed, HoldCells};
+ghost use Rattle.book.specs.Filling.{deliverAnswer, deliverAfter, countsAfter, agreeAnswer, agreeAfter, holidayAnswer, holidayAfter, registerAnswer, registerAfter};
+ghost use Rattle.book.specs.Inner.Lent.{lentReads, lentBook, HoldSlots, HoldAgreed, HoldBook};
 ghost use Rattle.host.specs.Codes.{headOf};
 
 pub fn head_of(
@@ -78,12 +78,13 @@ pub extern "C" fn sawmauve_open(
     reads: &mut [u32],
     agreed: &mut [u32],
     agreed_versions: &mut [u32],
+    counts: &mut [u16],
 ) -> u32
     ensures { λ r. ⌜
         (let head = headOf year month day days interval limit tolerance in
-        let cells = lentCells (values .entry) (versions .entry) (statuses .entry) (holidays .entry) (readings .entry) (reads .entry) (agreed .entry) («agreed_versions» .entry) in
-        (r ≡ answerCode (openAnswer head cells))
-        × HoldCells (values .exit) (versions .exit) (statuses .exit) (holidays .exit) (readings .exit) (reads .exit) (agreed .exit) («agreed_versions» .exit) (openAfter head cells))
+        let book = lentBook (values .entry) (versions .entry) (statuses .entry) (holidays .entry) (readings .entry) (reads .entry) (agreed .entry) («agreed_versions» .entry) (counts .entry) in
+        (r ≡ answerCode (openAnswer head book))
+        × HoldBook (values .exit) (versions .exit) (statuses .exit) (holidays .exit) (readings .exit) (reads .exit) (agreed .exit) («agreed_versions» .exit) (counts .exit) (openAfter head book))
         ⌝ }
 {
     let head = head_of(year, month, day, days, interval, limit, tolerance);
@@ -97,6 +98,7 @@ pub extern "C" fn sawmauve_open(
         reads,
         agreed,
         agreed_versions,
+        counts,
     ))
 }
 
@@ -112,6 +114,7 @@ pub extern "C" fn sawmauve_deliver(
     values: &mut [u32],
     versions: &mut [u32],
     statuses: &mut [u8],
+    counts: &mut [u16],
     slot: u32,
     version: u32,
     value: u32,
@@ -120,8 +123,9 @@ pub extern "C" fn sawmauve_deliver(
     ensures { λ r. ⌜
         (let head = headOf year month day days interval limit tolerance in
         let slots = lentSlots (values .entry) (versions .entry) (statuses .entry) in
-        (r ≡ answerCode (deliverAnswer head slots slot version value status))
-        × HoldSlots (values .exit) (versions .exit) (statuses .exit) (deliverAfter head slots slot version value status))
+        (r ≡ answerCode (deliverAnswer head slots (now (counts .entry)) slot version value status))
+        × HoldSlots (values .exit) (versions .exit) (statuses .exit) (deliverAfter head slots (now (counts .entry)) slot version value status)
+        × (now (counts .exit) ≡ countsAfter head slots (now (counts .entry)) slot version value status))
         ⌝ }
 {
     let head = head_of(year, month, day, days, interval, limit, tolerance);
@@ -130,6 +134,7 @@ pub extern "C" fn sawmauve_deliver(
         values,
         versions,
         statuses,
+        counts,
         slot,
         version,
         value,

@@ -23,11 +23,14 @@ same-length-2 c = search needs
 same-length-3 : tie.Need-same-length-3
 same-length-3 c = search needs
 
+same-length-4 : tie.Need-same-length-4
+same-length-4 c = search needs
+
 returns : tie.Need-returns
 returns c =
-    let o = c .before .before .before .before .before .before .before in
-    let h = rw (o .before .before .before .before .head-of .ensures) at (o .deliver .ensures) in
-    (c .filed-code .ensures ∙ ap answerCode (h .0), h .1)
+    let o = c .before .before .before .before .before .before .before .before .before in
+    let h = rw (o .before .before .before .before .before .head-of .ensures) at (o .deliver .ensures) in
+    (c .filed-code .ensures ∙ ap answerCode (h .0), h .1, h .2)
 
 pub sawmauve-deliver-spec : {M : Type 1} → statement M
 sawmauve-deliver-spec =
@@ -39,4 +42,5 @@ sawmauve-deliver-spec =
     same-length
     same-length-2
     same-length-3
+    same-length-4
     returns)

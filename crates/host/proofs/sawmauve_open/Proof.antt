@@ -38,10 +38,13 @@ same-length-7 c = search needs
 same-length-8 : tie.Need-same-length-8
 same-length-8 c = search needs
 
+same-length-9 : tie.Need-same-length-9
+same-length-9 c = search needs
+
 returns : tie.Need-returns
 returns c =
-    let o = c .before .before .before .before .before .before .before .before .before .before .before .before .before .before .before .before .before in
-    let h = rw (o .before .before .before .before .before .before .before .before .before .head-of .ensures) at (o .«open» .ensures) in
+    let o = c .before .before .before .before .before .before .before .before .before .before .before .before .before .before .before .before .before .before .before in
+    let h = rw (o .before .before .before .before .before .before .before .before .before .before .head-of .ensures) at (o .«open» .ensures) in
     (c .opened-code .ensures ∙ ap answerCode (h .0), h .1)
 
 pub sawmauve-open-spec : {M : Type 1} → statement M
@@ -59,4 +62,5 @@ sawmauve-open-spec =
     same-length-6
     same-length-7
     same-length-8
+    same-length-9
     returns)

@@ -26,4 +26,9 @@ returns c =
 pub sawmauve-publish-spec : {M : Type 1} → statement M
 sawmauve-publish-spec =
     tie.close
-    (tie.spec head-of-requires publish-requires published-code-requires same-length returns)
+    (tie.spec
+    head-of-requires
+    publish-requires
+    published-code-requires
+    same-length
+    returns)
