@@ -9,19 +9,46 @@ fn deliver_ten(
     values: &mut [u32],
     versions: &mut [u32],
     statuses: &mut [u8],
+    counts: &mut [u16],
     version: u32,
     value: u32,
 ) {
     let head = books::head_of(1, 30, 1);
-    say::answer(book::deliver(head, values, versions, statuses, 10, version, value, 0));
+    say::answer(book::deliver(
+        head,
+        values,
+        versions,
+        statuses,
+        counts,
+        10,
+        version,
+        value,
+        0,
+    ));
+}
+
+// A delivery, and another behind it.
+fn two_deliveries(
+    values: &mut [u32],
+    versions: &mut [u32],
+    statuses: &mut [u8],
+    counts: &mut [u16],
+    first: [u32; 2],
+    second: [u32; 2],
+) {
+    deliver_ten(values, versions, statuses, counts, first[0], first[1]);
+    deliver_ten(values, versions, statuses, counts, second[0], second[1]);
 }
 
 // A lower version is late and accepted; the same call again is repeat; an equal version with other content conflicts.
-fn four_deliveries(values: &mut [u32], versions: &mut [u32], statuses: &mut [u8]) {
-    deliver_ten(values, versions, statuses, 2, 100);
-    deliver_ten(values, versions, statuses, 1, 900);
-    deliver_ten(values, versions, statuses, 2, 100);
-    deliver_ten(values, versions, statuses, 2, 900);
+fn four_deliveries(
+    values: &mut [u32],
+    versions: &mut [u32],
+    statuses: &mut [u8],
+    counts: &mut [u16],
+) {
+    two_deliveries(values, versions, statuses, counts, [2, 100], [1, 900]);
+    two_deliveries(values, versions, statuses, counts, [2, 100], [2, 900]);
 }
 
 // A book of zeros is an open one.
@@ -29,25 +56,69 @@ pub fn late() {
     let mut values = [0u32; 48];
     let mut versions = [0u32; 48];
     let mut statuses = [0u8; 48];
+    let mut counts = [0u16; 1];
     say::text(b"late as a refusal:");
-    four_deliveries(&mut values, &mut versions, &mut statuses);
+    four_deliveries(&mut values, &mut versions, &mut statuses, &mut counts);
     say::text(b"\n");
 }
 
-// A delivery that is wrong in its status, and with it in what stands before: the lowest number that applies is given.
-fn three_refusals(values: &mut [u32], versions: &mut [u32], statuses: &mut [u8]) {
-    let head = books::head_of(1, 30, 1);
-    say::answer(book::deliver(head, values, versions, statuses, 48, 0, 100, 8));
-    say::answer(book::deliver(head, values, versions, statuses, 10, 0, 100, 8));
-    say::answer(book::deliver(head, values, versions, statuses, 10, 1, 100, 8));
-}
-
-pub fn lowest() {
+// A delivery of status 8 to an open book.
+fn refuse(slot: u32, version: u32) {
     let mut values = [0u32; 48];
     let mut versions = [0u32; 48];
     let mut statuses = [0u8; 48];
+    let mut counts = [0u16; 1];
+    let head = books::head_of(1, 30, 1);
+    say::answer(book::deliver(
+        head,
+        &mut values,
+        &mut versions,
+        &mut statuses,
+        &mut counts,
+        slot,
+        version,
+        100,
+        8,
+    ));
+}
+
+// A delivery that is wrong in its status, and with it in what stands before: the lowest number that applies is given.
+pub fn lowest() {
     say::text(b"lowest number of 3 4 5:");
-    three_refusals(&mut values, &mut versions, &mut statuses);
+    refuse(48, 0);
+    refuse(10, 0);
+    refuse(10, 1);
+    say::text(b"\n");
+}
+
+// Delivers slot 10 of a day with this count, where this version and value stand, and writes the answer.
+fn deliver_counted(count: u16, old_version: u32, old_value: u32, version: u32, value: u32) {
+    let mut values = [0u32; 48];
+    let mut versions = [0u32; 48];
+    let mut statuses = [0u8; 48];
+    let mut counts = [count];
+    versions[10] = old_version;
+    values[10] = old_value;
+    deliver_ten(
+        &mut values,
+        &mut versions,
+        &mut statuses,
+        &mut counts,
+        version,
+        value,
+    );
+}
+
+// With 48 and more in its day's count a first delivery is refused; a later version and a repeat ask nothing of it.
+pub fn counted() {
+    say::text(b"first deliveries at 0 47 48 65535:");
+    deliver_counted(0, 0, 0, 1, 100);
+    deliver_counted(47, 0, 0, 1, 100);
+    deliver_counted(48, 0, 0, 1, 100);
+    deliver_counted(65535, 0, 0, 1, 100);
+    say::text(b"\na later version and a repeat at 48:");
+    deliver_counted(48, 1, 100, 2, 200);
+    deliver_counted(48, 2, 200, 2, 200);
     say::text(b"\n");
 }
 

@@ -56,6 +56,7 @@ fn deliver_run(
     values: &mut [u32],
     versions: &mut [u32],
     statuses: &mut [u8],
+    counts: &mut [u16],
     first: u32,
     end: u32,
     value: u32,
@@ -63,7 +64,17 @@ fn deliver_run(
 ) {
     let mut slot = first;
     while slot < end {
-        book::deliver(head, values, versions, statuses, slot, 1, value, status);
+        book::deliver(
+            head,
+            values,
+            versions,
+            statuses,
+            counts,
+            slot,
+            1,
+            value,
+            status,
+        );
         slot += 1;
     }
 }
@@ -79,6 +90,7 @@ fn fill_row(
     reads: &mut [u32],
     agreed: &mut [u32],
     agreed_versions: &mut [u32],
+    counts: &mut [u16],
     row: [u32; 5],
 ) {
     if row[0] == 1 {
@@ -88,6 +100,7 @@ fn fill_row(
             values,
             versions,
             statuses,
+            counts,
             row[1],
             row[2],
             row[3],
@@ -115,6 +128,7 @@ fn fill(
     reads: &mut [u32],
     agreed: &mut [u32],
     agreed_versions: &mut [u32],
+    counts: &mut [u16],
     rows: &[[u32; 5]],
 ) {
     let mut i = 0;
@@ -130,6 +144,7 @@ fn fill(
             reads,
             agreed,
             agreed_versions,
+            counts,
             row,
         );
         i += 1;
@@ -146,6 +161,7 @@ fn fill_and_publish(
     reads: &mut [u32],
     agreed: &mut [u32],
     agreed_versions: &mut [u32],
+    counts: &mut [u16],
     rows: &[[u32; 5]],
     file: &mut [u8],
 ) -> Published {
@@ -159,6 +175,7 @@ fn fill_and_publish(
         reads,
         agreed,
         agreed_versions,
+        counts,
         rows,
     );
     publishing::publish(
@@ -171,6 +188,7 @@ fn fill_and_publish(
         reads,
         agreed,
         agreed_versions,
+        counts,
         file,
     )
 }
@@ -186,6 +204,7 @@ fn publish_lent(
     reads: &mut [u32],
     agreed: &mut [u32],
     agreed_versions: &mut [u32],
+    counts: &mut [u16],
     rows: &[[u32; 5]],
     file: &mut [u8],
 ) -> Published {
@@ -199,6 +218,7 @@ fn publish_lent(
         reads,
         agreed,
         agreed_versions,
+        counts,
     );
     if let Opened::Refused(n) = opened {
         return Published::Refused(n);
@@ -213,6 +233,7 @@ fn publish_lent(
         reads,
         agreed,
         agreed_versions,
+        counts,
         rows,
         file,
     )
@@ -228,6 +249,7 @@ pub fn publish_rows(head: Head, rows: &[[u32; 5]], file: &mut [u8]) -> Published
     let mut reads = [0u32; 30];
     let mut agreed = [0u32; 1392];
     let mut agreed_versions = [0u32; 1392];
+    let mut counts = [0u16; 29];
     let n = slots_of(head);
     let d = days_of(head);
     publish_lent(
@@ -240,6 +262,7 @@ pub fn publish_rows(head: Head, rows: &[[u32; 5]], file: &mut [u8]) -> Published
         &mut reads[..d + 1],
         &mut agreed[..n],
         &mut agreed_versions[..n],
+        &mut counts[..d],
         rows,
         file,
     )

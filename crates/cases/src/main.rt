@@ -19,6 +19,7 @@ fn main() {
     files::slot_alone();
     answers::late();
     answers::lowest();
+    answers::counted();
     outcomes::agreed();
     files::agreed();
     answers::agreed();

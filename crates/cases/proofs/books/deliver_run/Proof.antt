@@ -1,17 +1,17 @@
 -- `books::deliver_run`: the lists keep their lengths.
 use mathlib.Core.Path.{_≡_}
-use Prim.Native.Nat.{_-_, _≤_}
+use Prim.Native.Nat.{_-_}
 use lib.ListN.{length}
 use borrow.Author.Needs.{needs}
 use Rattle.cases.proofs.books.deliver_run.Statement.{statement}
 use Rattle.cases.proofs.books.deliver_run.Tie as tie
 
 abbrev Inv-loop : tie.InvT-loop
-Inv-loop head values₀ versions₀ statuses₀ first end value status slot₀ values versions statuses slot =
-    (length values ≡ length values₀) × (length versions ≡ length versions₀) × (length statuses ≡ length statuses₀)
+Inv-loop head values₀ versions₀ statuses₀ counts₀ first end value status slot₀ values versions statuses counts slot =
+    (length values ≡ length values₀) × (length versions ≡ length versions₀) × (length statuses ≡ length statuses₀) × (length counts ≡ length counts₀)
 
 abbrev μ-loop : tie.MeasureT-loop
-μ-loop head values₀ versions₀ statuses₀ first end value status slot₀ values versions statuses slot = end - slot
+μ-loop head values₀ versions₀ statuses₀ counts₀ first end value status slot₀ values versions statuses counts slot = end - slot
 
 loop-holds : tie.Need-loop-holds Inv-loop μ-loop
 loop-holds c = search needs
@@ -37,6 +37,9 @@ same-length-2 c = search needs
 same-length-3 : tie.Need-same-length-3 Inv-loop μ-loop
 same-length-3 c = search needs
 
+same-length-4 : tie.Need-same-length-4 Inv-loop μ-loop
+same-length-4 c = search needs
+
 returns : tie.Need-returns Inv-loop μ-loop
 returns c = search needs
 
@@ -54,4 +57,5 @@ deliver-run-spec =
     same-length
     same-length-2
     same-length-3
+    same-length-4
     returns)

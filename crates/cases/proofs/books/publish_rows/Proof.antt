@@ -65,6 +65,12 @@ array-borrow-prefix-agreed-versions c = search needs
 slice-aggregate-publish-lent-8 : tie.Need-slice-aggregate-publish-lent-8
 slice-aggregate-publish-lent-8 c = sym (length-take-le _ _ (search needs))
 
+array-borrow-prefix-counts : tie.Need-array-borrow-prefix-counts
+array-borrow-prefix-counts c = search needs
+
+slice-aggregate-publish-lent-9 : tie.Need-slice-aggregate-publish-lent-9
+slice-aggregate-publish-lent-9 c = sym (length-take-le _ _ (search needs))
+
 publish-lent-requires : tie.Need-publish-lent-requires
 publish-lent-requires c κs = search needs
 
@@ -98,6 +104,8 @@ publish-rows-spec =
     slice-aggregate-publish-lent-7
     array-borrow-prefix-agreed-versions
     slice-aggregate-publish-lent-8
+    array-borrow-prefix-counts
+    slice-aggregate-publish-lent-9
     publish-lent-requires
     same-length
     returns)
