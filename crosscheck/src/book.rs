@@ -1,9 +1,9 @@
-//! The calls over the eight lent lists: opening, the four filling calls, publishing.
+//! The calls over the nine lent lists: opening, the four filling calls, publishing.
 
 use std::cmp::Ordering;
 
 use crate::file;
-use crate::head::{DIAL, Head};
+use crate::head::{DIAL, Head, Shape};
 use crate::refusal;
 use crate::rules::{self, Cells};
 
@@ -33,12 +33,14 @@ pub fn open(
     read_versions: &mut [u32],
     agreed: &mut [u32],
     agreed_versions: &mut [u32],
+    counts: &mut [u16],
 ) -> Result<(), u8> {
     let shape = head.shape()?;
     lengths(&[values.len(), versions.len(), statuses.len()], shape.slots)?;
     lengths(&[holidays.len()], shape.days)?;
     lengths(&[readings.len(), read_versions.len()], shape.days + 1)?;
     lengths(&[agreed.len(), agreed_versions.len()], shape.slots)?;
+    lengths(&[counts.len()], shape.days)?;
     values.fill(0);
     versions.fill(0);
     statuses.fill(0);
@@ -47,16 +49,18 @@ pub fn open(
     read_versions.fill(0);
     agreed.fill(0);
     agreed_versions.fill(0);
+    counts.fill(0);
     Ok(())
 }
 
-/// Takes a delivery for one slot.
-#[allow(clippy::too_many_arguments)] // the lists and the arguments as 01 names them
+/// Takes a delivery for one slot; a slot's first one raises its day's count.
+#[allow(clippy::too_many_arguments)] // the lists and the arguments as 01 and 02 name them
 pub fn deliver(
     head: Head,
     values: &mut [u32],
     versions: &mut [u32],
     statuses: &mut [u8],
+    counts: &mut [u16],
     slot: u32,
     version: u32,
     value: u32,
@@ -64,6 +68,7 @@ pub fn deliver(
 ) -> Result<Filed, u8> {
     let shape = head.shape()?;
     lengths(&[values.len(), versions.len(), statuses.len()], shape.slots)?;
+    lengths(&[counts.len()], shape.days)?;
     let slot = slot as usize;
     refuse_if(slot >= shape.slots, refusal::PLACE)?;
     refuse_if(version == 0, refusal::VERSION)?;
@@ -73,8 +78,13 @@ pub fn deliver(
         !slot_possible(values[slot], versions[slot], statuses[slot]),
         refusal::CELL,
     )?;
+    let first = versions[slot] == 0;
+    let count = &mut counts[slot / shape.slots_a_day];
+    let full = usize::from(*count) >= shape.slots_a_day;
+    refuse_if(first && full, refusal::CELL)?;
     let filed = filed(version, versions[slot], (value, status) == cell)?;
     if filed == Filed::Stored {
+        *count += u16::from(first);
         values[slot] = value;
         versions[slot] = version;
         statuses[slot] = status;
@@ -152,7 +162,7 @@ pub fn agree(
 }
 
 /// Writes the file to the front of `out` and answers its length.
-#[allow(clippy::too_many_arguments)] // the lists and the arguments as 01 names them
+#[allow(clippy::too_many_arguments)] // the lists and the arguments as 01 and 02 name them
 pub fn publish(
     head: Head,
     values: &[u32],
@@ -163,6 +173,7 @@ pub fn publish(
     read_versions: &[u32],
     agreed: &[u32],
     agreed_versions: &[u32],
+    counts: &[u16],
     out: &mut [u8],
 ) -> Result<usize, u8> {
     let shape = head.shape()?;
@@ -170,6 +181,7 @@ pub fn publish(
     lengths(&[holidays.len()], shape.days)?;
     lengths(&[readings.len(), read_versions.len()], shape.days + 1)?;
     lengths(&[agreed.len(), agreed_versions.len()], shape.slots)?;
+    lengths(&[counts.len()], shape.days)?;
     let cells = Cells {
         values,
         versions,
@@ -182,6 +194,7 @@ pub fn publish(
     };
     // In publishing, 11 goes before 7.
     refuse_if(!all_possible(&cells), refusal::CELL)?;
+    refuse_if(!counted(&shape, versions, counts), refusal::CELL)?;
     let (slots, spans) = rules::outcomes(&shape, &cells);
     let length = file::length(slots.len(), spans.len());
     refuse_if(out.len() < length, refusal::BUFFER)?;
@@ -232,4 +245,13 @@ fn all_possible(cells: &Cells) -> bool {
     let agreed =
         (0..cells.agreed.len()).all(|i| agreed_possible(cells.agreed[i], cells.agreed_versions[i]));
     slots && holidays && registers && agreed
+}
+
+/// Whether each day's count is the number of its delivered slots.
+fn counted(shape: &Shape, versions: &[u32], counts: &[u16]) -> bool {
+    let days = versions.chunks_exact(shape.slots_a_day);
+    days.zip(counts).all(|(day, &count)| {
+        let delivered = day.iter().filter(|&&version| version != 0).count();
+        usize::from(count) == delivered
+    })
 }

@@ -3,7 +3,7 @@
 use crate::head::Head;
 use crate::rules::Cells;
 
-/// The eight lists, owned by the caller.
+/// The nine lists, owned by the caller.
 #[derive(Clone, Debug, Default, PartialEq, Eq)]
 pub struct Lists {
     pub values: Vec<u32>,
@@ -14,6 +14,7 @@ pub struct Lists {
     pub read_versions: Vec<u32>,
     pub agreed: Vec<u32>,
     pub agreed_versions: Vec<u32>,
+    pub counts: Vec<u16>,
 }
 
 #[derive(Clone, Copy, Debug, PartialEq, Eq)]
@@ -26,10 +27,11 @@ pub enum List {
     ReadVersions,
     Agreed,
     AgreedVersions,
+    Counts,
 }
 
 impl List {
-    pub const ALL: [List; 8] = [
+    pub const ALL: [List; 9] = [
         List::Values,
         List::Versions,
         List::Statuses,
@@ -38,6 +40,7 @@ impl List {
         List::ReadVersions,
         List::Agreed,
         List::AgreedVersions,
+        List::Counts,
     ];
 }
 
@@ -56,6 +59,7 @@ impl Lists {
             read_versions: words(days + 1),
             agreed: words(slots),
             agreed_versions: words(slots),
+            counts: (0..days).map(|i| word(i) as u16).collect(),
         }
     }
 
@@ -69,6 +73,7 @@ impl Lists {
             read_versions: vec![0; days + 1],
             agreed: vec![0; slots],
             agreed_versions: vec![0; slots],
+            counts: vec![0; days],
         }
     }
 
@@ -81,6 +86,15 @@ impl Lists {
         self.read_versions.fill(0);
         self.agreed.fill(0);
         self.agreed_versions.fill(0);
+        self.counts.fill(0);
+    }
+
+    /// Sets the counts to the numbers of delivered slots.
+    pub fn recount(&mut self, slots_a_day: usize) {
+        let days = self.versions.chunks(slots_a_day);
+        for (count, day) in self.counts.iter_mut().zip(days) {
+            *count = day.iter().filter(|&&version| version != 0).count() as u16;
+        }
     }
 
     pub fn cells(&self) -> Cells<'_> {
@@ -106,6 +120,7 @@ impl Lists {
             List::ReadVersions => self.read_versions.len(),
             List::Agreed => self.agreed.len(),
             List::AgreedVersions => self.agreed_versions.len(),
+            List::Counts => self.counts.len(),
         }
     }
 
@@ -123,6 +138,7 @@ impl Lists {
             List::ReadVersions => self.read_versions[index] = value,
             List::Agreed => self.agreed[index] = value,
             List::AgreedVersions => self.agreed_versions[index] = value,
+            List::Counts => self.counts[index] = value as u16,
         }
     }
 
@@ -137,6 +153,7 @@ impl Lists {
             List::ReadVersions => self.read_versions.resize(len, 0),
             List::Agreed => self.agreed.resize(len, 0),
             List::AgreedVersions => self.agreed_versions.resize(len, 0),
+            List::Counts => self.counts.resize(len, 0),
         }
     }
 
@@ -153,6 +170,7 @@ impl Lists {
                 let (one, two) = (&self.agreed_versions, &other.agreed_versions);
                 words("agreed_versions", one, two)
             })
+            .or_else(|| words("counts", &self.counts, &other.counts))
     }
 }
 
@@ -214,7 +232,7 @@ impl Act {
     pub fn lent(&self) -> &'static [List] {
         match self {
             Act::Open | Act::Publish { .. } => &List::ALL,
-            Act::Deliver { .. } => &[List::Values, List::Versions, List::Statuses],
+            Act::Deliver { .. } => &[List::Values, List::Versions, List::Statuses, List::Counts],
             Act::Holiday { .. } => &[List::Holidays],
             Act::Register { .. } => &[List::Readings, List::ReadVersions],
             Act::Agree { .. } => &[List::Agreed, List::AgreedVersions],

@@ -75,6 +75,7 @@ const CLASSES: &[(&str, &[&str])] = &[
             "read versions",
             "agreed",
             "agreed versions",
+            "counts",
         ],
     ),
     (
@@ -474,6 +475,7 @@ impl Counts {
             List::ReadVersions => "read versions",
             List::Agreed => "agreed",
             List::AgreedVersions => "agreed versions",
+            List::Counts => "counts",
         };
         self.add("list of a wrong length", name);
     }

@@ -35,6 +35,8 @@ unsafe extern "C" {
         agreed_len: usize,
         agreed_versions: *mut u32,
         agreed_versions_len: usize,
+        counts: *mut u16,
+        counts_len: usize,
     ) -> u32;
 
     fn sawmauve_deliver(
@@ -51,6 +53,8 @@ unsafe extern "C" {
         versions_len: usize,
         statuses: *mut u8,
         statuses_len: usize,
+        counts: *mut u16,
+        counts_len: usize,
         slot: u32,
         version: u32,
         value: u32,
@@ -128,6 +132,8 @@ unsafe extern "C" {
         agreed_len: usize,
         agreed_versions: *const u32,
         agreed_versions_len: usize,
+        counts: *const u16,
+        counts_len: usize,
         out: *mut u8,
         out_len: usize,
     ) -> u64;
@@ -231,6 +237,8 @@ pub fn open(head: Head, lists: &mut Lists) -> u32 {
             lists.agreed.len(),
             lists.agreed_versions.as_mut_ptr(),
             lists.agreed_versions.len(),
+            lists.counts.as_mut_ptr(),
+            lists.counts.len(),
         )
     }
 }
@@ -240,6 +248,7 @@ pub fn deliver(
     values: &mut [u32],
     versions: &mut [u32],
     statuses: &mut [u8],
+    counts: &mut [u16],
     delivery: Delivery,
 ) -> u32 {
     unsafe {
@@ -257,6 +266,8 @@ pub fn deliver(
             versions.len(),
             statuses.as_mut_ptr(),
             statuses.len(),
+            counts.as_mut_ptr(),
+            counts.len(),
             delivery.slot,
             delivery.version,
             delivery.value,
@@ -360,6 +371,8 @@ pub fn publish(head: Head, lists: &Lists, out: &mut [u8]) -> u64 {
             lists.agreed.len(),
             lists.agreed_versions.as_ptr(),
             lists.agreed_versions.len(),
+            lists.counts.as_ptr(),
+            lists.counts.len(),
             out.as_mut_ptr(),
             out.len(),
         )
@@ -518,9 +531,10 @@ impl Side for Host {
             values,
             versions,
             statuses,
+            counts,
             ..
         } = lists;
-        filed(deliver(head, values, versions, statuses, delivery))
+        filed(deliver(head, values, versions, statuses, counts, delivery))
     }
 
     fn holiday(&self, head: Head, lists: &mut Lists, day: u32) -> Answer {

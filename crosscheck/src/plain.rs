@@ -114,6 +114,12 @@ impl Plain {
         }
     }
 
+    /// How many slots of a day have a kept delivery.
+    pub fn count(&self, day: u32, slots_a_day: u32) -> u16 {
+        let slots = day * slots_a_day..(day + 1) * slots_a_day;
+        self.deliveries.range(slots).count() as u16
+    }
+
     /// Agreed value and version of a slot at the end; zeros if no call is kept.
     pub fn agreed(&self, slot: u32) -> (u32, u32) {
         match self.agreed.get(&slot).and_then(|kept| highest(kept)) {

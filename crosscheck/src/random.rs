@@ -696,7 +696,7 @@ impl Maker {
         let len = match list {
             List::Values | List::Versions | List::Statuses => self.shape.slots,
             List::Agreed | List::AgreedVersions => self.shape.slots,
-            List::Holidays => self.shape.days,
+            List::Holidays | List::Counts => self.shape.days,
             List::Readings | List::ReadVersions => self.shape.days + 1,
         };
         let day = self.shape.slots_a_day;
@@ -804,7 +804,7 @@ impl Maker {
             let status = self.rng.pick(&[0, 0, 8]);
             let reading = self.rng.pick(&[0, 1, DIAL]);
             self.push(match list {
-                List::Values | List::Versions | List::Statuses => Act::Deliver {
+                List::Values | List::Versions | List::Statuses | List::Counts => Act::Deliver {
                     slot: slot as u32,
                     version,
                     value: word,

@@ -222,6 +222,9 @@ impl Run<'_> {
                     None if stored => (value, version, status),
                     None => return,
                 };
+                if let Some((day, count)) = self.expected_count(call, answer) {
+                    self.expected.write(List::Counts, day, count.into());
+                }
                 let at = slot as usize;
                 self.expected.write(List::Values, at, cell.0);
                 self.expected.write(List::Versions, at, cell.1);
@@ -266,6 +269,26 @@ impl Run<'_> {
             }
             Act::Open | Act::Publish { .. } | Act::Write { .. } => {}
         }
+    }
+
+    /// The day and its count after an accepted delivery; before it, the cells are as they were.
+    fn expected_count(&self, call: &Call, answer: Answer) -> Option<(usize, u16)> {
+        let Act::Deliver { slot, .. } = call.act else {
+            return None;
+        };
+        let Answer::Filed(filed) = answer else {
+            return None;
+        };
+        let n = call.head.shape().ok()?.slots_a_day;
+        let day = slot as usize / n;
+        let count = match &self.plain {
+            Some(plain) => plain.count(day as u32, n as u32),
+            None => {
+                let first = filed == Filed::Stored && self.expected.versions[slot as usize] == 0;
+                self.expected.counts[day].wrapping_add(first.into())
+            }
+        };
+        Some((day, count))
     }
 
     fn written_aside(&mut self, call: &Call) {
@@ -387,7 +410,7 @@ fn wrong_length(shape: &Shape, act: &Act, lists: &Lists) -> bool {
         let wanted = match list {
             List::Values | List::Versions | List::Statuses => shape.slots,
             List::Agreed | List::AgreedVersions => shape.slots,
-            List::Holidays => shape.days,
+            List::Holidays | List::Counts => shape.days,
             List::Readings | List::ReadVersions => shape.days + 1,
         };
         lists.len_of(list) != wanted

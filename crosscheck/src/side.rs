@@ -126,6 +126,7 @@ impl Side for Second {
             &mut lists.read_versions,
             &mut lists.agreed,
             &mut lists.agreed_versions,
+            &mut lists.counts,
         );
         match result {
             Ok(()) => Answer::Done,
@@ -139,6 +140,7 @@ impl Side for Second {
             &mut lists.values,
             &mut lists.versions,
             &mut lists.statuses,
+            &mut lists.counts,
             delivery.slot,
             delivery.version,
             delivery.value,
@@ -183,6 +185,7 @@ impl Side for Second {
             &lists.read_versions,
             &lists.agreed,
             &lists.agreed_versions,
+            &lists.counts,
             out,
         );
         match result {

@@ -220,6 +220,8 @@ impl Meddled {
     /// The cells as a build with this slip would take them.
     fn meddled(&self, head: Head, lists: &Lists) -> Lists {
         let mut lists = lists.clone();
+        let n = head.shape().map_or(1, |shape| shape.slots_a_day);
+        let counted = lists.counts == recounted(&lists, n).counts;
         if self.0 == Meddling::AgreedIgnored {
             lists.agreed_versions.fill(0);
             lists.agreed.fill(0);
@@ -245,8 +247,15 @@ impl Meddled {
                 lists.statuses[slot],
             ) = cell;
         }
-        lists
+        // The slip is about the cells above: right counts stay right.
+        if counted { recounted(&lists, n) } else { lists }
     }
+}
+
+fn recounted(lists: &Lists, slots_a_day: usize) -> Lists {
+    let mut lists = lists.clone();
+    lists.recount(slots_a_day);
+    lists
 }
 
 /// The slots with an agreed value, good ones or those with a cause.

@@ -165,6 +165,7 @@ fn late_is_no_refusal() {
             &mut lists.values,
             &mut lists.versions,
             &mut lists.statuses,
+            &mut lists.counts,
             3,
             version,
             9,

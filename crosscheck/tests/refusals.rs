@@ -90,7 +90,7 @@ fn two_is_a_list_of_a_wrong_length() {
             let agreed = agree(HEAD, &mut lists, (MAX, 0, MAX));
             // Each call is lent its own lists only, and 2 is about those.
             let numbers = match list {
-                List::Values | List::Versions | List::Statuses => (2, 3, 3, 3),
+                List::Values | List::Versions | List::Statuses | List::Counts => (2, 3, 3, 3),
                 List::Readings | List::ReadVersions => (3, 2, 3, 3),
                 List::Holidays => (3, 3, 2, 3),
                 List::Agreed | List::AgreedVersions => (3, 3, 3, 2),

@@ -27,6 +27,7 @@ pub fn open(head: Head, lists: &mut Lists) -> Result<(), u8> {
         &mut lists.read_versions,
         &mut lists.agreed,
         &mut lists.agreed_versions,
+        &mut lists.counts,
     )
 }
 
@@ -40,6 +41,7 @@ pub fn deliver(
         &mut lists.values,
         &mut lists.versions,
         &mut lists.statuses,
+        &mut lists.counts,
         slot,
         version,
         value,
@@ -88,6 +90,7 @@ pub fn publish(head: Head, lists: &Lists, out: &mut [u8]) -> Result<usize, u8> {
         &lists.read_versions,
         &lists.agreed,
         &lists.agreed_versions,
+        &lists.counts,
         out,
     )
 }
