@@ -5,6 +5,7 @@ use std::fmt;
 
 use crate::book::{Filed, MOST_AGREED};
 use crate::calls::{Act, Book, List, Lists};
+use crate::day_census;
 use crate::head::{Head, Shape};
 use crate::reader::{Fault, Figures};
 use crate::side::Answer;
@@ -228,6 +229,24 @@ const CLASSES: &[(&str, &[&str])] = &[
             "agree refused 11, beside version 0",
             "publish refused 11, agreed over 99,999,999",
             "publish refused 11, agreed beside version 0",
+        ],
+    ),
+    (day_census::FIRST, day_census::FIRST_NAMES),
+    (day_census::PUBLISH, day_census::PUBLISH_NAMES),
+    (
+        "count",
+        &[
+            "day filled by a first delivery",
+            "room for one on an emptier day",
+            "raised though wrong",
+            "later version on a full day",
+            "late on a full day",
+            "repeat on a full day",
+            "conflict on a full day",
+            "later version, count over n",
+            "empty day published",
+            "full day published",
+            "count over 255 published",
         ],
     ),
     (

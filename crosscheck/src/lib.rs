@@ -5,7 +5,7 @@
 //! of 02: `dial`, `strips`, `stays`, `limits`, `market`.
 //! What it is held against: `plain`, `definition`, `acceptance`, and `host` when linked.
 //! The comparison: `calls`, `random`, `heads`, `damage`, `side`, `run`, `shrink`, `counts`, `census`,
-//! `run_census`;
+//! `run_census`, `day_census`;
 //! the smaller ones of 02: `tries`, `dial_tries`, `strips_tries`, `stays_tries`, `date_tries`,
 //! `limit_tries`, `market_tries` with `market_files`, `market_back` and `nem12_reader`.
 #![deny(unsafe_code)]
@@ -17,6 +17,7 @@ pub mod census;
 pub mod counts;
 pub mod damage;
 pub mod date_tries;
+pub mod day_census;
 pub mod definition;
 pub mod dial;
 pub mod dial_tries;

@@ -163,6 +163,8 @@ impl Maker {
         self.publishing(opened);
         if self.rng.one_in(6) {
             self.corruption();
+        } else if self.rng.one_in(3) {
+            self.wrong_counts();
         }
         self.finish()
     }
@@ -182,6 +184,7 @@ impl Maker {
             1 => self.rng.shuffle(&mut order),
             _ => {}
         }
+        let mut acts = Vec::new();
         for slot in order {
             let mut value = self.value(profile, slot);
             let beside_gap = slot > 0 && !delivered[slot - 1]
@@ -206,10 +209,35 @@ impl Maker {
                 status,
             };
             self.push(act);
+            acts.push((slot, act));
             if self.rng.one_in(repeating) {
                 let again = self.again(act);
                 self.push(again);
             }
+        }
+        self.again_on_full_days(&delivered, &acts);
+    }
+
+    /// A few deliveries again when all have come; of full days, where there are any.
+    fn again_on_full_days(&mut self, delivered: &[bool], acts: &[(usize, Act)]) {
+        let n = self.shape.slots_a_day;
+        let full: Vec<bool> = delivered
+            .chunks(n)
+            .map(|day| !day.contains(&false))
+            .collect();
+        let any_full = full.contains(&true);
+        let from: Vec<Act> = acts
+            .iter()
+            .filter(|&&(slot, _)| full[slot / n] == any_full)
+            .map(|&(_, act)| act)
+            .collect();
+        if from.is_empty() || !self.rng.one_in(3) {
+            return;
+        }
+        for _ in 0..1 + self.rng.below(5) {
+            let act = self.rng.pick(&from);
+            let again = self.again(act);
+            self.push(again);
         }
     }
 
@@ -823,6 +851,11 @@ impl Maker {
                 },
             });
         }
+        self.publish_and_reopen();
+    }
+
+    /// Publishings after a cell was written, more calls, and a new opening.
+    fn publish_and_reopen(&mut self) {
         self.push(Act::Publish { room: Room::Exact });
         self.push(Act::Publish { room: Room::Of(5) });
         self.wild_calls(3);
@@ -831,6 +864,111 @@ impl Maker {
             self.wild_calls(3);
             self.push(Act::Publish { room: Room::Exact });
         }
+    }
+
+    // Counts
+
+    /// Counts no calls could leave, the calls that meet them, and right ones again.
+    fn wrong_counts(&mut self) {
+        let lists = self.lists_now();
+        let slots = self.shape.slots;
+        let start = self.rng.below(slots);
+        let waiting = (start..slots)
+            .chain(0..start)
+            .find(|&slot| lists.versions[slot] == 0);
+        match waiting {
+            Some(slot) if self.rng.one_in(2) => self.full_too_early(&lists, slot),
+            _ => self.miscounted(&lists),
+        }
+        if self.rng.one_in(2) {
+            return self.publish_and_reopen();
+        }
+        self.push(Act::Publish { room: Room::Exact });
+        let mut right = self.lists_now();
+        let counts = right.counts.clone();
+        right.recount(self.shape.slots_a_day);
+        for (day, count) in counts.into_iter().enumerate() {
+            if right.counts[day] != count {
+                self.write_count(day, right.counts[day].into());
+            }
+        }
+        self.push(Act::Publish { room: Room::Exact });
+    }
+
+    fn write_count(&mut self, index: usize, value: u32) {
+        let list = List::Counts;
+        self.push(Act::Write { list, index, value });
+    }
+
+    /// No room in the day of a slot that waits for its first delivery, or for one only.
+    fn full_too_early(&mut self, lists: &Lists, slot: usize) {
+        let n = self.shape.slots_a_day;
+        let (full, day) = (n as u32, slot / n);
+        let any = self.rng.between(full, 65_535);
+        let count = [
+            full,
+            full,
+            full + 1,
+            full + 1,
+            65_535,
+            65_535,
+            full - 1,
+            any,
+        ];
+        let count = self.rng.pick(&count);
+        self.write_count(day, count);
+        let in_day = day * n..(day + 1) * n;
+        let is_waiting = |&slot: &usize| lists.versions[slot] == 0;
+        let mut slots = vec![slot, slot];
+        // One that has come, and another that hasn't.
+        slots.extend(in_day.clone().find(|slot| !is_waiting(slot)));
+        slots.extend(in_day.clone().rev().find(is_waiting));
+        self.rng.shuffle(&mut slots);
+        for slot in slots {
+            let version = lists.versions[slot];
+            let any = self.rng.word();
+            let act = Act::Deliver {
+                slot: slot as u32,
+                version: self.rng.pick(&[version.saturating_add(1), 1, any]),
+                value: self.rng.pick(&[0, 5, lists.values[slot]]),
+                status: self.rng.pick(&[0, 0, 0, lists.statuses[slot], 8]),
+            };
+            self.push(act);
+        }
+    }
+
+    /// A day counted wrong, or two days so that the sum is right.
+    fn miscounted(&mut self, lists: &Lists) {
+        let days = self.shape.days;
+        let any = self.rng.below(days);
+        let day = self.rng.pick(&[0, 0, days / 2, days - 1, any]);
+        let count = u32::from(lists.counts[day]);
+        let other = (0..days).find(|&other| other != day && lists.counts[other] > 0);
+        let wrong = match self.rng.below(12) {
+            0..4 if count > 0 => count - 1,
+            4 => count + 256,
+            5 => 65_535,
+            6 | 7 => {
+                if let Some(other) = other {
+                    self.write_count(other, u32::from(lists.counts[other]) - 1);
+                }
+                count + 1
+            }
+            _ => count + 1,
+        };
+        self.write_count(day, wrong);
+    }
+
+    /// The cells as all calls so far leave them.
+    fn lists_now(&self) -> Lists {
+        let mut lists = Lists::unopened(self.shape.slots, self.shape.days);
+        for call in &self.calls {
+            let publish = matches!(call.act, Act::Publish { .. });
+            if call.resized.is_none() && !publish {
+                apply(&Second, call, &mut lists, &mut []);
+            }
+        }
+        lists
     }
 }
 

@@ -5,6 +5,7 @@ use crate::book::Filed;
 use crate::calls::{Act, Book, Call, List, Lists, Room};
 use crate::census;
 use crate::counts::Counts;
+use crate::day_census::{self, Before};
 use crate::definition::Definition;
 use crate::file;
 use crate::head::Shape;
@@ -84,11 +85,18 @@ impl Run<'_> {
     fn step_whole(&mut self, call: &Call, counts: &mut Counts) -> Result<(), String> {
         let room = room(call, &self.second);
         let mut out = pattern(room);
+        let before = Before::of(call, &self.second);
         let answer = apply(&Second, call, &mut self.second, &mut out);
         self.compare_with_other(call, answer, &out)?;
         match answer {
             Some(answer) => {
                 counts.answer(&call.act, answer);
+                if let Some(before) = before {
+                    before.count(answer, counts);
+                }
+                if let Act::Publish { .. } = call.act {
+                    day_census::published(call, &self.second, answer, room, counts);
+                }
                 if answer == Answer::Refused(1) {
                     counts.limit_refused(call.head);
                 }
@@ -171,6 +179,9 @@ impl Run<'_> {
             let opened = plain.open(call.head);
             self.plain = Some(plain);
             return opened.ok().map(|()| Answer::Done);
+        }
+        if impossible_count(&shape, &call.act, &self.expected) {
+            return Some(Answer::Refused(11));
         }
         let plain = self.plain.as_mut()?;
         match call.act {
@@ -415,6 +426,35 @@ fn wrong_length(shape: &Shape, act: &Act, lists: &Lists) -> bool {
         };
         lists.len_of(list) != wanted
     })
+}
+
+/// Whether W6 gives 11 for a count: of the day of a slot that waits for its first delivery,
+/// with arguments in bounds, or of any day where it isn't the number of delivered slots.
+fn impossible_count(shape: &Shape, act: &Act, lists: &Lists) -> bool {
+    let n = shape.slots_a_day;
+    match *act {
+        Act::Deliver {
+            slot,
+            version,
+            status,
+            ..
+        } => {
+            let slot = slot as usize;
+            slot < shape.slots
+                && version > 0
+                && status < 8
+                && lists.versions[slot] == 0
+                && lists.counts[slot / n] as usize >= n
+        }
+        Act::Publish { .. } => {
+            let mut left: Vec<i64> = lists.counts.iter().map(|&count| count.into()).collect();
+            for (slot, &version) in lists.versions.iter().enumerate() {
+                left[slot / n] -= i64::from(version > 0);
+            }
+            left.iter().any(|&left| left != 0)
+        }
+        _ => false,
+    }
 }
 
 /// 6N + 10M + 32 of the lists as they are.
