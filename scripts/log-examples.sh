@@ -1,9 +1,9 @@
 #!/bin/sh
-# Builds publish, answers and show, plays the logs of examples/ and compares; then logs that are none, and logs that come
+# Builds publish, answers, days and show, plays the logs of examples/ and compares; then logs that are none, and logs that come
 # in other pieces. Exits 1 on a difference.
 set -u
 cd "$(dirname "$0")/.."
-rt check publish answers show > /dev/null || { echo "a program is not proved, or differs on its own input"; exit 1; }
+rt check publish answers days show > /dev/null || { echo "a program is not proved, or differs on its own input"; exit 1; }
 work=$(mktemp -d) || exit 2
 trap 'rm -rf "$work"' EXIT
 bad=0
@@ -31,7 +31,7 @@ good() {
 none() {
     cat > "$work/log"
     printf '%s\n' "$2" > "$work/want"
-    for program in publish answers; do
+    for program in publish answers days; do
         "target/bin/$program" < "$work/log" > "$work/out" 2> "$work/err"
         if [ ! -s "$work/out" ] && cmp -s "$work/err" "$work/want"; then ok "$1, $program"; else differs "$1, $program"; fi
     done
@@ -71,6 +71,14 @@ good month '2024-05-01 31 30 1468 15 5 773038' "9 refused${newline}" "1 done${ne
 good drowned '2024-06-10 1 30 39 9 0 26275' "2 refused${newline}" "1 done${newline}1 refused 10${newline}1 refused 12${newline}1 repeat${newline}53 stored${newline}"
 good marina '2024-07-14 1 30 47 1 0 5692669' '' "1 done${newline}50 stored${newline}"
 day=$work/quiet-day
+
+# a line a day: of the month's stored deliveries the first of each slot, counted by its day
+grep '^[a-z]' examples/month.log | paste -d' ' - "$work/month.answers" | awk '
+    $1 == "delivery" && $NF == "stored" && !seen[$2]++ { come[int($2 / 48)]++ }
+    END { for (d = 0; d < 31; d++) printf "2024-05-%02d %d 48\n", d + 1, come[d] }' > "$work/want"
+target/bin/days < examples/month.log > "$work/out" 2> "$work/err"
+same "$work/out" "$work/want" 'month: its days'
+[ -s "$work/err" ] && differs 'month: days on standard error'
 
 printf '%s\nhello\n' "$open" | { none 'not a call' 'line 2: not a call'; exit "$bad"; } || bad=1
 printf '# a comment\n\n%s\nholiday 0\nDelivery 0 1 1 0\n' "$open" | { none 'a keyword in other letters' 'line 5: not a call'; exit "$bad"; } || bad=1
@@ -123,7 +131,7 @@ same "$work/out" "$work/month.file" 'several MB: file'
 target/bin/answers < "$work/large" > "$work/out"
 if [ "$(wc -l < "$work/out")" -eq "$(grep -c '^[a-z]' "$work/large")" ]; then ok 'several MB: answers'; else differs 'several MB: answers'; fi
 
-for program in publish answers; do
+for program in publish answers days; do
     "target/bin/$program" < / > "$work/out" 2> "$work/err"
     if [ ! -s "$work/out" ] && grep -q '^standard input: ' "$work/err"; then ok "a read that fails, $program"; else differs "a read that fails, $program"; fi
     "target/bin/$program" <&- > "$work/out" 2> "$work/err"
