@@ -1,5 +1,5 @@
 -- What a good head bounds.
-use mathlib.Core.Bool.{true}
+use mathlib.Core.Bool.{true, _||_}
 use mathlib.Core.Logic.{⊎-elim}
 use mathlib.Core.Path.{_≡_, refl}
 use Prim.Native.Nat.{ℕ, _+_, _*_, _/_, _^_, _≤_, _<_}
@@ -39,7 +39,7 @@ caps : (l days : ℕ) → intervalOk l ≡ true → days ≤ 400 → 1440 / l * 
 unfolding intervalOk
 caps l days e m =
     ⊎-elim (λ x. rw (eqb-true l 5 x) (omega arith))
-    (λ d. ⊎-elim (λ x. rw (eqb-true l 15 x) (omega arith)) (λ x. rw (eqb-true l 30 x) (omega arith)) (or-parts (eqb l 15) (eqb l 30) d))
+    (λ (d : (eqb l 15 || eqb l 30) ≡ true). ⊎-elim (λ x. rw (eqb-true l 15 x) (omega arith)) (λ x. rw (eqb-true l 30 x) (omega arith)) (or-parts (eqb l 15) (eqb l 30) d))
     (or-parts _ _ e)
 
 module _ (h : Head) where
