@@ -1,3 +1,4 @@
+use Prim.Native.Nat.{_<_}
 -- `limits::load`: 13 before 1, then the limit at the place.
 use mathlib.Core.Path.{sym, _∙_}
 use borrow.Author.Tests.{le-leb, lt-leb, not-true, not-false}
@@ -16,7 +17,8 @@ returns c = rw (sym (c .before .table-ok .ensures) ∙ not-true _ (c .if1 .taken
 
 returns-2 : tie.Need-returns-2
 unfolding loadAnswer
-returns-2 c = rw (sym (c .before .before .table-ok .ensures) ∙ not-false _ (c .before .if1 .left), lt-leb _ _ (c .if2 .taken))
+returns-2 c = let p : c .before .before .before .before .args .kind < 1 = c .if2 .taken in
+    rw (sym (c .before .before .table-ok .ensures) ∙ not-false _ (c .before .if1 .left), lt-leb _ _ p)
 
 returns-3 : tie.Need-returns-3
 unfolding loadAnswer
