@@ -89,6 +89,13 @@ module _ (h : Head) where
   unfolding cap slotCount slotsPerDay
   cap-all b = caps (h .interval) (h .days) (b .interval-good) (b .days-high)
 
+  -- a shape is at most 12 times as much, 6,000,000, and all shapes together 115,200,000,000
+  pub shape-high : Bounded h → 12 * cap ≤ 6000000
+  shape-high b = omega (arith, cap-high b)
+
+  pub shapes-all : Bounded h → slotCount h * (12 * cap) ≤ 115200000000
+  shapes-all b = omega (arith, cap-all b)
+
   -- what a good slot can hold
   pub good-cap : Bounded h → (v : ℕ) → v * 60 ≤ h .limit * h .interval → v ≤ cap
   unfolding cap

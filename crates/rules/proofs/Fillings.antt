@@ -1,5 +1,5 @@
--- What holds of all that the rules of filling can give holds of a filled slot, and so for a slot of a span.
-use mathlib.Core.Bool.{true, _&&_}
+-- The rule that fills a slot; what holds of all that the rules can give holds of a filled slot, and so for a slot of a span.
+use mathlib.Core.Bool.{true, false, _&&_}
 use mathlib.Core.List.{List}
 use mathlib.Core.Logic.{⊎-elim}
 use mathlib.Core.Path.{_≡_}
@@ -13,7 +13,28 @@ use Rattle.rules.specs.Opening.{Slots, Agreed, Cells}
 use Rattle.rules.specs.Tests.{goodAt}
 use Rattle.rules.specs.Filling.{isAgreed, isOutageZero, isLinear, linearValue, references, fromReferences, filledAt}
 use Rattle.rules.specs.Spans.{isS, filled, stateOf, newValue, inSpan}
+use Rattle.rules.specs.Inner.Fills.{agreedOf}
 use Rattle.rules.proofs.Logic.{and-parts, either}
+
+-- the first rule that applies to a slot with a cause
+module _ (h : Head) (s : Slots) (a : Agreed) (holidays : List ℕ) (i : ℕ) (cause : goodAt h s i ≡ false) where
+  pub filled-agreed : isAgreed (a .versions) i ≡ true → agreedOf (getD (a .values) i 0) ≡ filledAt h s a holidays i
+  unfolding filledAt
+  filled-agreed t = rw (cause, t)
+
+  module _ (t : isAgreed (a .versions) i ≡ false) where
+    pub filled-zero : isOutageZero h s i ≡ true → record { value = 0; quality = A; method = 1 } ≡ filledAt h s a holidays i
+    unfolding filledAt
+    filled-zero z = rw (cause, t, z)
+
+    module _ (z : isOutageZero h s i ≡ false) where
+      pub filled-line : (v : ℕ) → v ≡ linearValue h s (a .versions) i → isLinear h s (a .versions) i ≡ true → record { value = v; quality = S; method = 2 } ≡ filledAt h s a holidays i
+      unfolding filledAt
+      filled-line v e l = rw (cause, t, z, l, e)
+
+      pub filled-rest : isLinear h s (a .versions) i ≡ false → fromReferences (references h s holidays i) ≡ filledAt h s a holidays i
+      unfolding filledAt
+      filled-rest l = rw (cause, t, z, l)
 
 module _ (P : Outcome → Type 0) where
   -- a slot before its span is scaled

@@ -9,6 +9,7 @@ pub mod Runs
 pub mod Fillings
 pub mod Small
 pub mod Forms
+pub mod Shapes
 pub mod References
 pub mod Outages
 pub mod Lines

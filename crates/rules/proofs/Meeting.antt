@@ -10,11 +10,13 @@ use Rattle.rules.specs.declared.Head.{Head}
 use Rattle.rules.specs.declared.spans.Summary.{Summary}
 use Rattle.rules.specs.Lists.{sum}
 use Rattle.rules.specs.Opening.{Slots, Agreed, Cells, slotsPerDay}
-use Rattle.rules.specs.Spans.{apart, stateBy, filled, start, slotsIn, R, actual, stateOf, T, allZero, e, E, P, spanOf, isS}
+use Rattle.rules.specs.Spans.{apart, stateBy, filled, shape, start, slotsIn, R, actual, stateOf, T, allZero, e, E, P, spanOf, isS}
 use Rattle.rules.specs.Inner.Lent.{cells}
 use Rattle.rules.specs.Inner.Summaries.{summaryOf, scalingOf}
 use Rattle.rules.specs.Inner.Stretches.{scalingAt, spanStretch, stretchBy}
+use Rattle.rules.proofs.Shapes.{shape-of-s}
 use Rattle.rules.proofs.States.{stated}
+use Rattle.rules.proofs.Sums.{sum-cong}
 
 -- state 1 is given only where R ≥ V
 pub scaled-advance : (hole full : Bool) (r v t : ℕ) → stateBy hole full r v t ≡ 1 → v ≤ r
@@ -26,14 +28,14 @@ module _ (h : Head) (b : Cells) (first last : ℕ) where
   abbrev whole : Summary
   whole = summaryOf h (b .slots) (b .agreed) (b .holidays) (start h b first last) (slotsIn h b first last)
 
-  shape : (ones : Bool) → sum (λ i. cond (isS (filled h b first last i .quality)) (cond ones 1 (filled h b first last i .value)) 0) (start h b first last) (slotsIn h b first last) ≡ cond ones (whole .count) (whole .substituted)
+  weights : (ones : Bool) → sum (λ i. cond (isS (filled h b first last i .quality)) (cond ones 1 (shape h b first last i)) 0) (start h b first last) (slotsIn h b first last) ≡ cond ones (whole .count) (whole .shapes)
   unfolding summaryOf
-  shape true = refl
-  shape false = refl
+  weights true = refl
+  weights false = sum-cong _ _ _ _ (λ i l m. shape-of-s h (b .slots) (b .agreed) (b .holidays) i)
 
   scaling-first : scalingOf whole (R h b first last) ≡ scalingAt h b first last (start h b first last)
   unfolding scalingOf T actual allZero E e P summaryOf sum
-  scaling-first = rw (sub-self, shape (allZero h b first last))
+  scaling-first = rw (sub-self, weights (allZero h b first last))
 
   module _ (m : Summary) (r state : ℕ) (p : m ≡ whole) (q : r ≡ R h b first last) (s : state ≡ stateBy (m .hole) (m .filled) r (m .actual) (h .tolerance)) where
     state-found : state ≡ stateOf h b first last

@@ -8,8 +8,9 @@ use Rattle.rules.specs.declared.Head.{Head}
 use Rattle.rules.specs.declared.Outcome.{Outcome}
 use Rattle.rules.specs.Lists.{sum, any}
 use Rattle.rules.specs.Opening.{Cells}
-use Rattle.rules.specs.Spans.{isS, substitutedIn, filled, start, slotsIn, R, actual, T, allZero, e, E, C, P, newValue}
+use Rattle.rules.specs.Spans.{isS, filled, shape, start, slotsIn, R, actual, T, allZero, e, E, C, P, newValue}
 use Rattle.rules.proofs.Sums.{sum-cong, sum-grows, sum-place, any-place}
+use Rattle.rules.proofs.Shapes.{shape-of-s}
 use Rattle.rules.proofs.Shares.{share-high, share-whole, telescope}
 
 module _ (h : Head) (b : Cells) (first last : ℕ) where
@@ -45,16 +46,16 @@ module _ (h : Head) (b : Cells) (first last : ℕ) where
       let p : C h b first last i ≤ E h b first last = sum-grows (e h b first last) a {j = i + 1 - a} {k = k} (omega arith) in
       omega (arith, share-high (T h b first last) (C h b first last i) (E h b first last) p)
 
-  not-all-zero : allZero h b first last ≡ false → sum (λ i. substitutedIn (before i)) a k ≡ 0 → ⊥
+  not-all-zero : allZero h b first last ≡ false → sum (shape h b first last) a k ≡ 0 → ⊥
   unfolding allZero
   not-all-zero z = eqb-false _ _ z
 
   -- each of them is 0 where they sum to 0
-  pub zero-each : allZero h b first last ≡ true → (i : ℕ) → a ≤ i → i < a + k → substitutedIn (before i) ≡ 0
+  pub zero-each : allZero h b first last ≡ true → (i : ℕ) → a ≤ i → i < a + k → shape h b first last i ≡ 0
   unfolding allZero
   zero-each z i l m =
-      let n : sum (λ j. substitutedIn (before j)) a k ≡ 0 = eqb-true _ _ z in
-      omega (arith, sum-place (λ j. substitutedIn (before j)) a k i l m)
+      let n : sum (shape h b first last) a k ≡ 0 = eqb-true _ _ z in
+      omega (arith, sum-place (shape h b first last) a k i l m)
 
   -- with an S slot E is above 0
   pub shape-positive : any (λ i. isS (before i .quality)) a k ≡ true → 0 < E h b first last
@@ -67,7 +68,7 @@ module _ (h : Head) (b : Cells) (first last : ℕ) where
           let one : e h b first last i ≡ 1 = rw (q, z) in
           omega (arith, sum-place (e h b first last) a k i l m)
       go false z found =
-          let same : sum (e h b first last) a k ≡ sum (λ i. substitutedIn (before i)) a k = sum-cong _ _ _ _ (λ i l m. rw z) in
+          let same : sum (e h b first last) a k ≡ sum (shape h b first last) a k = sum-cong _ _ _ _ (λ i l m. rw z (shape-of-s h (b .slots) (b .agreed) (b .holidays) i)) in
           let n = not-all-zero z in
           omega arith
 

@@ -1,10 +1,10 @@
--- A good or S value is at most what an interval holds at 1,000,000 W, any filled value 99,999,999.
+-- A good or S value is at most what an interval holds at 1,000,000 W, a shape 12 times as much, any filled value 99,999,999.
 use mathlib.Core.Bool.{Bool, true, false, cond, false≢true}
 use mathlib.Core.List.{List, [], _∷_}
 use mathlib.Core.Logic.{⊎-elim}
 use mathlib.Core.Path.{_≡_, refl}
-use Prim.Native.Nat.{ℕ, zero, suc, _+_, _-_, _*_, _/_, _≤_, _<_, zero-le}
-use native.Mathlib.Nat.{div-le-of-le-mul, suc-mul, add-comm, add-le-add}
+use Prim.Native.Nat.{ℕ, zero, suc, _-_, _*_, _/_, _≤_, zero-le}
+use native.Mathlib.Nat.{div-le-of-le-mul, suc-mul, add-comm, add-le-add, mul-le-mul-left}
 use native.Mathlib.Omega.{arith}
 use borrow.Author.Tests.{ltb-false}
 use lib.Dec.{ltb, eqb}
@@ -14,8 +14,7 @@ use Rattle.rules.specs.declared.tests.Cause.the-variants.{Nothing, Gap, 
 use Rattle.rules.specs.Opening.{Slots, Agreed, slotsPerDay}
 use Rattle.rules.specs.Tests.{isGood, timeChangeBit, partialBit, causeOf, causeAt, goodAt}
 use Rattle.rules.specs.Weeks.{firstBack, farthestBack, weeksWithin}
-use Rattle.rules.specs.Filling.{isReference, weeksBack, references, total, meanOf, isLinear, linearValue, fromReferences, filledAt}
-use Rattle.rules.specs.Spans.{isS, substitutedIn}
+use Rattle.rules.specs.Filling.{isReference, weeksBack, references, total, meanOf, isLinear, linearValue, fromReferences, filledAt, shapeOf, shapeAt}
 use Rattle.rules.specs.Inner.Lent.{AgreedLow}
 use Rattle.rules.proofs.Logic.{and-parts, either}
 use Rattle.rules.proofs.Bounds.{Bounded, cap, cap-high, good-cap}
@@ -85,21 +84,28 @@ module _ (h : Head) (b : Bounded h) (s : Slots) where
     unfolding fromReferences meanOf
     mean-small xs p = ⊎-elim (λ e. rw e zero-le) (λ e. rw e (div-le-of-le-mul (length xs) (small-total (cap h) xs p))) (either (eqb (length xs) 0))
 
-    references-small : (i : ℕ) → fromReferences (references h s holidays i) .value ≤ cap h
+    same-day-small : (xs : List ℕ) → small (cap h) xs → shapeOf (fromReferences xs) xs ≤ 12 * cap h
+    unfolding fromReferences shapeOf
+    same-day-small xs p =
+        let l : 12 * total xs ≤ length xs * (12 * cap h) = omega (arith, small-total (cap h) xs p) in
+        ⊎-elim (λ e. rw e zero-le) (λ e. rw e (div-le-of-le-mul (length xs) l)) (either (eqb (length xs) 0))
+
+    references-small : (i : ℕ) → small (cap h) (references h s holidays i)
     unfolding references
     references-small i =
         let d = i / slotsPerDay h in
         let first = firstBack h holidays d in
         let k = weeksWithin first (farthestBack holidays d) in
-        mean-small (take 4 (weeksBack h s holidays first i k)) (small-take (cap h) 4 (weeksBack h s holidays first i k) (weeks-small k first i))
+        small-take (cap h) 4 (weeksBack h s holidays first i k) (weeks-small k first i)
 
   module _ (a : Agreed) (holidays : List ℕ) (i : ℕ) where
-    pub substituted-small : substitutedIn (filledAt h s a holidays i) ≤ cap h
-    substituted-small =
-        filled-by (λ o. substitutedIn o ≤ cap h) h s a holidays i (λ _. zero-le) zero-le zero-le (line-low (a .versions) i)
-        (cond-small (isS (fromReferences (references h s holidays i) .quality)) _ _ (references-small holidays i))
+    pub shape-small : shapeAt h s a holidays i ≤ 12 * cap h
+    unfolding shapeAt shapeOf
+    shape-small =
+        filled-by (λ o. shapeOf o (references h s holidays i) ≤ 12 * cap h) h s a holidays i (λ _. zero-le) zero-le zero-le
+        (λ g. mul-le-mul-left 12 (line-low (a .versions) i g)) (same-day-small holidays _ (references-small holidays i))
 
     pub filled-low : AgreedLow a → filledAt h s a holidays i .value ≤ 99999999
     filled-low low =
         filled-by (λ o. o .value ≤ 99999999) h s a holidays i (λ g. omega (arith, good-small i g, cap-high h b)) (omega (arith, low i)) zero-le
-        (λ g. omega (arith, line-low (a .versions) i g, cap-high h b)) (omega (arith, references-small holidays i, cap-high h b))
+        (λ g. omega (arith, line-low (a .versions) i g, cap-high h b)) (omega (arith, mean-small holidays (references h s holidays i) (references-small holidays i), cap-high h b))

@@ -1,13 +1,13 @@
 -- One slot of the pass: its outcome in the stretch that it lies in, and the stretch that is carried on.
 use mathlib.Core.Bool.{Bool, true, false, cond, and-true, and-false}
 use mathlib.Core.Option.{Option, none, some}
-use mathlib.Core.Path.{_≡_, refl, sym, ap, ap₂, _∙_}
-use Prim.Native.Nat.{ℕ, suc, _+_, _-_, _*_, _/_, _≤_, _<_}
+use mathlib.Core.Path.{_≡_, refl, sym, ap, _∙_}
+use Prim.Native.Nat.{ℕ, suc, _+_, _-_, _*_, _/_, _≤_, _<_, zero-le}
 use native.Mathlib.Nat.{le-div-iff-mul-le, div-lt-iff-lt-mul, add-zero, mul-le-mul, le-refl, le-trans}
 use native.Mathlib.Numerals.{add-one}
 use native.Mathlib.Omega.{arith}
 use borrow.Author.Tests.{ne-eqb}
-use lib.Dec.{eqb, lit≤}
+use lib.Dec.{eqb}
 use Rattle.rules.specs.declared.Head.{Head}
 use Rattle.rules.specs.declared.Outcome.{Outcome}
 use Rattle.rules.specs.declared.Quality.the-variants.{S}
@@ -15,19 +15,19 @@ use Rattle.rules.specs.declared.fills.Filled.{Filled}
 use Rattle.rules.specs.declared.stretch.Entered.{Entered}
 use Rattle.rules.specs.declared.stretch.Stretch.{Stretch}
 use Rattle.rules.specs.Opening.{Cells, slotsPerDay, slotCount}
-use Rattle.rules.specs.Filling.{filledAt}
-use Rattle.rules.specs.Spans.{isS, lastRead, nextRead, filled, start, slotsIn, stateOf, T, allZero, e, E, C, P, newValue, inSpan, between, outcomeAt}
+use Rattle.rules.specs.Filling.{filledAt, shapeAt}
+use Rattle.rules.specs.Spans.{isS, lastRead, nextRead, filled, shape, start, slotsIn, stateOf, T, allZero, e, E, C, P, newValue, inSpan, between, outcomeAt}
 use Rattle.rules.specs.Inner.Summaries.{scaledBy, Scales}
 use Rattle.rules.specs.Inner.Stretches.{unscaledTo, scalingAt, spanStretch, stretchOf, stretchOn, stretchAt, carriedAt, scales, fitOutcome, fitNext, Fits, beginsAt}
 use Rattle.rules.specs.Inner.Fills.{fillsAt}
 use Rattle.rules.specs.Inner.Passes.{passAt, settled, SteppedAt}
-use Rattle.rules.proofs.Bounds.{Bounded, cap, cap-low, cap-all}
+use Rattle.rules.proofs.Bounds.{Bounded, cap, cap-low, shapes-all}
 use Rattle.rules.proofs.Boundaries.{last-tells, next-tells}
 use Rattle.rules.proofs.Forms.{filled-form, method-low}
 use Rattle.rules.proofs.Places.{span-end, slots-within}
 use Rattle.rules.proofs.Outcomes.{advance-low}
 use Rattle.rules.proofs.Scaling.{running, zero-each, shape-positive}
-use Rattle.rules.proofs.Small.{substituted-small}
+use Rattle.rules.proofs.Small.{shape-small}
 use Rattle.rules.proofs.Summaries.{sum-small}
 use Rattle.rules.proofs.Sums.{sum-grows, any-some}
 
@@ -86,6 +86,9 @@ module _ (h : Head) (w : Bounded h) (b : Cells) (i : ℕ) where
     abbrev o : Outcome
     o = filled h b first last i
 
+    abbrev x : ℕ
+    x = shape h b first last i
+
     -- P of the next slot
     passed : P h b first last (suc i) ≡ P h b first last i + e h b first last i
     unfolding P C
@@ -93,19 +96,19 @@ module _ (h : Head) (w : Bounded h) (b : Cells) (i : ℕ) where
 
     module _ (q : isS (o .quality) ≡ true) where
       -- where all e are 0, 1 is added
-      weight : e h b first last i ≡ o .value + cond (allZero h b first last) 1 0
+      weight : e h b first last i ≡ x + cond (allZero h b first last) 1 0
       unfolding e
       weight = rw q (go (allZero h b first last) refl)
         where
-          go : (z : Bool) → allZero h b first last ≡ z → cond z 1 (o .value) ≡ o .value + cond z 1 0
-          go true z = let n : o .value ≡ 0 = rw q at (zero-each h b first last z i l m) in rw n
-          go false z = sym (add-zero (o .value))
+          go : (z : Bool) → allZero h b first last ≡ z → cond z 1 x ≡ x + cond z 1 0
+          go true z = rw (zero-each h b first last z i l m)
+          go false z = sym (add-zero x)
 
-      new-value : scaledBy (o .value) (scalingAt h b first last i) .value ≡ newValue h b first last i
+      new-value : scaledBy x (scalingAt h b first last i) .value ≡ newValue h b first last i
       unfolding scaledBy newValue
       new-value = rw (← weight, ← running h b first last i l)
 
-      scaling-on : scaledBy (o .value) (scalingAt h b first last i) .next ≡ scalingAt h b first last (suc i)
+      scaling-on : scaledBy x (scalingAt h b first last i) .next ≡ scalingAt h b first last (suc i)
       unfolding scaledBy
       scaling-on = rw (← weight, passed)
 
@@ -122,72 +125,72 @@ module _ (h : Head) (w : Bounded h) (b : Cells) (i : ℕ) where
         let z : e h b first last i ≡ 0 = rw q in
         rw (passed, z, add-zero)
 
-  fit-outcome : {before after : Stretch} {x : Outcome} → Slot h b i before x after → fitOutcome (filledAt h (b .slots) (b .agreed) (b .holidays) i) before ≡ x
+  fit-outcome : {before after : Stretch} {x : Outcome} → Slot h b i before x after → fitOutcome (filledAt h (b .slots) (b .agreed) (b .holidays) i) (shapeAt h (b .slots) (b .agreed) (b .holidays) i) before ≡ x
   unfolding fitOutcome
   fit-outcome (unscaled until) = rw and-false
   fit-outcome (scaled first last l m j k) = go (isS (filled h b first last i .quality)) refl
     where
-      go : (q : Bool) → isS (filled h b first last i .quality) ≡ q → fitOutcome (filled h b first last i) (within h b first last i) ≡ newly h b first last i
+      go : (q : Bool) → isS (filled h b first last i .quality) ≡ q → fitOutcome (filled h b first last i) (shape h b first last i) (within h b first last i) ≡ newly h b first last i
       go true q = rw (q, scaling first last l m q, new-value first last l m q)
       go false q = rw q
 
-  fit-next : {before after : Stretch} {x : Outcome} → Slot h b i before x after → fitNext (filledAt h (b .slots) (b .agreed) (b .holidays) i) before ≡ after
+  fit-next : {before after : Stretch} {x : Outcome} → Slot h b i before x after → fitNext (filledAt h (b .slots) (b .agreed) (b .holidays) i) (shapeAt h (b .slots) (b .agreed) (b .holidays) i) before ≡ after
   unfolding fitNext
   fit-next (unscaled until) = rw and-false
   fit-next (scaled first last l m j k) = go (isS (filled h b first last i .quality)) refl
     where
-      go : (q : Bool) → isS (filled h b first last i .quality) ≡ q → fitNext (filled h b first last i) (within h b first last i) ≡ within h b first last (suc i)
+      go : (q : Bool) → isS (filled h b first last i .quality) ≡ q → fitNext (filled h b first last i) (shape h b first last i) (within h b first last i) ≡ within h b first last (suc i)
       go true q = rw (q, scaling first last l m q, scaling-on first last l m q)
       go false q = rw (q, scaling-kept first last l m q)
 
   module _ (first last : ℕ) where
-    e-small : (j : ℕ) → e h b first last j ≤ cap h
+    e-small : (j : ℕ) → e h b first last j ≤ 12 * cap h
     unfolding e
-    e-small j = go (isS (filled h b first last j .quality)) (allZero h b first last) _ (substituted-small h w (b .slots) (b .agreed) (b .holidays) j)
+    e-small j = go (isS (filled h b first last j .quality)) (allZero h b first last) _ (shape-small h w (b .slots) (b .agreed) (b .holidays) j)
       where
-        go : (q z : Bool) (v : ℕ) → cond q v 0 ≤ cap h → cond q (cond z 1 v) 0 ≤ cap h
-        go true true v l = cap-low h w
+        go : (q z : Bool) (v : ℕ) → v ≤ 12 * cap h → cond q (cond z 1 v) 0 ≤ 12 * cap h
+        go true true v l = omega (arith, cap-low h w)
         go true false v l = l
-        go false z v l = l
+        go false z v l = zero-le
 
     -- E fits, and with it the running sums
-    shape-high : first ≤ last → last ≤ h .days → E h b first last ≤ 9600000000
+    whole-high : first ≤ last → last ≤ h .days → E h b first last ≤ 115200000000
     unfolding E start slotsIn
-    shape-high l m =
+    whole-high l m =
         let n : (last - first) * slotsPerDay h ≤ slotCount h = omega (arith, slots-within h first last l m) in
-        le-trans (le-trans (sum-small (e h b first last) (cap h) e-small (first * slotsPerDay h) ((last - first) * slotsPerDay h)) (mul-le-mul n (le-refl _))) (cap-all h w)
+        le-trans (le-trans (sum-small (e h b first last) (12 * cap h) e-small (first * slotsPerDay h) ((last - first) * slotsPerDay h)) (mul-le-mul n (le-refl _))) (shapes-all h w)
 
     room : start h b first last ≤ i → i < start h b first last + slotsIn h b first last → isS (filled h b first last i .quality) ≡ true
-        → P h b first last i + (filled h b first last i .value + cond (allZero h b first last) 1 0) ≤ E h b first last
+        → P h b first last i + (shape h b first last i + cond (allZero h b first last) 1 0) ≤ E h b first last
     unfolding C E
     room l m q =
         rw (← weight first last l m q, ← running h b first last i l)
         (sum-grows (e h b first last) (start h b first last) {j = i + 1 - start h b first last} {k = slotsIn h b first last} (omega arith))
 
   scaled-well : {before after : Stretch} {x : Outcome} → Slot h b i before x after → isS (filledAt h (b .slots) (b .agreed) (b .holidays) i .quality) ≡ true → (before .by .whole ≡ 0 → ⊥)
-      → Scales (filledAt h (b .slots) (b .agreed) (b .holidays) i .value) (before .by)
+      → Scales (shapeAt h (b .slots) (b .agreed) (b .holidays) i) (before .by)
   unfolding T
   scaled-well (unscaled until) q t = absurd (t refl)
   scaled-well (scaled first last l m j k) q t =
       record {
         t-low = omega (arith, advance-low h b first last);
         room = room first last l m q;
-        whole-high = shape-high first last j k;
+        whole-high = whole-high first last j k;
         whole-low = whole-low first last l m q;
       }
 
   -- slot i itself
-  pub step-fits : Fits (filledAt h (b .slots) (b .agreed) (b .holidays) i) (stretchAt h b i)
+  pub step-fits : Fits (filledAt h (b .slots) (b .agreed) (b .holidays) i) (shapeAt h (b .slots) (b .agreed) (b .holidays) i) (stretchAt h b i)
   step-fits = record { method-low = method-low (filled-form h (b .slots) (b .agreed) (b .holidays) i); scales = scaled-well slot }
 
-  module _ (entered : Entered) (new : Filled) (begins : entered .begins ≡ beginsAt h b i) (here : entered .stretch ≡ stretchAt h b i) (outcome : new .outcome ≡ filledAt h (b .slots) (b .agreed) (b .holidays) i) (next : new .next ≡ fillsAt h (b .slots) (b .agreed .versions) (i + 1)) where
-    carried : fitNext (new .outcome) (entered .stretch) ≡ carriedAt h b (i + 1)
-    carried = ap₂ fitNext outcome here ∙ fit-next slot ∙ ap (carriedAt h b) (sym (add-one i))
+  module _ (entered : Entered) (new : Filled) (begins : entered .begins ≡ beginsAt h b i) (here : entered .stretch ≡ stretchAt h b i) (outcome : new .outcome ≡ filledAt h (b .slots) (b .agreed) (b .holidays) i) (shaped : new .shape ≡ shapeAt h (b .slots) (b .agreed) (b .holidays) i) (next : new .next ≡ fillsAt h (b .slots) (b .agreed .versions) (i + 1)) where
+    carried : fitNext (new .outcome) (new .shape) (entered .stretch) ≡ carriedAt h b (i + 1)
+    carried = (λ t. fitNext (outcome t) (shaped t) (here t)) ∙ fit-next slot ∙ ap (carriedAt h b) (sym (add-one i))
 
     pub step-done : SteppedAt h b i (settled entered new)
     unfolding passAt
     step-done = record {
-      outcome = ap₂ fitOutcome outcome here ∙ fit-outcome slot;
+      outcome = (λ t. fitOutcome (outcome t) (shaped t) (here t)) ∙ fit-outcome slot;
       begins = begins;
       next = λ t. record { fills = next t; stretch = carried t };
     }

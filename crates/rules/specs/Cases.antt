@@ -10,7 +10,7 @@ use Rattle.rules.specs.declared.Outcome.{Outcome}
 use Rattle.rules.specs.declared.Quality.{Quality}
 use Rattle.rules.specs.Opening.{Slots, Cells, headOk}
 use Rattle.rules.specs.Tests.{goodAt}
-use Rattle.rules.specs.Filling.{isLinear, linearValue, isReference, references, total, meanOf}
+use Rattle.rules.specs.Filling.{isLinear, linearValue, isReference, references, total, meanOf, fromReferences, shapeOf, shapeAt}
 use Rattle.rules.specs.Spans.{isA, isF, advance, actual, stateOf, outcomeAt}
 
 -- a head of interval 30, limit 40,000 and tolerance 0
@@ -96,6 +96,14 @@ takesSunday first last d =
     eqb (total (references (headOn 2024 5 5 400) (record { values = 620 ∷ []; versions = 1 ∷ []; statuses = 0 ∷ [] })
     (first ∷ (replicate (d - 1) 0 ++ (last ∷ []))) (48 * d))) 620
 
+-- these references give this shape (02, W7)
+abbrev pub shaped : List ℕ → ℕ → Bool
+shaped xs shape = eqb (shapeOf (fromReferences xs) xs) shape
+
+-- and a line from l to r over one gap this
+abbrev pub lineShaped : ℕ → ℕ → ℕ → Bool
+lineShaped l r shape = eqb (shapeAt (headOf 30 40000) (lineDay l 1 r) (record { values = []; versions = [] }) [] 1) shape
+
 unfoldable pub cases : List Bool
 cases =
     passes 40000 30 20000 ∷ not (passes 40000 30 20001)
@@ -125,4 +133,6 @@ cases =
     ∷ not (takesSunday 0 0 6) ∷ takesSunday 0 0 7
     ∷ takesSunday 0 1 370 ∷ not (takesSunday 0 1 371)
     ∷ not (takesSunday 1 1 6)
+    ∷ shaped (1 ∷ 2 ∷ []) 18 ∷ lineShaped 1 1 12
+    ∷ shaped (7 ∷ []) 84 ∷ shaped (1 ∷ 1 ∷ 2 ∷ []) 16 ∷ shaped (1 ∷ 1 ∷ 1 ∷ 2 ∷ []) 15 ∷ shaped (0 ∷ 0 ∷ []) 0 ∷ shaped [] 0
     ∷ []

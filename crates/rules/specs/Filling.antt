@@ -1,4 +1,4 @@
--- The outcome of a slot before its span is scaled (01, Filling; 02, W1 and W2).
+-- The outcome of a slot before its span is scaled, and its shape (01, Filling; 02, W1, W2 and W7).
 use mathlib.Core.Bool.{Bool, false, cond, not, _&&_, _||_}
 use mathlib.Core.List.{List, [], _∷_}
 use Prim.Native.Nat.{ℕ, zero, suc, _+_, _-_, _*_, _/_}
@@ -129,3 +129,10 @@ filledAt h s a holidays i =
     (cond (isOutageZero h s i) (record { value = 0; quality = A; method = 1 })
     (cond (isLinear h s (a .versions) i) (record { value = linearValue h s (a .versions) i; quality = S; method = 2 })
     (fromReferences (references h s holidays i)))))
+
+-- the shape of a slot filled with these references at hand (02, W7): of a linear slot 12 × its value, of a same-day slot 12 × sum / number, which is whole; another slot has none
+unfoldable pub shapeOf : Outcome → List ℕ → ℕ
+shapeOf o xs = cond (eqb (o .method) 2) (12 * o .value) (cond (eqb (o .method) 3) (12 * total xs / length xs) 0)
+
+unfoldable pub shapeAt : Head → Slots → Agreed → List ℕ → ℕ → ℕ
+shapeAt h s a holidays i = shapeOf (filledAt h s a holidays i) (references h s holidays i)

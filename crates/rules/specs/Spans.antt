@@ -1,4 +1,4 @@
--- Spans, scaling to the dial, and outcomes (01, Spans).
+-- Spans, scaling to the dial, and outcomes (01, Spans; 02, W7).
 use mathlib.Core.Bool.{Bool, true, false, cond, not, _&&_, _||_}
 use mathlib.Core.List.{List, [], _∷_, _++_}
 use mathlib.Core.Option.{Option, none, some}
@@ -12,7 +12,7 @@ use Rattle.rules.specs.declared.Quality.the-variants.{A, S, F, N}
 use Rattle.rules.specs.declared.Span.{Span}
 use Rattle.rules.specs.Lists.{sum, any}
 use Rattle.rules.specs.Opening.{Cells, slotsPerDay, slotCount}
-use Rattle.rules.specs.Filling.{filledAt}
+use Rattle.rules.specs.Filling.{filledAt, shapeAt}
 
 abbrev pub isA : Quality → Bool
 isA A = true
@@ -38,12 +38,9 @@ isN S = false
 isN F = false
 isN N = true
 
--- the value of an A or F slot, and of an S slot
+-- the value of an A or F slot
 abbrev pub actualIn : Outcome → ℕ
 actualIn o = cond (isA (o .quality) || isF (o .quality)) (o .value) 0
-
-abbrev pub substitutedIn : Outcome → ℕ
-substitutedIn o = cond (isS (o .quality)) (o .value) 0
 
 -- the method of a scaled slot, 2 or 3 plus 16
 abbrev pub isScaled : ℕ → Bool
@@ -85,6 +82,10 @@ module _ (h : Head) (b : Cells) (first last : ℕ) where
   abbrev pub filled : ℕ → Outcome
   filled i = filledAt h (b .slots) (b .agreed) (b .holidays) i
 
+  -- and their shapes
+  abbrev pub shape : ℕ → ℕ
+  shape i = shapeAt h (b .slots) (b .agreed) (b .holidays) i
+
   unfoldable pub start : ℕ
   start = first * slotsPerDay h
 
@@ -106,13 +107,13 @@ module _ (h : Head) (b : Cells) (first last : ℕ) where
   unfoldable pub T : ℕ
   T = R - actual
 
-  -- the S values sum to 0
+  -- the shapes are all 0
   unfoldable pub allZero : Bool
-  allZero = eqb (sum (λ i. substitutedIn (filled i)) start slotsIn) 0
+  allZero = eqb (sum shape start slotsIn) 0
 
-  -- e of slot i, which counts as 1 when all are 0; a slot that is not S has none
+  -- e of slot i, its shape, which counts as 1 when all are 0; a slot that is not S has none (02, W7)
   unfoldable pub e : ℕ → ℕ
-  e i = cond (isS (filled i .quality)) (cond allZero 1 (filled i .value)) 0
+  e i = cond (isS (filled i .quality)) (cond allZero 1 (shape i)) 0
 
   unfoldable pub E : ℕ
   E = sum e start slotsIn

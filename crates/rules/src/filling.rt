@@ -13,7 +13,7 @@ ghost use Prim.Native.Nat.{_+_, _*_, _/_, _<_, _≤_};
 ghost use lib.ListN.{take};
 ghost use Rattle.rules.specs.Opening.{slotsPerDay, slotCount};
 ghost use Rattle.rules.specs.Tests.{goodAt};
-ghost use Rattle.rules.specs.Filling.{isReference, references, meanOf, fromReferences, isOutageZero, filledAt};
+ghost use Rattle.rules.specs.Filling.{isReference, references, total, meanOf, fromReferences, isOutageZero, filledAt, shapeOf, shapeAt};
 ghost use Rattle.rules.specs.Inner.Lent.{lentSlots, lentAgreed, Lent, Settled};
 ghost use Rattle.rules.specs.Inner.Fills.{actualOf, agreedOf, lineAt, lineBefore};
 
@@ -23,9 +23,23 @@ pub struct References {
     pub count: usize,
 }
 
-// The outcome before scaling of a slot with a cause, and its line.
+// The mean of references rounded down, what their sum has beyond it, and their number.
+pub struct Mean {
+    pub mean: u32,
+    pub remainder: u32,
+    pub number: u32,
+}
+
+// The outcome before scaling of a slot with a cause, and its shape.
+pub struct Shaped {
+    pub outcome: Outcome,
+    pub shape: u64,
+}
+
+// The same, and the slot's line.
 pub struct Lined {
     pub outcome: Outcome,
+    pub shape: u64,
     pub line: Line,
 }
 
@@ -96,10 +110,10 @@ pub fn find_references(
     }
 }
 
-// The mean of the references, rounded down.
-pub fn mean(found: References) -> u32
+// The mean of the references, with its remainder and their number.
+pub fn mean_of(found: References) -> Mean
     requires { ⌜ (1 ≤ found .count) × (found .count ≤ 4) ⌝ }
-    ensures { λ r. ⌜ r ≡ meanOf (take (found .count) (found .values)) ⌝ }
+    ensures { λ r. ⌜ (r .mean ≡ meanOf (take (found .count) (found .values))) × (r .number ≡ found .count) × (r .mean * r .number + r .remainder ≡ total (take (found .count) (found .values))) × (r .remainder < r .number) ⌝ }
 {
     let values = found.values;
     let count = found.count;
@@ -109,7 +123,33 @@ pub fn mean(found: References) -> u32
         sum += values[i] as u64;
         i += 1;
     }
-    (sum / (count as u64)) as u32
+    let number = count as u64;
+    let rest = sum % number;
+    Mean {
+        mean: (sum / number) as u32,
+        remainder: rest as u32,
+        number: count as u32,
+    }
+}
+
+// 12 × sum / number, which is whole: each number from 1 to 4 divides 12.
+fn shape_of(mean: Mean) -> u64
+    requires { ⌜ (1 ≤ mean .number) × (mean .number ≤ 4) ⌝ }
+    ensures { λ r. ⌜ r * mean .number ≡ 12 * (mean .mean * mean .number + mean .remainder) ⌝ }
+{
+    let number = mean.number as u64;
+    let sum = (mean.mean as u64) * number + (mean.remainder as u64);
+    12 * sum / number
+}
+
+// A slot that is not S has no shape.
+fn unshaped(outcome: Outcome) -> Shaped
+    ensures { λ r. ⌜ (r .outcome ≡ outcome) × (r .shape ≡ 0) ⌝ }
+{
+    Shaped {
+        outcome: outcome,
+        shape: 0,
+    }
 }
 
 // Filled from the same day of earlier weeks, or not at all.
@@ -120,22 +160,28 @@ fn same_day(
     statuses: &[u8],
     holidays: &[u8],
     at: usize,
-) -> Outcome
+) -> Shaped
     requires { ⌜ Lent head (lentSlots values versions statuses) (now holidays) × (at < slotCount head) ⌝ }
-    ensures { λ r. ⌜ r ≡ fromReferences (references head (lentSlots (values .entry) (versions .entry) (statuses .entry)) (now (holidays .entry)) at) ⌝ }
+    ensures { λ r. ⌜ (r .outcome ≡ fromReferences (references head (lentSlots (values .entry) (versions .entry) (statuses .entry)) (now (holidays .entry)) at)) × (r .shape ≡ shapeOf (r .outcome) (references head (lentSlots (values .entry) (versions .entry) (statuses .entry)) (now (holidays .entry)) at)) ⌝ }
 {
     let found = find_references(head, values, versions, statuses, holidays, at);
     if found.count == 0 {
-        return Outcome {
+        let none = Outcome {
             value: 0,
             quality: Quality::N,
             method: 0,
         };
+        return unshaped(none);
     }
-    Outcome {
-        value: mean(found),
+    let mean = mean_of(found);
+    let outcome = Outcome {
+        value: mean.mean,
         quality: Quality::S,
         method: 3,
+    };
+    Shaped {
+        outcome: outcome,
+        shape: shape_of(mean),
     }
 }
 
@@ -161,7 +207,7 @@ fn by_agreement(value: u32) -> Outcome
     }
 }
 
-// The outcome before scaling of slot `at`, which has a cause; `outage` says whether outage zero applies, `line` which line it lies on.
+// The outcome before scaling of slot `at`, which has a cause, and its shape; `outage` says whether outage zero applies, `line` which line it lies on.
 fn unscaled(
     head: Head,
     values: &[u32],
@@ -173,31 +219,37 @@ fn unscaled(
     at: usize,
     outage: bool,
     line: Line,
-) -> Outcome
+) -> Shaped
     requires { ⌜ Lent head (lentSlots values versions statuses) (now holidays) × Settled head (lentAgreed agreed «agreed_versions») × (at < slotCount head) × (goodAt head (lentSlots values versions statuses) at ≡ false) × (outage ≡ isOutageZero head (lentSlots values versions statuses) at) × (line ≡ lineAt head (lentSlots values versions statuses) (now «agreed_versions») at) ⌝ }
-    ensures { λ r. ⌜ r ≡ filledAt head (lentSlots (values .entry) (versions .entry) (statuses .entry)) (lentAgreed (agreed .entry) («agreed_versions» .entry)) (now (holidays .entry)) at ⌝ }
+    ensures { λ r. ⌜ (r .outcome ≡ filledAt head (lentSlots (values .entry) (versions .entry) (statuses .entry)) (lentAgreed (agreed .entry) («agreed_versions» .entry)) (now (holidays .entry)) at) × (r .shape ≡ shapeAt head (lentSlots (values .entry) (versions .entry) (statuses .entry)) (lentAgreed (agreed .entry) («agreed_versions» .entry)) (now (holidays .entry)) at) ⌝ }
 {
     if 0 < agreed_versions[at] {
-        return by_agreement(agreed[at]);
+        return unshaped(by_agreement(agreed[at]));
     }
     if outage {
-        return Outcome {
+        let zero = Outcome {
             value: 0,
             quality: Quality::A,
             method: 1,
         };
+        return unshaped(zero);
     }
     if 0 < line.length {
-        return Outcome {
-            value: linear::line_value(line),
+        let value = linear::line_value(line);
+        let outcome = Outcome {
+            value: value,
             quality: Quality::S,
             method: 2,
+        };
+        return Shaped {
+            outcome: outcome,
+            shape: 12 * (value as u64),
         };
     }
     same_day(head, values, versions, statuses, holidays, at)
 }
 
-// The outcome before scaling of slot `at`, which has a cause, and its line; `before` is that of the slot before.
+// The outcome before scaling of slot `at`, which has a cause, its shape and its line; `before` is that of the slot before.
 pub fn fill_cause(
     head: Head,
     values: &[u32],
@@ -211,7 +263,7 @@ pub fn fill_cause(
     before: Line,
 ) -> Lined
     requires { ⌜ Lent head (lentSlots values versions statuses) (now holidays) × Settled head (lentAgreed agreed «agreed_versions») × (at < slotCount head) × (goodAt head (lentSlots values versions statuses) at ≡ false) × (outage ≡ isOutageZero head (lentSlots values versions statuses) at) × (before ≡ lineBefore head (lentSlots values versions statuses) (now «agreed_versions») at) ⌝ }
-    ensures { λ r. ⌜ (r .outcome ≡ filledAt head (lentSlots (values .entry) (versions .entry) (statuses .entry)) (lentAgreed (agreed .entry) («agreed_versions» .entry)) (now (holidays .entry)) at) × (r .line ≡ lineAt head (lentSlots (values .entry) (versions .entry) (statuses .entry)) (now («agreed_versions» .entry)) at) ⌝ }
+    ensures { λ r. ⌜ (r .outcome ≡ filledAt head (lentSlots (values .entry) (versions .entry) (statuses .entry)) (lentAgreed (agreed .entry) («agreed_versions» .entry)) (now (holidays .entry)) at) × (r .shape ≡ shapeAt head (lentSlots (values .entry) (versions .entry) (statuses .entry)) (lentAgreed (agreed .entry) («agreed_versions» .entry)) (now (holidays .entry)) at) × (r .line ≡ lineAt head (lentSlots (values .entry) (versions .entry) (statuses .entry)) (now («agreed_versions» .entry)) at) ⌝ }
 {
     let line = linear::line_on(
         head,
@@ -223,7 +275,7 @@ pub fn fill_cause(
         outage,
         before,
     );
-    let outcome = unscaled(
+    let shaped = unscaled(
         head,
         values,
         versions,
@@ -235,8 +287,10 @@ pub fn fill_cause(
         outage,
         line,
     );
+    let outcome = shaped.outcome;
     Lined {
         outcome: outcome,
+        shape: shaped.shape,
         line: line,
     }
 }

@@ -9,7 +9,7 @@ ghost use mathlib.Core.Path.{_≡_};
 ghost use Prim.Native.Nat.{_+_, _-_, _<_, _≤_};
 ghost use lib.ListN.{length};
 ghost use Rattle.rules.specs.Opening.{slotCount};
-ghost use Rattle.rules.specs.Filling.{outageAfter, filledAt};
+ghost use Rattle.rules.specs.Filling.{outageAfter, filledAt, shapeAt};
 ghost use Rattle.rules.specs.Inner.Lent.{lentSlots, lentAgreed, Lent, Settled};
 ghost use Rattle.rules.specs.Inner.Fills.{zeroAt, zeroBefore, fillsAt};
 
@@ -20,9 +20,10 @@ pub struct Fills {
     pub line: Line,
 }
 
-// The outcome of a slot before scaling, and the pass one slot on.
+// The outcome of a slot before scaling, its shape, and the pass one slot on.
 pub struct Filled {
     pub outcome: Outcome,
+    pub shape: u64,
     pub next: Fills,
 }
 
@@ -74,7 +75,7 @@ pub fn fill(
     fills: Fills,
 ) -> Filled
     requires { ⌜ Lent head (lentSlots values versions statuses) (now holidays) × Settled head (lentAgreed agreed «agreed_versions») × (fills .at < slotCount head) × (fills ≡ fillsAt head (lentSlots values versions statuses) (now «agreed_versions») (fills .at)) ⌝ }
-    ensures { λ r. ⌜ (r .outcome ≡ filledAt head (lentSlots (values .entry) (versions .entry) (statuses .entry)) (lentAgreed (agreed .entry) («agreed_versions» .entry)) (now (holidays .entry)) (fills .at)) × (r .next ≡ fillsAt head (lentSlots (values .entry) (versions .entry) (statuses .entry)) (now («agreed_versions» .entry)) (fills .at + 1)) ⌝ }
+    ensures { λ r. ⌜ (r .outcome ≡ filledAt head (lentSlots (values .entry) (versions .entry) (statuses .entry)) (lentAgreed (agreed .entry) («agreed_versions» .entry)) (now (holidays .entry)) (fills .at)) × (r .shape ≡ shapeAt head (lentSlots (values .entry) (versions .entry) (statuses .entry)) (lentAgreed (agreed .entry) («agreed_versions» .entry)) (now (holidays .entry)) (fills .at)) × (r .next ≡ fillsAt head (lentSlots (values .entry) (versions .entry) (statuses .entry)) (now («agreed_versions» .entry)) (fills .at + 1)) ⌝ }
 {
     let at = fills.at;
     let on = at + 1;
@@ -86,6 +87,7 @@ pub fn fill(
         };
         return Filled {
             outcome: filling::delivered(values[at]),
+            shape: 0,
             next: next,
         };
     }
@@ -112,6 +114,7 @@ pub fn fill(
     };
     Filled {
         outcome: outcome,
+        shape: lined.shape,
         next: next,
     }
 }

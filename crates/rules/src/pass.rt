@@ -46,13 +46,13 @@ pub fn first() -> Pass
 
 // A filled slot in the stretch that it lies in.
 fn settle(entered: Entered, filled: Filled) -> Stepped
-    requires { ⌜ Fits (filled .outcome) (entered .stretch) ⌝ }
+    requires { ⌜ Fits (filled .outcome) (filled .shape) (entered .stretch) ⌝ }
     ensures { λ r. ⌜ r ≡ settled entered filled ⌝ }
 {
     let begins = entered.begins;
     let here = entered.stretch;
     let slot = filled.outcome;
-    let fitting = stretch::fit(slot, here);
+    let fitting = stretch::fit(slot, filled.shape, here);
     let outcome = fitting.outcome;
     let on = filled.next;
     let carry = fitting.next;

@@ -16,10 +16,10 @@ ghost use Rattle.rules.specs.Inner.Lent.{lentSlots, lentAgreed, Lent, Se
 ghost use Rattle.rules.specs.Inner.Fills.{fillsAt};
 ghost use Rattle.rules.specs.Inner.Summaries.{summaryOf, actualAdded, addedTo, scalingOf, scaledBy, Scales};
 
-// V, the sum and the number of the S values, whether a slot is N, whether one is S.
+// V, the sum and the number of the shapes, whether a slot is N, whether one is S.
 pub struct Summary {
     pub actual: u64,
-    pub substituted: u64,
+    pub shapes: u64,
     pub count: u64,
     pub hole: bool,
     pub filled: bool,
@@ -46,17 +46,17 @@ fn add_actual(sum: Summary, value: u64) -> Summary
 {
     Summary {
         actual: sum.actual + value,
-        substituted: sum.substituted,
+        shapes: sum.shapes,
         count: sum.count,
         hole: sum.hole,
         filled: sum.filled,
     }
 }
 
-// One slot more, of at most 115,200: an A or F value is at most 99,999,999 Wh, all S values together 9,600,000,000 Wh.
-fn add(sum: Summary, slot: Outcome) -> Summary
-    requires { ⌜ (sum .actual ≤ 11519999884800) × (sum .substituted ≤ 9600000000) × (sum .count ≤ 115200) ⌝ }
-    ensures { λ r. ⌜ r ≡ addedTo sum slot ⌝ }
+// One slot more, of at most 115,200: an A or F value is at most 99,999,999 Wh, a shape 6,000,000, all shapes together 115,200,000,000.
+fn add(sum: Summary, slot: Outcome, shape: u64) -> Summary
+    requires { ⌜ (sum .actual ≤ 11519999884800) × (sum .shapes ≤ 115200000000) × (sum .count ≤ 115200) × (shape ≤ 6000000) ⌝ }
+    ensures { λ r. ⌜ r ≡ addedTo sum slot shape ⌝ }
 {
     let value = slot.value as u64;
     let quality = slot.quality;
@@ -64,7 +64,7 @@ fn add(sum: Summary, slot: Outcome) -> Summary
         Quality::A => add_actual(sum, value),
         Quality::S => Summary {
             actual: sum.actual,
-            substituted: sum.substituted + value,
+            shapes: sum.shapes + shape,
             count: sum.count + 1,
             hole: sum.hole,
             filled: true,
@@ -72,7 +72,7 @@ fn add(sum: Summary, slot: Outcome) -> Summary
         Quality::F => add_actual(sum, value),
         Quality::N => Summary {
             actual: sum.actual,
-            substituted: sum.substituted,
+            shapes: sum.shapes,
             count: sum.count,
             hole: true,
             filled: sum.filled,
@@ -97,7 +97,7 @@ pub fn summarise(
 {
     let mut sum = Summary {
         actual: 0,
-        substituted: 0,
+        shapes: 0,
         count: 0,
         hole: false,
         filled: false,
@@ -111,7 +111,7 @@ pub fn summarise(
         if tests::is_good(head, values, versions, statuses, at) {
             outage = false;
             line = linear::bare(0);
-            sum = add(sum, filling::delivered(values[at]));
+            sum = add(sum, filling::delivered(values[at]), 0);
         } else {
             outage = fills::outage_zero(versions, statuses, at, outage);
             let lined = filling::fill_cause(
@@ -127,7 +127,7 @@ pub fn summarise(
                 line,
             );
             line = lined.line;
-            sum = add(sum, lined.outcome);
+            sum = add(sum, lined.outcome, lined.shape);
         }
         k += 1;
     }
@@ -172,7 +172,7 @@ pub fn state_of(sum: Summary, r: u64, tolerance: u64) -> u8
 
 // floor(t × c / e).
 fn share_of(t: u64, c: u64, e: u64) -> u64
-    requires { ⌜ (t < 100000000) × (c ≤ 9600000000) × (0 < e) ⌝ }
+    requires { ⌜ (t < 100000000) × (c ≤ 115200000000) × (0 < e) ⌝ }
     ensures { λ r. ⌜ r ≡ share t c e ⌝ }
 {
     t * c / e
@@ -180,7 +180,7 @@ fn share_of(t: u64, c: u64, e: u64) -> u64
 
 // The new value of a slot before which the running sum is `p`, and with which it is `c`.
 fn new_value(t: u64, p: u64, c: u64, e: u64) -> u32
-    requires { ⌜ (t < 100000000) × (p ≤ c) × (c ≤ e) × (e ≤ 9600000000) × (0 < e) ⌝ }
+    requires { ⌜ (t < 100000000) × (p ≤ c) × (c ≤ e) × (e ≤ 115200000000) × (0 < e) ⌝ }
     ensures { λ r. ⌜ r ≡ share t c e - share t p e ⌝ }
 {
     (share_of(t, c, e) - share_of(t, p, e)) as u32
@@ -202,7 +202,7 @@ pub fn scaling_of(sum: Summary, r: u64) -> Scaling
     requires { ⌜ sum .actual ≤ r ⌝ }
     ensures { λ m. ⌜ m ≡ scalingOf sum r ⌝ }
 {
-    if sum.substituted == 0 {
+    if sum.shapes == 0 {
         return Scaling {
             t: r - sum.actual,
             whole: sum.count,
@@ -212,18 +212,18 @@ pub fn scaling_of(sum: Summary, r: u64) -> Scaling
     }
     Scaling {
         t: r - sum.actual,
-        whole: sum.substituted,
+        whole: sum.shapes,
         extra: 0,
         passed: 0,
     }
 }
 
-// An S slot of a scaled span.
-pub fn scale(slot: Outcome, by: Scaling) -> Scaled
-    requires { ⌜ Scales (slot .value) by ⌝ }
-    ensures { λ r. ⌜ r ≡ scaledBy (slot .value) by ⌝ }
+// An S slot of a scaled span, with this shape.
+pub fn scale(shape: u64, by: Scaling) -> Scaled
+    requires { ⌜ Scales shape by ⌝ }
+    ensures { λ r. ⌜ r ≡ scaledBy shape by ⌝ }
 {
-    let e = slot.value as u64 + by.extra;
+    let e = shape + by.extra;
     let passed = by.passed + e;
     let value = new_value(by.t, by.passed, passed, by.whole);
     let next = Scaling {

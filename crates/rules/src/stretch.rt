@@ -214,9 +214,9 @@ pub fn enter(
 }
 
 // A slot's outcome in the stretch that it lies in, and the stretch one slot on.
-pub fn fit(slot: Outcome, here: Stretch) -> Fitting
-    requires { ⌜ Fits slot here ⌝ }
-    ensures { λ r. ⌜ (r .outcome ≡ fitOutcome slot here) × (r .next ≡ fitNext slot here) ⌝ }
+pub fn fit(slot: Outcome, shape: u64, here: Stretch) -> Fitting
+    requires { ⌜ Fits slot shape here ⌝ }
+    ensures { λ r. ⌜ (r .outcome ≡ fitOutcome slot shape here) × (r .next ≡ fitNext slot shape here) ⌝ }
 {
     let by = here.by;
     if by.whole == 0 {
@@ -232,7 +232,7 @@ pub fn fit(slot: Outcome, here: Stretch) -> Fitting
             next: here,
         };
     }
-    let scaled = spans::scale(slot, by);
+    let scaled = spans::scale(shape, by);
     let outcome = Outcome {
         value: scaled.value,
         quality: Quality::S,

@@ -22,9 +22,9 @@ passAt h b i = record { fills = fillsAt h (b .slots) (b .agreed .versions) i; st
 -- a filled slot in its stretch
 abbrev pub settled : Entered → Filled → Stepped
 settled entered filled = record {
-  outcome = fitOutcome (filled .outcome) (entered .stretch);
+  outcome = fitOutcome (filled .outcome) (filled .shape) (entered .stretch);
   begins = entered .begins;
-  next = record { fills = filled .next; stretch = fitNext (filled .outcome) (entered .stretch) };
+  next = record { fills = filled .next; stretch = fitNext (filled .outcome) (filled .shape) (entered .stretch) };
 }
 
 -- the outcome of slot i, the span that begins at it, and the pass before the next slot

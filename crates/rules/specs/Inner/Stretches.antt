@@ -79,23 +79,23 @@ carriedAt h b (suc i) = stretchOn h b (i / slotsPerDay h) (suc i)
 abbrev pub scales : Stretch → Bool
 scales here = not (eqb (here .by .whole) 0)
 
--- a slot of a stretch, and the stretch one slot on
-unfoldable pub fitOutcome : Outcome → Stretch → Outcome
-fitOutcome o here =
+-- a slot of a stretch, with its shape, and the stretch one slot on
+unfoldable pub fitOutcome : Outcome → ℕ → Stretch → Outcome
+fitOutcome o shape here =
     cond (isS (o .quality) && scales here)
-    (record { value = scaledBy (o .value) (here .by) .value; quality = S; method = o .method + 16 })
+    (record { value = scaledBy shape (here .by) .value; quality = S; method = o .method + 16 })
     o
 
-unfoldable pub fitNext : Outcome → Stretch → Stretch
-fitNext o here =
+unfoldable pub fitNext : Outcome → ℕ → Stretch → Stretch
+fitNext o shape here =
     cond (isS (o .quality) && scales here)
-    (record { until = here .until; by = scaledBy (o .value) (here .by) .next })
+    (record { until = here .until; by = scaledBy shape (here .by) .next })
     here
 
 -- a slot that can be scaled without a wrap, where it is to be scaled
-pub record Fits (o : Outcome) (here : Stretch) : Type 0 where
+pub record Fits (o : Outcome) (shape : ℕ) (here : Stretch) : Type 0 where
   pub method-low : o .method ≤ 5
-  pub scales : isS (o .quality) ≡ true → (here .by .whole ≡ 0 → ⊥) → Scales (o .value) (here .by)
+  pub scales : isS (o .quality) ≡ true → (here .by .whole ≡ 0 → ⊥) → Scales shape (here .by)
 
 -- the span that begins at slot i
 abbrev pub firstOf : List declared.Span → Begins

@@ -10,18 +10,21 @@ use Rattle.rules.specs.declared.spans.Scaling.{Scaling}
 use Rattle.rules.specs.declared.spans.Scaled.{Scaled}
 use Rattle.rules.specs.Lists.{sum, any}
 use Rattle.rules.specs.Opening.{Slots, Agreed}
-use Rattle.rules.specs.Filling.{filledAt}
-use Rattle.rules.specs.Spans.{isS, isN, actualIn, substitutedIn, share}
+use Rattle.rules.specs.Filling.{filledAt, shapeAt}
+use Rattle.rules.specs.Spans.{isS, isN, actualIn, share}
 
--- 1 for an S slot
+-- 1 for an S slot, and its shape
 abbrev pub oneIn : Outcome → ℕ
 oneIn o = cond (isS (o .quality)) 1 0
+
+abbrev pub shapeIn : Outcome → ℕ → ℕ
+shapeIn o shape = cond (isS (o .quality)) shape 0
 
 -- k slots from slot a
 unfoldable pub summaryOf : Head → Slots → Agreed → List ℕ → ℕ → ℕ → Summary
 summaryOf h s agreed holidays a k = record {
   actual = sum (λ i. actualIn (filledAt h s agreed holidays i)) a k;
-  substituted = sum (λ i. substitutedIn (filledAt h s agreed holidays i)) a k;
+  shapes = sum (shapeAt h s agreed holidays) a k;
   count = sum (λ i. oneIn (filledAt h s agreed holidays i)) a k;
   hole = any (λ i. isN (filledAt h s agreed holidays i .quality)) a k;
   filled = any (λ i. isS (filledAt h s agreed holidays i .quality)) a k;
@@ -31,17 +34,17 @@ summaryOf h s agreed holidays a k = record {
 abbrev pub actualAdded : Summary → ℕ → Summary
 actualAdded m value = record {
   actual = m .actual + value;
-  substituted = m .substituted;
+  shapes = m .shapes;
   count = m .count;
   hole = m .hole;
   filled = m .filled;
 }
 
--- one slot more
-unfoldable pub addedTo : Summary → Outcome → Summary
-addedTo m o = record {
+-- one slot more, with this shape
+unfoldable pub addedTo : Summary → Outcome → ℕ → Summary
+addedTo m o shape = record {
   actual = m .actual + actualIn o;
-  substituted = m .substituted + substitutedIn o;
+  shapes = m .shapes + shapeIn o shape;
   count = m .count + oneIn o;
   hole = m .hole || isN (o .quality);
   filled = m .filled || isS (o .quality);
@@ -51,23 +54,23 @@ addedTo m o = record {
 unfoldable pub scalingOf : Summary → ℕ → Scaling
 scalingOf m r = record {
   t = r - m .actual;
-  whole = cond (eqb (m .substituted) 0) (m .count) (m .substituted);
-  extra = cond (eqb (m .substituted) 0) 1 0;
+  whole = cond (eqb (m .shapes) 0) (m .count) (m .shapes);
+  extra = cond (eqb (m .shapes) 0) 1 0;
   passed = 0;
 }
 
--- an S slot with this value
+-- an S slot with this shape
 unfoldable pub scaledBy : ℕ → Scaling → Scaled
-scaledBy value by =
-    let c = by .passed + (value + by .extra) in
+scaledBy shape by =
+    let c = by .passed + (shape + by .extra) in
     record {
       value = share (by .t) c (by .whole) - share (by .t) (by .passed) (by .whole);
       next = record { t = by .t; whole = by .whole; extra = by .extra; passed = c };
     }
 
--- an S slot with this value can be scaled without a wrap
-pub record Scales (value : ℕ) (by : Scaling) : Type 0 where
+-- an S slot with this shape can be scaled without a wrap
+pub record Scales (shape : ℕ) (by : Scaling) : Type 0 where
   pub t-low : by .t < 100000000
-  pub room : by .passed + (value + by .extra) ≤ by .whole
-  pub whole-high : by .whole ≤ 9600000000
+  pub room : by .passed + (shape + by .extra) ≤ by .whole
+  pub whole-high : by .whole ≤ 115200000000
   pub whole-low : 0 < by .whole

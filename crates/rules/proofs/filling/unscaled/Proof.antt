@@ -1,11 +1,13 @@
 -- `filling::unscaled` takes the agreed value, or the first rule that applies.
 use mathlib.Core.Path.{sym, _∙_}
 use borrow.Author.Tests.{lt-ltb, le-ltb}
-use Rattle.rules.specs.Filling.{filledAt, isAgreed}
-use Rattle.rules.specs.Inner.Lent.{slots}
+use Rattle.rules.specs.Filling.{isAgreed, shapeOf}
+use Rattle.rules.specs.Inner.Lent.{slots, agreedLists}
 use Rattle.rules.proofs.Bounds.{bounded}
 use Rattle.rules.proofs.Runs.{run-holds}
 use Rattle.rules.proofs.Lines.{line-fills, line-leaves}
+use Rattle.rules.proofs.Fillings.{filled-agreed, filled-zero, filled-line, filled-rest}
+use Rattle.rules.proofs.Shapes.{shape-filled}
 use borrow.Author.Needs.{needs}
 use Rattle.rules.proofs.filling.unscaled.Statement.{statement}
 use Rattle.rules.proofs.filling.unscaled.Tie as tie
@@ -25,13 +27,27 @@ shared-slice-read-by-agreement c = search needs
 by-agreement-requires : tie.Need-by-agreement-requires
 by-agreement-requires c κs = search needs
 
+unshaped-requires : tie.Need-unshaped-requires
+unshaped-requires c κs = search needs
+
 returns : tie.Need-returns
-unfolding filledAt isAgreed
-returns c = simp (c .before .before .before .before .before .before .before .before .before .before .pre .3, lt-ltb _ _ (c .before .before .if1 .taken)) (c .by-agreement .ensures)
+unfolding isAgreed shapeOf
+returns c = let a = c .before .before .before .before .before .before .before .before .before .before .before .args in
+    let s = slots (a .values .now) (a .versions .now) (a .statuses .now) in
+    let g = agreedLists (a .agreed .now) (a .agreed-versions .now) in
+    let e = filled-agreed (a .head) s g (a .holidays .now) (a .at) (c .before .before .before .before .before .before .before .before .before .before .before .pre .3) (lt-ltb _ _ (c .before .before .before .if1 .taken)) in
+    (c .unshaped .ensures .0 ∙ c .before .by-agreement .ensures ∙ e, c .unshaped .ensures .1 ∙ shape-filled (a .head) s g (a .holidays .now) (a .at) _ e)
+
+unshaped-requires-2 : tie.Need-unshaped-requires-2
+unshaped-requires-2 c κs = search needs
 
 returns-2 : tie.Need-returns-2
-unfolding filledAt isAgreed
-returns-2 c = simp (c .before .before .before .before .before .before .before .before .before .pre .3, le-ltb _ _ (c .before .if1 .left), sym (c .before .before .before .before .before .before .before .before .before .pre .4) ∙ c .if2 .taken)
+unfolding isAgreed shapeOf
+returns-2 c = let a = c .before .before .before .before .before .before .before .before .before .before .args in
+    let s = slots (a .values .now) (a .versions .now) (a .statuses .now) in
+    let g = agreedLists (a .agreed .now) (a .agreed-versions .now) in
+    let e = filled-zero (a .head) s g (a .holidays .now) (a .at) (c .before .before .before .before .before .before .before .before .before .before .pre .3) (le-ltb _ _ (c .before .before .if1 .left)) (sym (c .before .before .before .before .before .before .before .before .before .before .pre .4) ∙ c .before .if2 .taken) in
+    (c .unshaped2 .ensures .0 ∙ e, c .unshaped2 .ensures .1 ∙ shape-filled (a .head) s g (a .holidays .now) (a .at) _ e)
 
 line-value-requires : tie.Need-line-value-requires
 line-value-requires c κs = let a = c .before .before .before .before .before .before .before .before .before .before .before .args in
@@ -40,26 +56,36 @@ line-value-requires c κs = let a = c .before .before .before .before .before .b
     let r = run-holds (a .head) s v (a .at) (c .before .before .before .before .before .before .before .before .before .before .before .pre .3) (c .before .before .before .if1 .left) _ (c .before .before .before .before .before .before .before .before .before .before .before .pre .4) (c .before .before .if2 .left) in
     line-fills (a .head) s v (bounded (a .head) (c .before .before .before .before .before .before .before .before .before .before .before .pre .0 .fitted .head)) (a .at) (c .before .before .before .before .before .before .before .before .before .before .before .pre .2) r _ (c .before .before .before .before .before .before .before .before .before .before .before .pre .5) (c .if3 .taken) .1
 
+cast-t24 : tie.Need-cast-t24
+cast-t24 c = search needs
+
+mul-t25 : tie.Need-mul-t25
+mul-t25 c = search needs
+
 returns-3 : tie.Need-returns-3
-unfolding filledAt isAgreed
+unfolding isAgreed shapeOf
 returns-3 c = let a = c .before .before .before .before .before .before .before .before .before .before .before .before .args in
     let s = slots (a .values .now) (a .versions .now) (a .statuses .now) in
     let v = a .agreed-versions .now in
+    let g = agreedLists (a .agreed .now) v in
     let r = run-holds (a .head) s v (a .at) (c .before .before .before .before .before .before .before .before .before .before .before .before .pre .3) (c .before .before .before .before .if1 .left) _ (c .before .before .before .before .before .before .before .before .before .before .before .before .pre .4) (c .before .before .before .if2 .left) in
     let w = line-fills (a .head) s v (bounded (a .head) (c .before .before .before .before .before .before .before .before .before .before .before .before .pre .0 .fitted .head)) (a .at) (c .before .before .before .before .before .before .before .before .before .before .before .before .pre .2) r _ (c .before .before .before .before .before .before .before .before .before .before .before .before .pre .5) (c .before .if3 .taken) in
-    simp (c .before .before .before .before .before .before .before .before .before .before .before .before .pre .3, le-ltb _ _ (c .before .before .before .before .if1 .left), sym (c .before .before .before .before .before .before .before .before .before .before .before .before .pre .4) ∙ c .before .before .before .if2 .left, w .0, c .line-value .ensures ∙ w .2)
+    let e = filled-line (a .head) s g (a .holidays .now) (a .at) (c .before .before .before .before .before .before .before .before .before .before .before .before .pre .3) (le-ltb _ _ (c .before .before .before .before .if1 .left)) (sym (c .before .before .before .before .before .before .before .before .before .before .before .before .pre .4) ∙ c .before .before .before .if2 .left) _ (c .line-value .ensures ∙ w .2) (w .0) in
+    (e, shape-filled (a .head) s g (a .holidays .now) (a .at) _ e)
 
 same-day-requires : tie.Need-same-day-requires
 same-day-requires c κs = search needs
 
 returns-4 : tie.Need-returns-4
-unfolding filledAt isAgreed
+unfolding isAgreed
 returns-4 c = let a = c .before .before .before .before .before .before .before .before .before .before .before .before .args in
     let s = slots (a .values .now) (a .versions .now) (a .statuses .now) in
     let v = a .agreed-versions .now in
+    let g = agreedLists (a .agreed .now) v in
     let r = run-holds (a .head) s v (a .at) (c .before .before .before .before .before .before .before .before .before .before .before .before .pre .3) (c .before .before .before .before .if1 .left) _ (c .before .before .before .before .before .before .before .before .before .before .before .before .pre .4) (c .before .before .before .if2 .left) in
     let w = line-leaves (a .head) s v (bounded (a .head) (c .before .before .before .before .before .before .before .before .before .before .before .before .pre .0 .fitted .head)) (a .at) (c .before .before .before .before .before .before .before .before .before .before .before .before .pre .2) r _ (c .before .before .before .before .before .before .before .before .before .before .before .before .pre .5) (c .before .if3 .left) in
-    simp (c .before .before .before .before .before .before .before .before .before .before .before .before .pre .3, le-ltb _ _ (c .before .before .before .before .if1 .left), sym (c .before .before .before .before .before .before .before .before .before .before .before .before .pre .4) ∙ c .before .before .before .if2 .left, w) (c .same-day .ensures)
+    let e = c .same-day .ensures .0 ∙ filled-rest (a .head) s g (a .holidays .now) (a .at) (c .before .before .before .before .before .before .before .before .before .before .before .before .pre .3) (le-ltb _ _ (c .before .before .before .before .if1 .left)) (sym (c .before .before .before .before .before .before .before .before .before .before .before .before .pre .4) ∙ c .before .before .before .if2 .left) w in
+    (e, c .same-day .ensures .1 ∙ shape-filled (a .head) s g (a .holidays .now) (a .at) _ e)
 
 pub unscaled-spec : {M : Type 1} → statement M
 unscaled-spec =
@@ -70,9 +96,13 @@ unscaled-spec =
     mul-by-agreement
     shared-slice-read-by-agreement
     by-agreement-requires
+    unshaped-requires
     returns
+    unshaped-requires-2
     returns-2
     line-value-requires
+    cast-t24
+    mul-t25
     returns-3
     same-day-requires
     returns-4)

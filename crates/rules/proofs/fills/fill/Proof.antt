@@ -1,3 +1,4 @@
+use Rattle.rules.proofs.Shapes.{shape-good}
 -- `fills::fill`: a good slot has its value, another is filled.
 use mathlib.Core.Path.{_∙_, sym, refl}
 use native.Mathlib.Omega.{arith}
@@ -31,9 +32,10 @@ returns : tie.Need-returns
 returns c = let a = c .before .before .before .before .before .before .before .before .before .before .before .args in
     let s = slots (a .values .now) (a .versions .now) (a .statuses .now) in
     let v = a .agreed-versions .now in
+    let x = agreedLists (a .agreed .now) v in
     let i = a .fills .at in
     let g = sym (c .before .before .before .before .is-good .ensures) ∙ c .before .before .before .if1 .taken in
-    (c .delivered .ensures ∙ filled-good (a .head) s (agreedLists (a .agreed .now) v) (a .holidays .now) i g, fills-next (a .head) s v i _ refl _ (sym (zero-none (s .versions) (s .statuses) _ _ (good-delivered (a .head) s i g))) _ (c .before .before .bare .ensures ∙ line-none (a .head) s v i (run-good (a .head) s v i g)))
+    (c .delivered .ensures ∙ filled-good (a .head) s x (a .holidays .now) i g, shape-good (a .head) s x (a .holidays .now) i g, fills-next (a .head) s v i _ refl _ (sym (zero-none (s .versions) (s .statuses) _ _ (good-delivered (a .head) s i g))) _ (c .before .before .bare .ensures ∙ line-none (a .head) s v i (run-good (a .head) s v i g)))
 
 outage-zero-requires : tie.Need-outage-zero-requires
 outage-zero-requires c κs = let a = c .before .before .before .before .before .before .before .before .args in
@@ -48,7 +50,7 @@ fill-cause-requires c κs = let a = c .before .before .before .before .before .b
 returns-2 : tie.Need-returns-2
 returns-2 c = let a = c .before .before .before .before .before .before .before .before .before .before .before .before .before .args in
     let s = slots (a .values .now) (a .versions .now) (a .statuses .now) in
-    (c .before .before .fill-cause .ensures .0, fills-next (a .head) s (a .agreed-versions .now) (a .fills .at) _ (c .before .before .before .before .before .before .before .before .before .before .before .before .before .pre .0 .fitted .versions) _ (c .before .before .before .before .outage-zero .ensures) _ (c .before .before .fill-cause .ensures .1))
+    (c .before .before .fill-cause .ensures .0, c .before .before .fill-cause .ensures .1, fills-next (a .head) s (a .agreed-versions .now) (a .fills .at) _ (c .before .before .before .before .before .before .before .before .before .before .before .before .before .pre .0 .fitted .versions) _ (c .before .before .before .before .outage-zero .ensures) _ (c .before .before .fill-cause .ensures .2))
 
 pub fill-spec : {M : Type 1} → statement M
 fill-spec =

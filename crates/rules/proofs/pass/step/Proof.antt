@@ -20,13 +20,13 @@ settle-requires : tie.Need-settle-requires
 settle-requires c κs = let a = c .before .before .before .before .before .before .before .before .before .before .before .before .args in
     let w = bounded (a .head) (c .before .before .before .before .before .before .before .before .before .before .before .before .pre .0 .lent .fitted .head) in
     let b = cells (slots (a .values .now) (a .versions .now) (a .statuses .now)) (a .holidays .now) (a .readings .now) (a .reads .now) (agreedLists (a .agreed .now) (a .agreed-versions .now)) in
-    rw (c .fill .ensures .0, c .before .enter .ensures .1) (step-fits (a .head) w b (a .pass .fills .at))
+    rw (c .fill .ensures .0, c .fill .ensures .1, c .before .enter .ensures .1) (step-fits (a .head) w b (a .pass .fills .at))
 
 returns : tie.Need-returns
 returns c = let a = c .before .before .before .before .before .before .before .before .before .before .before .before .before .args in
     let w = bounded (a .head) (c .before .before .before .before .before .before .before .before .before .before .before .before .before .pre .0 .lent .fitted .head) in
     let b = cells (slots (a .values .now) (a .versions .now) (a .statuses .now)) (a .holidays .now) (a .readings .now) (a .reads .now) (agreedLists (a .agreed .now) (a .agreed-versions .now)) in
-    rw (c .settle .ensures) (step-done (a .head) w b (a .pass .fills .at) (c .before .before .enter .result) (c .before .fill .result) (c .before .before .enter .ensures .0) (c .before .before .enter .ensures .1) (c .before .fill .ensures .0) (c .before .fill .ensures .1))
+    rw (c .settle .ensures) (step-done (a .head) w b (a .pass .fills .at) (c .before .before .enter .result) (c .before .fill .result) (c .before .before .enter .ensures .0) (c .before .before .enter .ensures .1) (c .before .fill .ensures .0) (c .before .fill .ensures .1) (c .before .fill .ensures .2))
 
 pub step-spec : {M : Type 1} → statement M
 step-spec = tie.close (tie.spec enter-requires fill-requires settle-requires returns)

@@ -17,11 +17,11 @@ add-actual-requires c κs = search needs
 enum-told-2 : tie.Need-enum-told-2
 enum-told-2 c = search needs
 
-add-t6 : tie.Need-add-t6
-add-t6 c = search needs
-
 add-t7 : tie.Need-add-t7
 add-t7 c = search needs
+
+add-t8 : tie.Need-add-t8
+add-t8 c = search needs
 
 enum-told-3 : tie.Need-enum-told-3
 enum-told-3 c = search needs
@@ -33,16 +33,16 @@ enum-told-4 : tie.Need-enum-told-4
 enum-told-4 c = search needs
 
 returns : tie.Need-returns
-returns c = c .add-actual .ensures ∙ added-actual _ _ (c .before .enum-told .given .1)
+returns c = c .add-actual .ensures ∙ added-actual _ _ _ (c .before .enum-told .given .1)
 
 returns-2 : tie.Need-returns-2
-returns-2 c = added-substituted _ _ (c .before .before .enum-told2 .given .1)
+returns-2 c = added-substituted _ _ _ (c .before .before .enum-told2 .given .1)
 
 returns-3 : tie.Need-returns-3
-returns-3 c = c .add-actual2 .ensures ∙ added-agreed (c .before .before .before .before .args .sum) (c .before .before .before .before .args .slot) (c .before .enum-told3 .given .1)
+returns-3 c = c .add-actual2 .ensures ∙ added-agreed (c .before .before .before .before .args .sum) (c .before .before .before .before .args .slot) _ (c .before .enum-told3 .given .1)
 
 returns-4 : tie.Need-returns-4
-returns-4 c = added-none _ _ (c .enum-told4 .given .1)
+returns-4 c = added-none _ _ _ (c .enum-told4 .given .1)
 
 pub add-spec : {M : Type 1} → statement M
 add-spec =
@@ -52,8 +52,8 @@ add-spec =
     enum-told
     add-actual-requires
     enum-told-2
-    add-t6
     add-t7
+    add-t8
     enum-told-3
     add-actual-requires-2
     enum-told-4

@@ -4,9 +4,6 @@ use borrow.Author.Needs.{needs}
 use Rattle.rules.proofs.spans.scale.Statement.{statement}
 use Rattle.rules.proofs.spans.scale.Tie as tie
 
-cast-e : tie.Need-cast-e
-cast-e c = search needs
-
 add-e : tie.Need-add-e
 add-e c = search needs
 
@@ -21,4 +18,4 @@ unfolding scaledBy
 returns c = rw (c .new-value .ensures)
 
 pub scale-spec : {M : Type 1} → statement M
-scale-spec = tie.close (tie.spec cast-e add-e add-passed new-value-requires returns)
+scale-spec = tie.close (tie.spec add-e add-passed new-value-requires returns)

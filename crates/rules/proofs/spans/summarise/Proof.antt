@@ -1,3 +1,4 @@
+use Rattle.rules.proofs.Shapes.{shape-good}
 -- `spans::summarise`. After k slots the outage answer and the line are those of the slot before, and the sums are those of k slots.
 use borrow.Author.Needs.{needs}
 use mathlib.Core.Logic.{⊎-elim}
@@ -53,8 +54,11 @@ delivered-requires c κs = search needs
 
 add-requires : tie.Need-add-requires Inv-loop μ-loop
 add-requires c κs = let a = c .before .before .before .before .before .before .before .before .before .before .before .before .before .before .args in
+    let s = slots (a .values .now) (a .versions .now) (a .statuses .now) in
+    let g = agreedLists (a .agreed .now) (a .agreed-versions .now) in
+    let i = a .first .at + c .before .before .before .before .before .before .loop .k in
     let w = bounded (a .head) (c .before .before .before .before .before .before .before .before .before .before .before .before .before .before .pre .0 .fitted .head) in
-    summary-fits (a .head) _ _ _ _ _ w (c .before .before .before .before .before .before .before .before .before .before .before .before .before .before .pre .1 .low) (omega arith) _ (c .before .before .before .before .before .before .loop .inv .3)
+    summary-fits (a .head) s g (a .holidays .now) _ _ w (c .before .before .before .before .before .before .before .before .before .before .before .before .before .before .pre .1 .low) (omega arith) _ _ (c .before .before .before .before .before .before .loop .inv .3) (shape-good (a .head) s g (a .holidays .now) i (sym (c .before .before .before .before .is-good .ensures) ∙ c .before .before .before .if1 .taken))
 
 outage-zero-requires : tie.Need-outage-zero-requires Inv-loop μ-loop
 outage-zero-requires c κs = (omega arith, omega arith, rw (c .before .before .before .before .before .before .before .before .before .before .before .pre .0 .fitted .versions) (c .before .before .before .loop .inv .1))
@@ -67,7 +71,7 @@ fill-cause-requires c κs = let a = c .before .before .before .before .before .b
 add-requires-2 : tie.Need-add-requires-2 Inv-loop μ-loop
 add-requires-2 c κs = let a = c .before .before .before .before .before .before .before .before .before .before .before .before .before .before .args in
     let w = bounded (a .head) (c .before .before .before .before .before .before .before .before .before .before .before .before .before .before .pre .0 .fitted .head) in
-    summary-fits (a .head) _ _ _ _ _ w (c .before .before .before .before .before .before .before .before .before .before .before .before .before .before .pre .1 .low) (omega (arith, c .before .before .before .before .before .loop-test .taken, c .before .before .before .before .before .before .before .before .before .before .before .before .before .before .pre .2)) _ (c .before .before .before .before .before .before .loop .inv .3)
+    summary-fits (a .head) _ _ _ _ _ w (c .before .before .before .before .before .before .before .before .before .before .before .before .before .before .pre .1 .low) (omega (arith, c .before .before .before .before .before .loop-test .taken, c .before .before .before .before .before .before .before .before .before .before .before .before .before .before .pre .2)) _ _ (c .before .before .before .before .before .before .loop .inv .3) (c .before .fill-cause .ensures .1)
 
 add-k : tie.Need-add-k Inv-loop μ-loop
 add-k c = omega arith
@@ -91,13 +95,13 @@ loop-again c = let a = c .before .before .before .before .before .before .before
       omega arith,
       w .6 ∙ sym (zero-none (s .versions) (s .statuses) (slotCount h) (i + k) (good-delivered h s (i + k) t)) ∙ zero-on (s .versions) (s .statuses) (slotCount h) i k,
       w .7 ∙ w .1 .ensures ∙ line-none h s x (i + k) (run-good h s x (i + k) t) ∙ line-on h s x i k,
-      w .5 ∙ summary-on h s g o i k _ _ _ (c .before .before .before .loop .inv .3) (w .4 .ensures) (w .3 .ensures ∙ filled-good h s g o (i + k) t),
+      w .5 ∙ summary-on h s g o i k _ _ _ _ (c .before .before .before .loop .inv .3) (w .4 .ensures) (w .3 .ensures ∙ filled-good h s g o (i + k) t) (shape-good h s g o (i + k) t),
     ))
     (λ w. (
       omega arith,
       w .6 ∙ (rw v at (w .1 .ensures)) ∙ zero-on (s .versions) (s .statuses) (slotCount h) i k,
-      w .7 ∙ w .2 .ensures .1 ∙ line-on h s x i k,
-      w .5 ∙ summary-on h s g o i k _ _ _ (c .before .before .before .loop .inv .3) (w .4 .ensures) (w .2 .ensures .0),
+      w .7 ∙ w .2 .ensures .2 ∙ line-on h s x i k,
+      w .5 ∙ summary-on h s g o i k _ _ _ _ (c .before .before .before .loop .inv .3) (w .4 .ensures) (w .2 .ensures .0) (w .2 .ensures .1),
     ))
     (c .if1 .came)
 

@@ -24,8 +24,8 @@ returns-2 c = let q : isS (c .before .before .before .before .before .args .slot
 scale-requires : tie.Need-scale-requires
 scale-requires c κs = c .before .before .before .before .before .pre .scales (sym (c .before .is-substituted .ensures) ∙ not-false _ (c .if2 .left)) (c .before .before .if1 .left)
 
-add-t12 : tie.Need-add-t12
-add-t12 c = search needs
+add-t13 : tie.Need-add-t13
+add-t13 c = search needs
 
 returns-3 : tie.Need-returns-3
 unfolding fitOutcome fitNext
@@ -34,4 +34,4 @@ returns-3 c = let q : isS (c .before .before .before .before .before .before .be
 
 pub fit-spec : {M : Type 1} → statement M
 fit-spec =
-    tie.close (tie.spec returns is-substituted-requires returns-2 scale-requires add-t12 returns-3)
+    tie.close (tie.spec returns is-substituted-requires returns-2 scale-requires add-t13 returns-3)

@@ -1,7 +1,7 @@
--- `filling::mean`. The loop's sum is the total of the values passed.
-use mathlib.Core.Path.{_≡_}
+-- `filling::mean_of`. The loop's sum is the total of the values passed; what it has beyond the mean is the remainder.
+use mathlib.Core.Path.{_≡_, refl, _∙_}
 use Prim.Native.Nat.{_≤_, _<_, _*_, _-_}
-use native.Mathlib.Nat.{div-lt-iff-lt-mul}
+use native.Mathlib.Nat.{div-lt-iff-lt-mul, div-add-mod', mod-lt}
 use mir.Val.{Fits}
 use mir.Syntax.{w32}
 use native.Mathlib.Omega.{arith}
@@ -10,14 +10,25 @@ use lib.ListN.{length, take, getD}
 use lib.Seq.{length-take-le}
 use Rattle.rules.specs.Filling.{total, meanOf}
 use Rattle.rules.proofs.References.{total-next}
-use Rattle.rules.proofs.filling.mean.Statement.{statement}
-use Rattle.rules.proofs.filling.mean.Tie as tie
+use Rattle.rules.proofs.filling.mean_of.Statement.{statement}
+use Rattle.rules.proofs.filling.mean_of.Tie as tie
 
 abbrev Inv-loop : tie.InvT-loop
 Inv-loop values count sum₀ i₀ sum i = (i ≤ count) × (sum ≡ total (take i values)) × (sum ≤ i * 4294967295)
 
 abbrev μ-loop : tie.MeasureT-loop
 μ-loop values count sum₀ i₀ sum i = count - i
+
+returns : tie.Need-returns Inv-loop μ-loop
+unfolding meanOf
+returns c =
+    let v = c .before .before .before .args .found .values in
+    let n = c .before .before .before .args .found .count in
+    let l : length v ≡ 4 = search needs in
+    let e : c .before .loop .i ≡ n = omega arith in
+    let p : 0 < n = omega arith in
+    let t : c .before .loop .sum ≡ total (take n v) = rw e at (c .before .loop .inv .1) in
+    (rw (length-take-le n v (omega arith), ← t), refl, div-add-mod' (c .before .loop .sum) n ∙ t, mod-lt (c .before .loop .sum) p)
 
 loop-holds : tie.Need-loop-holds Inv-loop μ-loop
 unfolding total
@@ -48,27 +59,29 @@ loop-again c =
     let e : Fits w32 (getD (c .before .before .before .args .found .values) (c .before .loop .i) 0) = search needs in
     (omega arith, total-next (c .before .before .before .args .found .values) (c .before .loop .i) _ (c .before .loop .inv .1), omega arith)
 
-div-result : tie.Need-div-result Inv-loop μ-loop
-div-result c = omega arith
+rem-rest : tie.Need-rem-rest Inv-loop μ-loop
+rem-rest c = omega arith
 
-cast-result : tie.Need-cast-result Inv-loop μ-loop
-cast-result c =
+div-t14 : tie.Need-div-t14 Inv-loop μ-loop
+div-t14 c = omega arith
+
+cast-t15 : tie.Need-cast-t15 Inv-loop μ-loop
+cast-t15 c =
     let n = c .before .before .before .args .found .count in
     let p : 0 < n = omega arith in
     let e : c .before .loop .i ≡ n = omega arith in
     record { fits = div-lt-iff-lt-mul p .1 (omega arith) }
 
-returns : tie.Need-returns Inv-loop μ-loop
-unfolding meanOf
-returns c =
-    let v = c .before .before .before .args .found .values in
-    let n = c .before .before .before .args .found .count in
-    let l : length v ≡ 4 = search needs in
-    let e : c .before .loop .i ≡ n = omega arith in
-    rw (length-take-le n v (omega arith), c .before .loop .inv .1, e)
+cast-t16 : tie.Need-cast-t16 Inv-loop μ-loop
+cast-t16 c =
+    let p : 0 < c .before .before .before .args .found .count = omega arith in
+    omega (arith, mod-lt (c .before .loop .sum) p)
 
-pub mean-spec : {M : Type 1} → statement M
-mean-spec =
+cast-t17 : tie.Need-cast-t17 Inv-loop μ-loop
+cast-t17 c = omega arith
+
+pub mean-of-spec : {M : Type 1} → statement M
+mean-of-spec =
     tie.close
     (tie.spec
     Inv-loop
@@ -81,6 +94,9 @@ mean-spec =
     add-i
     loop-less
     loop-again
-    div-result
-    cast-result
+    rem-rest
+    div-t14
+    cast-t15
+    cast-t16
+    cast-t17
     returns)
