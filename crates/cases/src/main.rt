@@ -14,6 +14,7 @@ fn main() {
     outcomes::references();
     files::dial();
     outcomes::scaled();
+    outcomes::fitted();
     files::dates();
     outcomes::slips();
     files::slot_alone();
