@@ -3,7 +3,7 @@
 use crate::counts::{Counts, HOLIDAYS, LATE_HOLIDAYS, NUMBERS};
 use crate::file;
 use crate::head::Shape;
-use crate::rules::{self, Cause, Cells, FARTHEST_SUNDAY, Quality, Slot, Span, State};
+use crate::rules::{self, Cause, Cells, FARTHEST_SUNDAY, Filled, Quality, Slot, Span, State};
 use crate::run_census::Runs;
 
 /// A book's cells with what the rules made of them.
@@ -13,13 +13,15 @@ pub struct Census<'a> {
     causes: Vec<Option<Cause>>,
     /// The slots before the step of the spans.
     filled: Vec<Slot>,
+    /// Their shapes.
+    e: Vec<u64>,
     counts: &'a mut Counts,
 }
 
 /// Counts every slot and span.
 pub fn take(shape: &Shape, cells: &Cells, (slots, spans): (&[Slot], &[Span]), counts: &mut Counts) {
     let causes = rules::causes(shape, cells);
-    let filled = rules::fill(shape, cells, &causes);
+    let Filled { slots: filled, e } = rules::fill(shape, cells, &causes);
     let runs = Runs {
         shape,
         cells,
@@ -34,6 +36,7 @@ pub fn take(shape: &Shape, cells: &Cells, (slots, spans): (&[Slot], &[Span]), co
         cells,
         causes,
         filled,
+        e,
         counts,
     };
     for (slot, outcome) in slots.iter().enumerate() {
@@ -299,17 +302,14 @@ impl Census<'_> {
             State::Open => "2",
             State::Disagrees => "3",
         };
-        let filled = &self.filled[rules::span_slots(self.shape, span.first, span.last)];
+        let range = rules::span_slots(self.shape, span.first, span.last);
+        let filled = &self.filled[range.clone()];
         let has = |quality| filled.iter().any(|slot| slot.quality == quality);
         let actual = !has(Quality::Substituted) && !has(Quality::None);
         let r = u64::from(span.advance);
         let v = rules::settled_sum(filled);
         let t = u64::from(self.shape.tolerance);
-        let e: u64 = filled
-            .iter()
-            .filter(|slot| slot.quality == Quality::Substituted)
-            .map(|slot| u64::from(slot.value))
-            .sum();
+        let e: u64 = self.e[range].iter().sum();
         let scaled = span.state == State::Scaled;
         let below = span.state == State::Disagrees && !actual;
         let agreed = has(Quality::Agreed);

@@ -1,4 +1,4 @@
-//! The rules of 01, W1, W2 and W3 once more, each slot and span for itself, as the sentences have them.
+//! The rules of 01, W1, W2, W3 and W7 once more, each slot and span for itself, as the sentences have them.
 //!
 //! Slow (scaling sums a whole span anew for each of its slots): it is what `rules`
 //! is held against, in all but the largest books.
@@ -13,6 +13,8 @@ pub struct Definition<'a> {
     nearest: Vec<(Option<usize>, Option<usize>)>,
     /// Value, quality and method of each slot before the step of the spans.
     filled: Vec<(u64, Quality, u8)>,
+    /// The shape of each slot.
+    shapes: Vec<u128>,
 }
 
 impl<'a> Definition<'a> {
@@ -22,8 +24,10 @@ impl<'a> Definition<'a> {
             cells,
             nearest: nearest_delivered(cells.versions),
             filled: Vec::new(),
+            shapes: Vec::new(),
         };
         new.filled = (0..shape.slots).map(|slot| new.fill(slot)).collect();
+        new.shapes = (0..shape.slots).map(|slot| new.shape_of(slot)).collect();
         new
     }
 
@@ -92,7 +96,8 @@ impl<'a> Definition<'a> {
         sunday && back <= 370
     }
 
-    fn same_day(&self, slot: usize) -> Option<u64> {
+    /// The sum and the number of a slot's references.
+    fn same_day(&self, slot: usize) -> Option<(u64, u64)> {
         let position = slot % self.shape.slots_a_day;
         let day = slot / self.shape.slots_a_day;
         let mut sum = 0;
@@ -105,7 +110,7 @@ impl<'a> Definition<'a> {
                 found += 1;
             }
         }
-        (found > 0).then(|| sum / found)
+        (found > 0).then_some((sum, found))
     }
 
     fn fill(&self, slot: usize) -> (u64, Quality, u8) {
@@ -117,10 +122,22 @@ impl<'a> Definition<'a> {
             (0, Quality::Actual, 1)
         } else if let Some(value) = self.linear(slot) {
             (value, Quality::Substituted, 2)
-        } else if let Some(value) = self.same_day(slot) {
-            (value, Quality::Substituted, 3)
+        } else if let Some((sum, found)) = self.same_day(slot) {
+            (sum / found, Quality::Substituted, 3)
         } else {
             (0, Quality::None, 0)
+        }
+    }
+
+    /// A line's value in twelfths, and of references the exact mean in twelfths.
+    fn shape_of(&self, slot: usize) -> u128 {
+        match self.filled[slot] {
+            (value, _, 2) => 12 * u128::from(value),
+            (_, _, 3) => {
+                let (sum, found) = self.same_day(slot).unwrap_or((0, 1));
+                u128::from(sum) * 12 / u128::from(found)
+            }
+            _ => 0,
         }
     }
 
@@ -191,19 +208,19 @@ impl<'a> Definition<'a> {
         let (mut e1, mut c1, mut p1) = (0, 0, 0);
         for other in span.first * self.shape.slots_a_day..span.last * self.shape.slots_a_day {
             let (value, quality, _) = self.filled[other];
-            let value = u128::from(value);
             if matches!(quality, Quality::Actual | Quality::Agreed) {
-                t -= value;
+                t -= u128::from(value);
                 continue;
             }
-            e += value;
+            let shape = self.shapes[other];
+            e += shape;
             e1 += 1;
             if other <= slot {
-                c += value;
+                c += shape;
                 c1 += 1;
             }
             if other < slot {
-                p += value;
+                p += shape;
                 p1 += 1;
             }
         }

@@ -636,7 +636,7 @@ impl Maker {
         let lists = self.lists_so_far();
         let cells = lists.cells();
         let causes = rules::causes(&self.shape, &cells);
-        rules::fill(&self.shape, &cells, &causes)
+        rules::fill(&self.shape, &cells, &causes).slots
     }
 
     /// R for a span of these slots: at and around the edges of each state.

@@ -1,5 +1,5 @@
-//! 01, Tests of a slot, Filling and Spans, with W1's agreed values, W2's line and W3's
-//! Sundays: from the cells to the outcomes.
+//! 01, Tests of a slot, Filling and Spans, with W1's agreed values, W2's line, W3's
+//! Sundays and W7's shape: from the cells to the outcomes.
 
 use std::ops::Range;
 
@@ -17,6 +17,9 @@ pub const AGREED: u8 = 5;
 
 /// A line fills this many minutes at most.
 pub const LINE_MINUTES: usize = 120;
+
+/// What an S value is multiplied by in its shape: any number of references divides it.
+const SHAPE: u64 = 12;
 
 /// How many days back references lie at most, of an ordinary day and of a holiday.
 pub const FARTHEST: usize = 364;
@@ -81,14 +84,15 @@ pub struct Span {
 /// The outcomes of all slots and spans.
 pub fn outcomes(shape: &Shape, cells: &Cells) -> (Vec<Slot>, Vec<Span>) {
     let causes = causes(shape, cells);
-    let mut slots = fill(shape, cells, &causes);
+    let Filled { mut slots, e } = fill(shape, cells, &causes);
     let spans = advances(cells)
         .into_iter()
         .map(|(first, last, advance)| {
-            let part = &mut slots[span_slots(shape, first, last)];
+            let range = span_slots(shape, first, last);
+            let part = &mut slots[range.clone()];
             let state = state(shape, part, advance);
             if state == State::Scaled {
-                scale(part, advance);
+                scale(part, &e[range], advance);
             }
             Span {
                 first,
@@ -127,37 +131,45 @@ pub fn cause(shape: &Shape, value: u32, version: u32, status: u8) -> Option<Caus
     }
 }
 
-/// Every slot filled, before the step of the spans.
-pub fn fill(shape: &Shape, cells: &Cells, causes: &[Option<Cause>]) -> Vec<Slot> {
+/// Every slot filled, before the step of the spans, with its shape e; 0 where it is no S.
+#[derive(Clone, Debug)]
+pub struct Filled {
+    pub slots: Vec<Slot>,
+    pub e: Vec<u64>,
+}
+
+pub fn fill(shape: &Shape, cells: &Cells, causes: &[Option<Cause>]) -> Filled {
     let zeroed = outage_gaps(cells, causes);
     let waiting = waiting(cells, causes, &zeroed);
     let line = lines(shape, cells, causes, &waiting);
-    (0..shape.slots)
+    let (slots, e) = (0..shape.slots)
         .map(|slot| {
             if causes[slot].is_none() {
-                filled(cells.values[slot], Quality::Actual, 0)
+                filled(cells.values[slot], Quality::Actual, 0, 0)
             } else if cells.agreed_versions[slot] != 0 {
                 // Before the outage rule.
-                filled(cells.agreed[slot], Quality::Agreed, AGREED)
+                filled(cells.agreed[slot], Quality::Agreed, AGREED, 0)
             } else if zeroed[slot] {
-                filled(0, Quality::Actual, 1)
+                filled(0, Quality::Actual, 1, 0)
             } else if let Some(value) = line[slot] {
-                filled(value, Quality::Substituted, 2)
-            } else if let Some(value) = mean(&references(shape, cells, causes, slot)) {
-                filled(value, Quality::Substituted, 3)
+                filled(value, Quality::Substituted, 2, SHAPE * u64::from(value))
+            } else if let Some(mean) = mean(&references(shape, cells, causes, slot)) {
+                filled(mean.mean, Quality::Substituted, 3, mean.shape())
             } else {
-                filled(0, Quality::None, 0)
+                filled(0, Quality::None, 0, 0)
             }
         })
-        .collect()
+        .unzip();
+    Filled { slots, e }
 }
 
-fn filled(value: u32, quality: Quality, method: u8) -> Slot {
-    Slot {
+fn filled(value: u32, quality: Quality, method: u8, e: u64) -> (Slot, u64) {
+    let slot = Slot {
         value,
         quality,
         method,
-    }
+    };
+    (slot, e)
 }
 
 /// Rule 1: marks the gaps whose longest unbroken run has an outage just before or after.
@@ -276,10 +288,31 @@ pub fn sunday_back(day_number: usize) -> usize {
     (day_number + 5) % 7 + 1
 }
 
-/// The mean rounded down; none of no values.
-pub fn mean(values: &[u32]) -> Option<u32> {
+/// A mean rounded down, with what that drops: mean × number + remainder is the sum.
+#[derive(Clone, Copy, Debug, PartialEq, Eq)]
+pub struct Mean {
+    pub mean: u32,
+    pub remainder: u32,
+    pub number: u32,
+}
+
+/// None of no values.
+pub fn mean(values: &[u32]) -> Option<Mean> {
     let sum: u64 = values.iter().map(|&value| u64::from(value)).sum();
-    sum.checked_div(values.len() as u64).map(|mean| mean as u32)
+    let number = values.len() as u64;
+    (number > 0).then(|| Mean {
+        mean: (sum / number) as u32,
+        remainder: (sum % number) as u32,
+        number: number as u32,
+    })
+}
+
+impl Mean {
+    /// 12 × sum / number, whole for one to four values.
+    pub fn shape(&self) -> u64 {
+        let part = SHAPE / u64::from(self.number);
+        SHAPE * u64::from(self.mean) + part * u64::from(self.remainder)
+    }
 }
 
 /// First boundary, last boundary and R between neighbouring boundaries that were read.
@@ -332,20 +365,22 @@ fn state(shape: &Shape, slots: &[Slot], advance: u32) -> State {
     }
 }
 
-/// Shares T = R − V out over the S slots by running sums, so that no Wh is lost.
-fn scale(slots: &mut [Slot], advance: u32) {
+/// Shares T = R − V out over the S slots by running sums of their shapes, so that no Wh
+/// is lost.
+pub fn scale(slots: &mut [Slot], e: &[u64], advance: u32) {
     let t = u128::from(advance) - u128::from(settled_sum(slots));
-    let mut substituted: Vec<&mut Slot> = slots
+    let mut shares: Vec<(&mut Slot, u128)> = slots
         .iter_mut()
-        .filter(|slot| slot.quality == Quality::Substituted)
+        .zip(e)
+        .filter(|(slot, _)| slot.quality == Quality::Substituted)
+        .map(|(slot, &e)| (slot, e.into()))
         .collect();
-    let mut e: Vec<u128> = substituted.iter().map(|s| u128::from(s.value)).collect();
-    if e.iter().sum::<u128>() == 0 {
-        e.fill(1);
+    if shares.iter().all(|&(_, e)| e == 0) {
+        shares.iter_mut().for_each(|(_, e)| *e = 1);
     }
-    let total: u128 = e.iter().sum();
+    let total: u128 = shares.iter().map(|&(_, e)| e).sum();
     let mut before = 0;
-    for (slot, e) in substituted.iter_mut().zip(e) {
+    for (slot, e) in shares {
         let with = before + e;
         slot.value = (t * with / total - t * before / total) as u32;
         slot.method += SCALED;

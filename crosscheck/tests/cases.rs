@@ -58,8 +58,9 @@ fn means_of_000s_table() {
     assert_eq!(mean_of_weeks(five), (1067, 'S', 3));
     let four = [failed(2058), (2310, 0), (1995, 0), (2079, 0)];
     assert_eq!(mean_of_weeks(four), (2128, 'S', 3));
-    assert_eq!(rules::mean(&[1045, 1089]), Some(1067));
-    assert_eq!(rules::mean(&[2310, 1995, 2079]), Some(2128));
+    let mean = |values: &[u32]| rules::mean(values).map(|mean| mean.mean);
+    assert_eq!(mean(&[1045, 1089]), Some(1067));
+    assert_eq!(mean(&[2310, 1995, 2079]), Some(2128));
     assert_eq!(rules::mean(&[]), None);
 }
 
