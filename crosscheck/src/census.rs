@@ -2,6 +2,7 @@
 
 use crate::counts::{Counts, HOLIDAYS, LATE_HOLIDAYS, NUMBERS};
 use crate::file;
+use crate::fit_census::Fits;
 use crate::head::Shape;
 use crate::rules::{self, Cause, Cells, FARTHEST_SUNDAY, Filled, Quality, Slot, Span, State};
 use crate::run_census::Runs;
@@ -21,7 +22,17 @@ pub struct Census<'a> {
 /// Counts every slot and span.
 pub fn take(shape: &Shape, cells: &Cells, (slots, spans): (&[Slot], &[Span]), counts: &mut Counts) {
     let causes = rules::causes(shape, cells);
-    let Filled { slots: filled, e } = rules::fill(shape, cells, &causes);
+    let filled = rules::fill(shape, cells, &causes);
+    let fits = Fits {
+        shape,
+        cells,
+        causes: &causes,
+        filled: &filled,
+        slots,
+        spans,
+    };
+    fits.count(counts);
+    let Filled { slots: filled, e } = filled;
     let runs = Runs {
         shape,
         cells,

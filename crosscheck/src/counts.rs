@@ -6,6 +6,7 @@ use std::fmt;
 use crate::book::{Filed, MOST_AGREED};
 use crate::calls::{Act, Book, List, Lists};
 use crate::day_census;
+use crate::fit_census;
 use crate::head::{Head, Shape};
 use crate::reader::{Fault, Figures};
 use crate::side::Answer;
@@ -229,6 +230,25 @@ const CLASSES: &[(&str, &[&str])] = &[
             "agree refused 11, beside version 0",
             "publish refused 11, agreed over 99,999,999",
             "publish refused 11, agreed beside version 0",
+        ],
+    ),
+    (fit_census::FRACTIONS, fit_census::FRACTION_NAMES),
+    (fit_census::FOURS, fit_census::FOUR_NAMES),
+    (
+        "shape",
+        &[
+            "fitted otherwise than by rounded means",
+            "two Wh apart from rounded means",
+            "fitted as by rounded means, though a remainder",
+            "lines beside a remainder",
+            "means of 0, but E not 0",
+            "E 0 of references",
+            "E 0 of lines",
+            "E 0 of both",
+            "T × E over 63 bits",
+            "remainder, open span",
+            "remainder, disagrees",
+            "remainder outside spans",
         ],
     ),
     (day_census::FIRST, day_census::FIRST_NAMES),

@@ -38,6 +38,8 @@ fn random_days(rng: &mut Rng) -> u32 {
         780..784 => 365,
         784..788 => 366,
         788..804 => 400,
+        // Four weeks before some days.
+        804..900 => rng.between(30, 60),
         _ => rng.between(1, 60),
     }
 }

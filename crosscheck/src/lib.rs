@@ -5,7 +5,7 @@
 //! of 02: `dial`, `strips`, `stays`, `limits`, `market`.
 //! What it is held against: `plain`, `definition`, `acceptance`, and `host` when linked.
 //! The comparison: `calls`, `random`, `heads`, `damage`, `side`, `run`, `shrink`, `counts`, `census`,
-//! `run_census`, `day_census`;
+//! `run_census`, `day_census`, `fit_census`;
 //! the smaller ones of 02: `tries`, `dial_tries`, `strips_tries`, `stays_tries`, `date_tries`,
 //! `limit_tries`, `market_tries` with `market_files`, `market_back` and `nem12_reader`.
 #![deny(unsafe_code)]
@@ -22,6 +22,7 @@ pub mod definition;
 pub mod dial;
 pub mod dial_tries;
 pub mod file;
+pub mod fit_census;
 pub mod head;
 pub mod heads;
 #[cfg(feature = "host")]

@@ -1,7 +1,7 @@
 //! Random books: a head and a list of calls, from a seed.
 
 use crate::calls::{Act, Book, Call, List, Lists, Room};
-use crate::head::{DIAL, Head, Shape};
+use crate::head::{DIAL, Head, MOST_LIMIT, Shape};
 use crate::heads;
 use crate::rng::Rng;
 use crate::rules::{
@@ -17,7 +17,12 @@ const MOST_DELIVERIES: usize = 3000;
 pub fn book(seed: u64, index: u64) -> Book {
     let mut rng = Rng::new(seed, index);
     let (days, interval) = heads::size(&mut rng, index);
-    book_of(rng, days, interval)
+    // Of the long books, but the large ones that every seed has.
+    if days as usize > FARTHEST && index % 100 != 7 && rng.one_in(4) {
+        heavy_book(rng, days, interval)
+    } else {
+        book_of(rng, days, interval)
+    }
 }
 
 /// The file of the `index`th small book of a seed.
@@ -53,15 +58,18 @@ pub fn file_of(mut rng: Rng, days: u32, interval: u32) -> Vec<u8> {
     file
 }
 
+/// A year of slots by the highest references, to be fitted to nearly the whole dial.
+fn heavy_book(mut rng: Rng, days: u32, interval: u32) -> Book {
+    let head = Head {
+        limit: MOST_LIMIT,
+        ..heads::random(&mut rng, days, interval)
+    };
+    Maker::new(rng, head).heavy_book()
+}
+
 fn book_of(mut rng: Rng, days: u32, interval: u32) -> Book {
     let head = heads::random(&mut rng, days, interval);
-    let shape = head.shape().expect("a head made to be in bounds");
-    let mut maker = Maker {
-        rng,
-        head,
-        shape,
-        calls: Vec::new(),
-    };
+    let mut maker = Maker::new(rng, head);
     if maker.rng.one_in(40) {
         maker.refused_book()
     } else {
@@ -73,6 +81,8 @@ fn book_of(mut rng: Rng, days: u32, interval: u32) -> Book {
 #[derive(Clone, Copy)]
 enum Profile {
     Zero,
+    /// Mostly 0, so that means round to it.
+    Sparse,
     Tiny,
     Flat(u32),
     Daily,
@@ -103,9 +113,21 @@ struct Maker {
     head: Head,
     shape: Shape,
     calls: Vec<Call>,
+    /// Whether most slots come and most spans with references are to be scaled.
+    fitting: bool,
 }
 
 impl Maker {
+    fn new(rng: Rng, head: Head) -> Maker {
+        Maker {
+            rng,
+            head,
+            shape: head.shape().expect("a head made to be in bounds"),
+            calls: Vec::new(),
+            fitting: false,
+        }
+    }
+
     fn call(&self, act: Act) -> Call {
         Call {
             head: self.head,
@@ -144,7 +166,39 @@ impl Maker {
         self.finish()
     }
 
+    /// The first days delivered, as few as each later day needs for a reference.
+    fn heavy_book(mut self) -> Book {
+        let (days, n) = (self.shape.days, self.shape.slots_a_day);
+        let early = 7.max(days - FARTHEST);
+        let lower = self.rng.pick(&[0, 3, 30]);
+        self.push(Act::Open);
+        for slot in 0..early * n {
+            let less = u32::from(self.rng.one_in(lower));
+            let act = Act::Deliver {
+                slot: slot as u32,
+                version: 1,
+                value: self.most() - less,
+                status: 0,
+            };
+            self.push(act);
+        }
+        let reading = self.rng.word() % DIAL;
+        let advance = DIAL - 1 - self.rng.between(0, 9);
+        for (boundary, reading) in [(early, reading), (days, (reading + advance) % DIAL)] {
+            let act = Act::Register {
+                boundary: boundary as u32,
+                version: 1,
+                reading,
+            };
+            self.push(act);
+        }
+        self.push(Act::Publish { room: Room::Exact });
+        self.finish()
+    }
+
     fn ordinary_book(mut self) -> Book {
+        let weeks = self.shape.days > 14 && self.shape.slots <= 2 * MOST_DELIVERIES;
+        self.fitting = weeks && self.rng.one_in(3);
         if self.rng.one_in(6) {
             self.wild_calls(3);
         }
@@ -175,8 +229,13 @@ impl Maker {
         let mut delivered = self.delivered_slots();
         let wanted = self.runs(&mut delivered);
         let profile = self.profile();
-        let failing = self.rng.pick(&[0, 0, 100, 30, 8]);
-        let outages = self.rng.pick(&[0, 0, 1, 2, 4]);
+        let (failing, outages): (&[usize], &[usize]) = if self.fitting {
+            (&[0, 0, 100], &[0, 0, 6])
+        } else {
+            (&[0, 0, 100, 30, 8], &[0, 0, 1, 2, 4])
+        };
+        let failing = self.rng.pick(failing);
+        let outages = self.rng.pick(outages);
         let repeating = self.rng.pick(&[0, 40, 15]);
         let mut order: Vec<usize> = (0..delivered.len()).filter(|&i| delivered[i]).collect();
         match self.rng.below(6) {
@@ -245,6 +304,10 @@ impl Maker {
     fn delivered_slots(&mut self) -> Vec<bool> {
         let (slots, n) = (self.shape.slots, self.shape.slots_a_day);
         let mut delivered = vec![true; slots];
+        if self.fitting {
+            self.lose_hours(&mut delivered);
+            return delivered;
+        }
         if self.rng.one_in(25) {
             delivered.fill(false);
             return delivered;
@@ -308,9 +371,10 @@ impl Maker {
 
     fn lose_slots(&mut self, delivered: &mut [bool]) {
         let slots = delivered.len();
-        match self.rng.below(8) {
+        match self.rng.below(9) {
             0 => {}
-            1 => (0..slots)
+            1 if self.shape.days > 7 => self.lose_hours(delivered),
+            2 => (0..slots)
                 .step_by(2)
                 .for_each(|slot| delivered[slot] = false),
             _ => {
@@ -336,6 +400,19 @@ impl Maker {
         if self.rng.one_in(4) {
             let len = 1 + self.rng.below(6);
             delivered[slots - len..].fill(false);
+        }
+    }
+
+    /// More than two hours at once, on days that have a week before them.
+    fn lose_hours(&mut self, delivered: &mut [bool]) {
+        let n = self.shape.slots_a_day;
+        let line = LINE_MINUTES / self.shape.interval as usize;
+        for day in delivered.chunks_mut(n).skip(7) {
+            if self.rng.one_in(2) {
+                let start = self.rng.below(n - line);
+                let end = n.min(start + line + 1 + self.rng.below(2 * line));
+                day[start..end].fill(false);
+            }
         }
     }
 
@@ -406,6 +483,7 @@ impl Maker {
         let flat = self.rng.between(0, self.most());
         self.rng.pick(&[
             Profile::Zero,
+            Profile::Sparse,
             Profile::Tiny,
             Profile::Flat(flat),
             Profile::Daily,
@@ -425,6 +503,7 @@ impl Maker {
         }
         match profile {
             Profile::Zero => 0,
+            Profile::Sparse => u32::from(self.rng.one_in(12)),
             Profile::Tiny => self.rng.between(0, 3),
             Profile::Flat(value) => value,
             Profile::Daily => {
@@ -493,16 +572,18 @@ impl Maker {
     /// Values agreed for slots of one part of the book, mostly such with a cause.
     fn agreements(&mut self, opened: usize) {
         // One in so many of the slots with a cause, and of the good ones.
-        let (failed, good) = self.rng.pick(&[
+        let ways = [
             (0, 0),
             (0, 0),
+            (6, 0),
+            (30, 30),
             (1, 0),
             (1, 0),
             (1, 5),
             (2, 20),
-            (6, 0),
-            (30, 30),
-        ]);
+        ];
+        let few = if self.fitting { 4 } else { ways.len() };
+        let (failed, good) = self.rng.pick(&ways[..few]);
         let part = self.agreed_part();
         let causes = self.causes_so_far();
         let way = self.rng.below(8);
@@ -560,7 +641,11 @@ impl Maker {
 
     fn holidays(&mut self, opened: usize) {
         let days = self.shape.days;
-        let many = self.rng.pick(&[0, 1, 3, days / 3, days]);
+        let many = if self.fitting {
+            self.rng.below(3)
+        } else {
+            self.rng.pick(&[0, 1, 3, days / 3, days])
+        };
         let mut feasts: Vec<usize> = (0..many).map(|_| self.rng.below(days)).collect();
         // Days with a whole year of Sundays before them.
         let late = self.rng.pick(&[0, 1, 1, 2]);
@@ -605,7 +690,8 @@ impl Maker {
 
     fn boundaries(&mut self) -> Vec<usize> {
         let days = self.shape.days;
-        match self.rng.below(7) {
+        let ways = if self.fitting { 2..7 } else { 0..7 };
+        match ways.start + self.rng.below(ways.len()) {
             0 => Vec::new(),
             1 => vec![self.rng.below(days + 1)],
             2 => vec![0, days],
@@ -649,7 +735,10 @@ impl Maker {
             .map(|slot| u64::from(slot.value))
             .sum();
         let share = u64::from(self.rng.between(0, 200));
+        let above = u64::from(DIAL).saturating_sub(v).max(1) as usize;
         let r = match self.rng.below(14) {
+            // Much to share out, so that a small part of a shape tells.
+            0..9 if self.fitting => v + self.rng.below(above) as u64,
             0 => v,
             1 => v + t,
             2 => v + t + 1,
