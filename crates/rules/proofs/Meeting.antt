@@ -42,7 +42,7 @@ module _ (h : Head) (b : Cells) (first last : ℕ) where
     unfolding stateOf actual summaryOf
     state-found = s ∙ (rw (p, q))
 
-    pub meet-span : record { first = first; last = last; advance = r; state = state } ≡ spanOf h b first last
+    pub meet-span : record { first = first; last = last; lowest = r; highest = r; state = state } ≡ spanOf h b first last
     unfolding spanOf
     meet-span = rw (state-found, q)
 

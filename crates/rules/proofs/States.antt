@@ -19,6 +19,7 @@ use Rattle.rules.proofs.Forms.Filled.{delivered, agreed, outage, linear
 use Rattle.rules.proofs.Neighbours.{Neighbours}
 use Rattle.rules.proofs.Scaling.{new-zero, new-total}
 use Rattle.rules.proofs.Places.{span-end, in-span}
+use Rattle.rules.proofs.Outcomes.{advance-low}
 
 -- what a state says of its span: whether it has an N, an S, and R ≥ V
 pub record Stated (hasN hasS reached : Bool) (state : ℕ) : Type 0 where
@@ -106,9 +107,20 @@ module _ (h : Head) (bounds : Bounded h) (b : Cells) (s : Span) (n : Neighbours 
   unfolding spanOf
   state-same = ap (λ (x : Span). x .state) (n .figures)
 
-  advance-same : s .advance ≡ R h b (s .first) (s .last)
+  lowest-same : s .lowest ≡ R h b (s .first) (s .last)
   unfolding spanOf
-  advance-same = ap (λ (x : Span). x .advance) (n .figures)
+  lowest-same = ap (λ (x : Span). x .lowest) (n .figures)
+
+  highest-same : s .highest ≡ R h b (s .first) (s .last)
+  unfolding spanOf
+  highest-same = ap (λ (x : Span). x .highest) (n .figures)
+
+  -- the ends of its advance
+  pub range-ordered : s .lowest ≤ s .highest
+  range-ordered = omega (arith, lowest-same, highest-same)
+
+  pub range-low : s .highest ≤ 99999999
+  range-low = omega (arith, highest-same, advance-low h b (s .first) (s .last))
 
   -- state 2 exactly when it has an N
   pub open-exactly : eqb (s .state) 2 ≡ any (λ i. isN (outcomeAt h b i .quality)) a k
@@ -144,15 +156,18 @@ module _ (h : Head) (bounds : Bounded h) (b : Cells) (s : Span) (n : Neighbours 
         both false = refl
 
     -- and its values sum to R
-    pub scaled-sum : sum (λ i. outcomeAt h b i .value) a k ≡ s .advance
+    pub scaled-sum : sum (λ i. outcomeAt h b i .value) a k ≡ R h b (s .first) (s .last)
     unfolding actual
     scaled-sum =
         sum-cong _ _ a k value-is
         ∙ sum-plus (λ i. actualIn (before i)) new a k
         ∙ new-total h b (s .first) (s .last) (has .0) (leb-true _ _ (has .1))
-        ∙ sym advance-same
       where
         value-is : (i : ℕ) → a ≤ i → i < a + k → outcomeAt h b i .value ≡ actualIn (before i) + new i
         value-is i l m =
             ap (λ (o : Outcome). o .value) (here i l m)
             ∙ (rw yes-scaled (new-value (form i) (new i) (new-zero h b (s .first) (s .last) i l)))
+
+    -- which lies between the ends of its advance
+    pub scaled-within : (s .lowest ≤ sum (λ i. outcomeAt h b i .value) a k) × (sum (λ i. outcomeAt h b i .value) a k ≤ s .highest)
+    scaled-within = (omega (arith, scaled-sum, lowest-same), omega (arith, scaled-sum, highest-same))

@@ -135,13 +135,13 @@ module _ (h : Head) (b : Cells) (first last : ℕ) where
       (record { value = newValue i; quality = S; method = filled i .method + 16 })
       (filled i)
 
-  -- a span's outcome is its two boundaries, R and state
+  -- a span's outcome is its two boundaries, both ends of its advance, which are R, and state
   unfoldable pub spanOf : Span
-  spanOf = record { first = first; last = last; advance = R; state = stateOf }
+  spanOf = record { first = first; last = last; lowest = R; highest = R; state = stateOf }
 
 -- past the last span of a list
 abbrev pub noSpan : Span
-noSpan = record { first = 0; last = 0; advance = 0; state = 0 }
+noSpan = record { first = 0; last = 0; lowest = 0; highest = 0; state = 0 }
 
 -- a slot before the first or after the last boundary with a reading lies in no span
 unfoldable pub between : Head → Cells → Option ℕ → Option ℕ → ℕ → Outcome

@@ -37,10 +37,11 @@ pub struct Outcome {
     pub method: u8,
 }
 
-// What is published of a span: its two boundaries, R and its state.
+// What is published of a span: its two boundaries, its lowest and highest advance, and its state.
 pub struct Span {
     pub first: u32,
     pub last: u32,
-    pub advance: u32,
+    pub lowest: u32,
+    pub highest: u32,
     pub state: u8,
 }

@@ -110,7 +110,8 @@ fn meet(
     let span = Span {
         first: first as u32,
         last: last as u32,
-        advance: advance,
+        lowest: advance,
+        highest: advance,
         state: state,
     };
     Met {
