@@ -15,13 +15,12 @@ use Rattle.rules.specs.Lists.{sum}
 use Rattle.rules.specs.Spans.{isA, isS, isF, isN}
 use Rattle.rules.proofs.Sums.{sum-cong}
 use Rattle.file.specs.declared.Verdict.the-variants.{Accepted}
-use Rattle.file.specs.Layout.{Content, letter, total, one, row, trailerRow, figuresOf, tablesOf, fileOf}
-use Rattle.file.specs.Reader.{figures, slotCount, countOf, tablesAt, trailerOk, tablesOk, figuresOk, readFile, partOf, tablesPart}
+use Rattle.file.specs.Layout.{Content, letter, total, one, row, ranged, spanWidth, trailerRow, figuresOf, tablesOf, fileOf}
+use Rattle.file.specs.Reader.{figures, slotCount, layoutFits, countOf, tablesAt, trailerOk, tablesOk, figuresOk, readFile, partOf, tablesPart}
 use Rattle.file.specs.Contents.{Fitting, WellFormed, slot, noSlot, recordsOf}
 use Rattle.file.proofs.Rows.{length-row}
 use Rattle.file.proofs.Lists.{upTo-list, total-sum, total-le}
 use Rattle.file.proofs.Head.{slots-le}
-use Rattle.file.proofs.Layouts.{layout-known, layout-same}
 use Rattle.file.proofs.Fitting.{fitting}
 use Rattle.file.proofs.Content.{slot-back, span-back, first-back, days-back, interval-back, layout-back, spans-back, distance-back, trailer-field, length-file}
 use Rattle.file.proofs.Agree.{Agree, count-agree, sum-agree, tables-agree}
@@ -138,9 +137,9 @@ module _ (f : Content) (w : WellFormed f) where
   unfolding trailerOk figuresOf
   trailer-right =
       let long : leb 32 (length (fileOf f)) ≡ true = le-leb 32 (length (fileOf f)) (omega (arith, length-file f)) in
-      let whole : eqb (length (fileOf f)) (6 * (1440 / f .interval * f .days) + 10 * length (f .spans) + 32) ≡ true =
-      eq-eqb (length (fileOf f)) (6 * (1440 / f .interval * f .days) + 10 * length (f .spans) + 32) (omega (arith, length-file f, base)) in
-      rw (long, w .head, layout-known (f .slots), eq-eqb _ _ (distance-back f fits), whole)
+      let end : ℕ = 6 * (1440 / f .interval * f .days) + spanWidth (ranged (f .layout)) * length (f .spans) + 32 in
+      let whole : eqb (length (fileOf f)) end ≡ true = eq-eqb (length (fileOf f)) end (omega (arith, length-file f, base)) in
+      rw (long, w .head, w .known, eq-eqb _ _ (distance-back f fits), whole)
 
   tables-right : tablesOk (fileOf f) (figuresOf f) ≡ true
   unfolding tablesOk
@@ -151,12 +150,13 @@ module _ (f : Content) (w : WellFormed f) where
   figures-right =
       let own = count-agree (tablesAt (fileOf f) (figuresOf f)) (recordsOf f) agree in
       let agreed = own F ∙ count-own f (w .slots) F isF testsF in
+      let goes = ap (layoutFits (f .layout)) agreed ∙ w .fits in
       rw (
         eq-eqb _ _ (own A ∙ count-own f (w .slots) A isA testsA),
         eq-eqb _ _ (ap₂ (λ (x y : ℕ). x + y) (own S ∙ count-own f (w .slots) S isS testsS) agreed),
         eq-eqb _ _ (own N ∙ count-own f (w .slots) N isN testsN),
         eq-eqb _ _ (sum-agree (tablesAt (fileOf f) (figuresOf f)) (recordsOf f) agree ∙ sum-own f (w .slots)),
-        layout-same (f .slots) _ agreed,
+        goes,
       )
 
   -- with the content's figures

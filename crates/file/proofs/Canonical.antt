@@ -1,6 +1,6 @@
 -- Bytes that the reader accepts are the file of the content that their figures and tables hold.
 use mathlib.Core.Path.{_≡_, refl, sym, ap, ap₂, _∙_}
-use mathlib.Core.Bool.{true}
+use mathlib.Core.Bool.{Bool}
 use mathlib.Core.List.{List, [], _∷_, _++_}
 use mathlib.Core.Logic.{_↔_}
 use Prim.Native.Nat.{ℕ, _+_, _*_, _≤_, _<_}
@@ -17,15 +17,15 @@ use Rattle.rules.proofs.Logic.{passed}
 use Rattle.file.specs.declared.Figures.{Figures}
 use Rattle.file.specs.declared.Verdict.{Verdict}
 use Rattle.file.specs.declared.Verdict.the-variants.{Accepted}
-use Rattle.file.specs.Layout.{Content, letter, total, one, row, table, slotRow, spanRow, trailerRow, layoutOf, figuresOf, tablesOf, fileOf}
-use Rattle.file.specs.Reader.{num, byte, slotAt, spanAt, trailerAt, figures, layoutOk, slotCount, tablesAt, countOf, trailerTests, tableTests, figureTests, spanTests, spanOk, trailerOk, tablesOk, figuresOk, readFile, partOf, tablesPart}
+use Rattle.file.specs.Layout.{Content, letter, total, one, row, table, slotRow, spanRow, ranged, spanWidth, trailerRow, figuresOf, tablesOf, fileOf}
+use Rattle.file.specs.Reader.{num, byte, slotAt, spanAt, trailerAt, figures, layoutFits, slotCount, tablesAt, countOf, trailerTests, tableTests, figureTests, spanTests, spanOk, trailerOk, tablesOk, figuresOk, readFile, partOf, tablesPart}
 use Rattle.file.specs.Contents.{Bytes, WellFormed, slot, span, noSlot, slotRecord, spanRecord, recordsOf, qualityOf, outcomeOf, spanOf, contentOf}
 use Rattle.file.proofs.Numbers.{num-one, num-lt, num-take, byte-take}
 use Rattle.file.proofs.Rows.{reads, row-reads, table-reads}
 use Rattle.file.proofs.Lists.{length-upTo, getD-upTo, upTo-cong}
 use Rattle.file.proofs.Stretches.{all-at}
 use Rattle.file.proofs.Records.{record-tells}
-use Rattle.file.proofs.Layouts.{layout-told}
+use Rattle.file.proofs.SpanRecords.{record-within, from-exact, from-take, span-written}
 use Rattle.file.proofs.Agree.{Agree, count-agree, sum-agree, tables-agree}
 use Rattle.file.proofs.Answers.{Passed, ready, tests-passed}
 use Rattle.file.proofs.Accepted.{Tests, testsA, testsS, testsF, testsN, count-own, sum-own, accepted}
@@ -43,10 +43,17 @@ module _ (bs : List ℕ) (b : Bytes bs) (p : Passed bs (figures bs)) where
   abbrev t : ℕ
   t = trailerAt bs
 
+  -- whether its span records are ranged, and how wide
+  abbrev r : Bool
+  r = ranged (figures bs .layout)
+
+  abbrev w : ℕ
+  w = spanWidth r
+
   abbrev f : Content
   f = contentOf (figures bs) bs
 
-  long : length bs ≡ 6 * n + 10 * m + 32
+  long : length bs ≡ 6 * n + w * m + 32
   long = ready bs g (p .trailer) .long
 
   -- the records are those of outcomes and spans
@@ -56,20 +63,23 @@ module _ (bs : List ℕ) (b : Bytes bs) (p : Passed bs (figures bs)) where
       let e = record-tells (slotAt bs i) (all-at _ n (passed (tableTests (tablesAt bs g)) (p .tables) 0) i l) .0 in
       λ k. record { value = slotAt bs i .value; letter = e k; method = slotAt bs i .method }
 
-  span-right : (j : ℕ) → j < m → spanRecord (spanOf (spanAt bs (6 * n) j)) ≡ spanAt bs (6 * n) j
+  blank-right : (j : ℕ) → j < m → spanAt r bs (6 * n) j .blank ≡ 0
   unfolding tablesOk spanOk
+  blank-right j l = eqb-true _ _ (passed (spanTests (tablesAt bs g) j) (all-at _ m (passed (tableTests (tablesAt bs g)) (p .tables) 1) j l) 6)
+
+  span-right : (j : ℕ) → j < m → spanRecord (spanOf (spanAt r bs (6 * n) j)) ≡ spanAt r bs (6 * n) j
   span-right j l =
-      let r = spanAt bs (6 * n) j in
-      let e : r .blank ≡ 0 = eqb-true _ _ (passed (spanTests (tablesAt bs g) j) (all-at _ m (passed (tableTests (tablesAt bs g)) (p .tables) 1) j l) 5) in
-      λ k. record { first = r .first; last = r .last; advance = r .advance; state = r .state; blank = sym e k }
+      let s = spanAt r bs (6 * n) j in
+      let e = blank-right j l in
+      λ k. record { first = s .first; last = s .last; lowest = s .lowest; highest = s .highest; state = s .state; blank = sym e k }
 
   slot-is : (i : ℕ) → i < n → slot f i ≡ outcomeOf (slotAt bs i)
   unfolding contentOf
   slot-is i l = getD-upTo _ noSlot 0 n i l ∙ ap (λ (x : ℕ). outcomeOf (slotAt bs x)) (zero-add i)
 
-  span-is : (j : ℕ) → j < m → span f j ≡ spanOf (spanAt bs (6 * n) j)
+  span-is : (j : ℕ) → j < m → span f j ≡ spanOf (spanAt r bs (6 * n) j)
   unfolding contentOf
-  span-is j l = getD-upTo _ noSpan 0 m j l ∙ ap (λ (x : ℕ). spanOf (spanAt bs (6 * n) x)) (zero-add j)
+  span-is j l = getD-upTo _ noSpan 0 m j l ∙ ap (λ (x : ℕ). spanOf (spanAt r bs (6 * n) x)) (zero-add j)
 
   agree : Agree (recordsOf f) (tablesAt bs g)
   unfolding contentOf
@@ -86,10 +96,6 @@ module _ (bs : List ℕ) (b : Bytes bs) (p : Passed bs (figures bs)) where
   unfolding contentOf
   count-right q h s = sym (count-own f (length-upTo _ 0 n) q h s) ∙ count-agree (recordsOf f) (tablesAt bs g) agree q
 
-  known : layoutOk (g .layout) ≡ true
-  unfolding trailerOk
-  known = passed (trailerTests bs g) (p .trailer) 2
-
   figures-right : figuresOf f ≡ g
   unfolding figuresOf figuresOk contentOf
   figures-right =
@@ -101,17 +107,16 @@ module _ (bs : List ℕ) (b : Bytes bs) (p : Passed bs (figures bs)) where
       let none : total (one isN) (f .slots) ≡ g .none = count-right N isN testsN ∙ eqb-true _ _ (test 2) in
       let value : total (λ o. o .value) (f .slots) ≡ g .sum =
       sym (sum-own f (length-upTo _ 0 n)) ∙ sum-agree (recordsOf f) (tablesAt bs g) agree ∙ eqb-true _ _ (test 4) in
-      let layout : layoutOf (f .slots) ≡ g .layout = layout-told (f .slots) _ (sym agreed) (g .layout) known (test 3) in
       λ k. record {
         first = g .first;
         days = g .days;
         interval = g .interval;
-        spans = length-upTo (λ j. spanOf (spanAt bs (6 * n) j)) 0 m k;
+        spans = length-upTo (λ j. spanOf (spanAt r bs (6 * n) j)) 0 m k;
         actual = actual k;
         substituted = substituted k;
         none = none k;
         sum = value k;
-        layout = layout k;
+        layout = g .layout;
       }
 
   -- the three parts of the file
@@ -122,14 +127,8 @@ module _ (bs : List ℕ) (b : Bytes bs) (p : Passed bs (figures bs)) where
       let h : byte bs (6 * i + 5) ≡ num 1 bs (6 * i + 4 + 1) = sym (num-one bs (6 * i + 5)) ∙ ap (num 1 bs) (omega arith) in
       λ k. (4, num 4 bs (6 * i)) ∷ (1, q k) ∷ (1, h k) ∷ []
 
-  span-row : (j : ℕ) → j < m → spanRow (spanOf (spanAt bs (6 * n) j)) ≡ reads (2 ∷ 2 ∷ 4 ∷ 1 ∷ 1 ∷ []) bs (6 * n + 10 * j)
-  unfolding spanAt
-  span-row j l =
-      let o : ℕ = 6 * n + 10 * j in
-      let r : num 4 bs (o + 4) ≡ num 4 bs (o + 2 + 2) = ap (num 4 bs) (omega arith) in
-      let s : byte bs (o + 8) ≡ num 1 bs (o + 2 + 2 + 4) = sym (num-one bs (o + 8)) ∙ ap (num 1 bs) (omega arith) in
-      let z : 0 ≡ num 1 bs (o + 2 + 2 + 4 + 1) = ap (λ x. x .blank) (span-right j l) ∙ sym (num-one bs (o + 9)) ∙ ap (num 1 bs) (omega arith) in
-      λ k. (2, num 2 bs o) ∷ (2, num 2 bs (o + 2)) ∷ (4, r k) ∷ (1, s k) ∷ (1, z k) ∷ []
+  span-in : (j : ℕ) → j < m → 6 * n + w * j + w ≤ t
+  span-in j l = omega (arith, long, record-within r j m l)
 
   slots-part : table slotRow (f .slots) ≡ take (6 * n) (drop 0 bs)
   unfolding contentOf
@@ -137,11 +136,11 @@ module _ (bs : List ℕ) (b : Bytes bs) (p : Passed bs (figures bs)) where
       table-reads slotRow 6 _ bs 0 n
       (λ i l. ap row (slot-row i l) ∙ row-reads bs b (4 ∷ 1 ∷ 1 ∷ []) (6 * i) (omega (arith, long)) ∙ rw zero-add)
 
-  spans-part : table spanRow (f .spans) ≡ take (10 * m) (drop (6 * n) bs)
+  spans-part : table (spanRow r) (f .spans) ≡ take (w * m) (drop (6 * n) bs)
   unfolding contentOf
   spans-part =
-      table-reads spanRow 10 _ bs (6 * n) m
-      (λ j l. ap row (span-row j l) ∙ row-reads bs b (2 ∷ 2 ∷ 4 ∷ 1 ∷ 1 ∷ []) (6 * n + 10 * j) (omega (arith, long)))
+      table-reads (spanRow r) w _ bs (6 * n) m
+      (λ j l. span-written bs (6 * n + w * j) b r (omega (arith, long, span-in j l)) (blank-right j l))
 
   trailer-row : trailerRow g ≡ reads (2 ∷ 2 ∷ 1 ∷ 1 ∷ 2 ∷ 4 ∷ 4 ∷ 4 ∷ 8 ∷ 4 ∷ []) bs t
   unfolding figures trailerOk
@@ -154,24 +153,24 @@ module _ (bs : List ℕ) (b : Bytes bs) (p : Passed bs (figures bs)) where
       let p6 : num 4 bs (t + 12) ≡ num 4 bs (t + 2 + 2 + 1 + 1 + 2 + 4) = ap (num 4 bs) (omega arith) in
       let p7 : num 4 bs (t + 16) ≡ num 4 bs (t + 2 + 2 + 1 + 1 + 2 + 4 + 4) = ap (num 4 bs) (omega arith) in
       let p8 : num 8 bs (t + 20) ≡ num 8 bs (t + 2 + 2 + 1 + 1 + 2 + 4 + 4 + 4) = ap (num 8 bs) (omega arith) in
-      let p9 : 10 * num 2 bs (t + 6) ≡ num 4 bs (t + 2 + 2 + 1 + 1 + 2 + 4 + 4 + 4 + 8) = sym (eqb-true _ _ (test 3)) ∙ ap (num 4 bs) (omega arith) in
+      let p9 : spanWidth (ranged (byte bs (t + 5))) * num 2 bs (t + 6) ≡ num 4 bs (t + 2 + 2 + 1 + 1 + 2 + 4 + 4 + 4 + 8) = sym (eqb-true _ _ (test 3)) ∙ ap (num 4 bs) (omega arith) in
       λ k.
       (2, num 2 bs t) ∷ (2, num 2 bs (t + 2)) ∷ (1, p2 k) ∷ (1, p3 k) ∷ (2, p4 k) ∷ (4, p5 k) ∷ (4, p6 k) ∷ (4, p7 k) ∷ (8, p8 k) ∷ (4, p9 k) ∷ []
 
-  trailer-part : row (trailerRow (figuresOf f)) ≡ drop (6 * n + 10 * m) bs
+  trailer-part : row (trailerRow (figuresOf f)) ≡ drop (6 * n + w * m) bs
   trailer-part =
-      let e : t ≡ 6 * n + 10 * m = omega (arith, long) in
+      let e : t ≡ 6 * n + w * m = omega (arith, long) in
       let s : length (drop t bs) ≤ 32 = rw length-drop (omega (arith, long)) in
       ap (λ (x : Figures). row (trailerRow x)) figures-right
       ∙ ap row trailer-row ∙ row-reads bs b (2 ∷ 2 ∷ 1 ∷ 1 ∷ 2 ∷ 4 ∷ 4 ∷ 4 ∷ 8 ∷ 4 ∷ []) t (omega (arith, long))
       ∙ take-all 32 (drop t bs) s ∙ ap (λ (x : ℕ). drop x bs) e
 
   file-right : fileOf f ≡ bs
-  unfolding fileOf tablesOf
+  unfolding fileOf tablesOf contentOf
   file-right =
-      let join : take (6 * n) (drop 0 bs) ++ take (10 * m) (drop (6 * n) bs) ≡ take (6 * n + 10 * m) bs = rw take-add in
+      let join : take (6 * n) (drop 0 bs) ++ take (w * m) (drop (6 * n) bs) ≡ take (6 * n + w * m) bs = rw take-add in
       ap₂ (λ (x y : List ℕ). x ++ y) (ap₂ (λ (x y : List ℕ). x ++ y) slots-part spans-part ∙ join) trailer-part
-      ∙ take-append-drop (6 * n + 10 * m) bs
+      ∙ take-append-drop (6 * n + w * m) bs
 
   well-formed : WellFormed f
   unfolding contentOf
@@ -182,6 +181,11 @@ module _ (bs : List ℕ) (b : Bytes bs) (p : Passed bs (figures bs)) where
         let k : i < n = rw (length-upTo (λ x. outcomeOf (slotAt bs x)) 0 n) at l in
         rw (slot-is i k) (unfold slotAt in num-lt bs b 4 (6 * i));
     tables = tables-agree (recordsOf f) (tablesAt bs g) agree (unfold tablesOk in p .tables);
+    known = unfold trailerOk in passed (trailerTests bs g) (p .trailer) 2;
+    fits = ap (layoutFits (g .layout)) (count-right F isF testsF) ∙ (unfold figuresOk in passed (figureTests (tablesAt bs g) g) (p .figures) 3);
+    exact = λ e j l.
+        let k : j < m = rw (length-upTo (λ x. spanOf (spanAt r bs (6 * n) x)) 0 m) at l in
+        rw (span-is j k) (from-exact bs (6 * n + w * j) r e);
   }
 
   -- the tables' bytes hold the same content
@@ -194,26 +198,17 @@ module _ (bs : List ℕ) (b : Bytes bs) (p : Passed bs (figures bs)) where
       let h = byte-take bs t (6 * i + 5) (omega arith) in
       λ k. record { value = v k; letter = q k; method = h k }
 
-  span-same : (j : ℕ) → j < m → spanAt (take t bs) (6 * n) j ≡ spanAt bs (6 * n) j
-  unfolding spanAt
-  span-same j l =
-      let o : ℕ = 6 * n + 10 * j in
-      let short : o + 10 ≤ t = omega (arith, long) in
-      let x = num-take bs t 2 o (omega arith) in
-      let y = num-take bs t 2 (o + 2) (omega arith) in
-      let r = num-take bs t 4 (o + 4) (omega arith) in
-      let s = byte-take bs t (o + 8) (omega arith) in
-      let z = byte-take bs t (o + 9) (omega arith) in
-      λ k. record { first = x k; last = y k; advance = r k; state = s k; blank = z k }
+  span-same : (j : ℕ) → j < m → spanAt r (take t bs) (6 * n) j ≡ spanAt r bs (6 * n) j
+  span-same j l = from-take bs (6 * n + w * j) t r (span-in j l)
 
   part-same : contentOf g (take t bs) ≡ f
   unfolding contentOf
   part-same =
       let slots : upTo (λ i. outcomeOf (slotAt (take t bs) i)) 0 n ≡ upTo (λ i. outcomeOf (slotAt bs i)) 0 n =
       upTo-cong _ _ 0 n (λ i l. ap outcomeOf (slot-same i (omega arith))) in
-      let spans : upTo (λ j. spanOf (spanAt (take t bs) (6 * n) j)) 0 m ≡ upTo (λ j. spanOf (spanAt bs (6 * n) j)) 0 m =
+      let spans : upTo (λ j. spanOf (spanAt r (take t bs) (6 * n) j)) 0 m ≡ upTo (λ j. spanOf (spanAt r bs (6 * n) j)) 0 m =
       upTo-cong _ _ 0 m (λ j l. ap spanOf (span-same j (omega arith))) in
-      λ k. record { first = g .first; days = g .days; interval = g .interval; slots = slots k; spans = spans k }
+      λ k. record { layout = g .layout; first = g .first; days = g .days; interval = g .interval; slots = slots k; spans = spans k }
 
 -- what the reader accepts is the file of a well-formed content: the one that its answers, figures and tables, hold
 pub canonical : (bs : List ℕ) → Bytes bs → (g : Figures) → readFile bs ≡ Accepted g

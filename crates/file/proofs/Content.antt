@@ -1,51 +1,59 @@
 -- A content whose numbers fit is read back from its file, so a file has one content only.
 use mathlib.Core.Path.{_≡_, refl, sym, ap, _∙_}
+use mathlib.Core.Bool.{Bool}
 use mathlib.Core.List.{List, [], _++_, append-assoc, append-nil}
 use Prim.Native.Nat.{ℕ, _+_, _*_, _^_, _<_}
-use native.Mathlib.Nat.{add-zero, zero-add}
+use native.Mathlib.Nat.{add-zero, zero-add, mul-le-mul-right}
 use native.Mathlib.Omega.{arith}
 use lib.Dec.{lit<}
 use lib.ListN.{length, length-append}
 use Rattle.rules.specs.declared.Quality.{Quality}
 use Rattle.rules.specs.declared.Quality.the-variants.{A, S, F, N}
 use Rattle.rules.specs.Spans.{noSpan, upTo}
-use Rattle.file.specs.Layout.{Content, row, table, letter, slotRow, spanRow, trailerRow, layoutOf, figuresOf, tablesOf, fileOf}
+use Rattle.file.specs.Layout.{Content, row, table, letter, slotRow, ranged, spanRow, spanWidth, trailerRow, figuresOf, tablesOf, fileOf}
 use Rattle.file.specs.Reader.{num, byte, slotAt, spanAt, trailerAt, figures, distance, slotCount}
 use Rattle.file.specs.Contents.{Fitting, slot, span, noSlot, slotRecord, spanRecord, qualityOf, outcomeOf, spanOf, contentOf}
 use Rattle.file.proofs.Numbers.{num-skip, num-one}
 use Rattle.file.proofs.Rows.{before, field, field-at, length-row, length-table, table-field}
 use Rattle.file.proofs.Lists.{upTo-list}
-use Rattle.file.proofs.Layouts.{layout-lt}
+use Rattle.file.proofs.SpanRecords.{Stands, span-wide, span-read, width-le}
 
 module _ (f : Content) where
   abbrev trailer : List (ℕ × ℕ)
   trailer = trailerRow (figuresOf f)
 
+  -- whether its span records are ranged, and how wide
+  abbrev r : Bool
+  r = ranged (f .layout)
+
+  abbrev w : ℕ
+  w = spanWidth r
+
   slotPart : List ℕ
   slotPart = table slotRow (f .slots)
 
   spanPart : List ℕ
-  spanPart = table spanRow (f .spans)
+  spanPart = table (spanRow r) (f .spans)
 
   length-slots : length slotPart ≡ 6 * length (f .slots)
   unfolding slotPart
   length-slots = length-table slotRow 6 (λ x. refl) (f .slots)
 
-  length-spans : length spanPart ≡ 10 * length (f .spans)
+  length-spans : length spanPart ≡ w * length (f .spans)
   unfolding spanPart
-  length-spans = length-table spanRow 10 (λ x. refl) (f .spans)
+  length-spans = length-table (spanRow r) w (span-wide r) (f .spans)
 
   parts : fileOf f ≡ slotPart ++ (spanPart ++ row trailer)
   unfolding fileOf tablesOf slotPart spanPart
   parts = append-assoc slotPart spanPart (row trailer)
 
-  pub length-file : length (fileOf f) ≡ 6 * length (f .slots) + 10 * length (f .spans) + 32
+  pub length-file : length (fileOf f) ≡ 6 * length (f .slots) + w * length (f .spans) + 32
   length-file =
       ap length parts ∙ length-append slotPart (spanPart ++ row trailer)
       ∙ ap (λ (n : ℕ). length slotPart + n) (length-append spanPart (row trailer))
       ∙ omega (arith, length-slots, length-spans, length-row trailer)
 
-  pub trailer-place : trailerAt (fileOf f) ≡ 6 * length (f .slots) + 10 * length (f .spans)
+  pub trailer-place : trailerAt (fileOf f) ≡ 6 * length (f .slots) + w * length (f .spans)
   trailer-place = omega (arith, length-file)
 
   pub slot-field : (i j : ℕ) → i < length (f .slots) → j < length (slotRow (slot f i)) → field (slotRow (slot f i)) j .1 < 256 ^ field (slotRow (slot f i)) j .0
@@ -53,16 +61,15 @@ module _ (f : Content) where
   unfolding slotPart
   slot-field i j l m fit = rw parts (table-field slotRow 6 (λ x. refl) (f .slots) noSlot (spanPart ++ row trailer) i j l m fit)
 
-  pub span-field : (i j : ℕ) → i < length (f .spans) → j < length (spanRow (span f i)) → field (spanRow (span f i)) j .1 < 256 ^ field (spanRow (span f i)) j .0
-      → num (field (spanRow (span f i)) j .0) (fileOf f) (6 * length (f .slots) + 10 * i + before (spanRow (span f i)) j) ≡ field (spanRow (span f i)) j .1
+  pub span-field : (i : ℕ) → i < length (f .spans) → Stands r (span f i) (fileOf f) (6 * length (f .slots) + w * i)
   unfolding spanPart
-  span-field i j l m fit =
-      let k : ℕ = field (spanRow (span f i)) j .0 in
-      let o : ℕ = before (spanRow (span f i)) j in
-      let e : 6 * length (f .slots) + 10 * i + o ≡ length slotPart + (10 * i + o) = omega (arith, length-slots) in
+  span-field i l j m fit =
+      let k : ℕ = field (spanRow r (span f i)) j .0 in
+      let o : ℕ = before (spanRow r (span f i)) j in
+      let e : 6 * length (f .slots) + w * i + o ≡ length slotPart + (w * i + o) = omega (arith, length-slots) in
       rw (parts, e)
-      (num-skip slotPart (spanPart ++ row trailer) k (10 * i + o)
-      ∙ table-field spanRow 10 (λ x. refl) (f .spans) noSpan (row trailer) i j l m fit)
+      (num-skip slotPart (spanPart ++ row trailer) k (w * i + o)
+      ∙ table-field (spanRow r) w (span-wide r) (f .spans) noSpan (row trailer) i j l m fit)
 
   pub trailer-field : (j : ℕ) → j < 10 → field trailer j .1 < 256 ^ field trailer j .0
       → num (field trailer j .0) (fileOf f) (trailerAt (fileOf f) + before trailer j) ≡ field trailer j .1
@@ -105,20 +112,8 @@ module _ (f : Content) (h : Fitting f) where
       λ k. record { value = v k; letter = q k; method = m k }
 
   -- the record of span j, whose table begins at byte b
-  pub span-back : (b : ℕ) → b ≡ 6 * length (f .slots) → (j : ℕ) → j < length (f .spans) → spanAt (fileOf f) b j ≡ spanRecord (span f j)
-  unfolding spanAt
-  span-back b e j l =
-      let one : (o : ℕ) → byte (fileOf f) (b + 10 * j + o) ≡ num 1 (fileOf f) (6 * length (f .slots) + 10 * j + o) =
-      λ o. sym (num-one (fileOf f) (b + 10 * j + o)) ∙ ap (λ (x : ℕ). num 1 (fileOf f) (x + 10 * j + o)) e in
-      let first : num 2 (fileOf f) (b + 10 * j) ≡ span f j .first =
-      ap (num 2 (fileOf f)) (omega arith) ∙ span-field f j 0 l (lit< tt) (h .eachSpan j l .first) in
-      let last : num 2 (fileOf f) (b + 10 * j + 2) ≡ span f j .last =
-      ap (num 2 (fileOf f)) (omega arith) ∙ span-field f j 1 l (lit< tt) (h .eachSpan j l .last) in
-      let advance : num 4 (fileOf f) (b + 10 * j + 4) ≡ span f j .advance =
-      ap (num 4 (fileOf f)) (omega arith) ∙ span-field f j 2 l (lit< tt) (h .eachSpan j l .advance) in
-      let state : byte (fileOf f) (b + 10 * j + 8) ≡ span f j .state = one 8 ∙ span-field f j 3 l (lit< tt) (h .eachSpan j l .state) in
-      let blank : byte (fileOf f) (b + 10 * j + 9) ≡ 0 = one 9 ∙ span-field f j 4 l (lit< tt) (lit< tt) in
-      λ k. record { first = first k; last = last k; advance = advance k; state = state k; blank = blank k }
+  pub span-back : (b : ℕ) → b ≡ 6 * length (f .slots) → (j : ℕ) → j < length (f .spans) → spanAt (r f) (fileOf f) b j ≡ spanRecord (span f j)
+  span-back b e j l = rw e (span-read (span f j) (fileOf f) _ (r f) (h .eachSpan j l) (span-field f j l))
 
   -- the trailer's head fields, layout and distance
   pub first-back : num 2 (fileOf f) (trailerAt (fileOf f)) ≡ f .first
@@ -133,17 +128,17 @@ module _ (f : Content) (h : Fitting f) where
   unfolding figuresOf
   interval-back = sym (num-one (fileOf f) (trailerAt (fileOf f) + 4)) ∙ trailer-field f 2 (lit< tt) (h .interval)
 
-  pub layout-back : byte (fileOf f) (trailerAt (fileOf f) + 5) ≡ layoutOf (f .slots)
+  pub layout-back : byte (fileOf f) (trailerAt (fileOf f) + 5) ≡ f .layout
   unfolding figuresOf
-  layout-back = sym (num-one (fileOf f) (trailerAt (fileOf f) + 5)) ∙ trailer-field f 3 (lit< tt) (layout-lt (f .slots))
+  layout-back = sym (num-one (fileOf f) (trailerAt (fileOf f) + 5)) ∙ trailer-field f 3 (lit< tt) (h .layout)
 
   pub spans-back : num 2 (fileOf f) (trailerAt (fileOf f) + 6) ≡ length (f .spans)
   unfolding figuresOf
   spans-back = trailer-field f 4 (lit< tt) (h .spans)
 
-  pub distance-back : distance (fileOf f) ≡ 10 * length (f .spans)
+  pub distance-back : distance (fileOf f) ≡ w f * length (f .spans)
   unfolding figuresOf
-  distance-back = trailer-field f 9 (lit< tt) (omega (arith, h .spans))
+  distance-back = trailer-field f 9 (lit< tt) (omega (arith, h .spans, mul-le-mul-right (length (f .spans)) (width-le (r f))))
 
   -- N
   slots-back : slotCount (figures (fileOf f)) ≡ length (f .slots)
@@ -156,20 +151,21 @@ module _ (f : Content) (h : Fitting f) where
       ap (λ (x : ℕ). outcomeOf (slotAt (fileOf f) x)) (zero-add i) ∙ ap outcomeOf (slot-back i l)
       ∙ (λ k. record { value = slot f i .value; quality = quality-back (slot f i .quality) k; method = slot f i .method })))
 
-  spans-list : (b n : ℕ) → b ≡ 6 * length (f .slots) → n ≡ length (f .spans) → upTo (λ j. spanOf (spanAt (fileOf f) b j)) 0 n ≡ f .spans
-  spans-list b n e m =
-      rw m (upTo-list (f .spans) noSpan _ 0 (λ j l. ap (λ (x : ℕ). spanOf (spanAt (fileOf f) b x)) (zero-add j) ∙ ap spanOf (span-back b e j l)))
+  spans-list : (q : Bool) (b n : ℕ) → q ≡ r f → b ≡ 6 * length (f .slots) → n ≡ length (f .spans) → upTo (λ j. spanOf (spanAt q (fileOf f) b j)) 0 n ≡ f .spans
+  spans-list q b n d e m =
+      rw (d, m) (upTo-list (f .spans) noSpan _ 0 (λ j l. ap (λ (x : ℕ). spanOf (spanAt (r f) (fileOf f) b x)) (zero-add j) ∙ ap spanOf (span-back b e j l)))
 
   -- the content of the file's figures and bytes is the content
   read-back : contentOf (figures (fileOf f)) (fileOf f) ≡ f
   unfolding contentOf figures
   read-back =
       λ k. record {
+        layout = layout-back k;
         first = first-back k;
         days = days-back k;
         interval = interval-back k;
         slots = slots-list _ slots-back k;
-        spans = spans-list _ _ (ap (λ (n : ℕ). 6 * n) slots-back) spans-back k;
+        spans = spans-list _ _ _ (ap ranged layout-back) (ap (λ (n : ℕ). 6 * n) slots-back) spans-back k;
       }
 
 -- contents that fit their fields have equal files only when they are equal

@@ -3,14 +3,16 @@ use mathlib.Core.Path.{_≡_, refl}
 use mathlib.Core.Bool.{true}
 use Prim.Native.Nat.{ℕ, zero, suc, _+_, _^_, _≤_, _<_}
 use native.Mathlib.Omega.{arith}
+use lib.ListN.{length}
 use borrow.Author.Tests.{leb-true}
 use Rattle.rules.proofs.Logic.{passed}
 use Rattle.file.specs.Lists.{all}
-use Rattle.file.specs.Layout.{Content}
+use Rattle.file.specs.Layout.{Content, ranged}
 use Rattle.file.specs.Reader.{Tables, headTests, tableTests, spanTests, spanOk}
 use Rattle.file.specs.Contents.{WellFormed, Fitting, SpanFits, span, recordsOf}
 use Rattle.file.proofs.Stretches.{all-at}
 use Rattle.file.proofs.Records.{record-tells}
+use Rattle.file.proofs.Layouts.{layout-lt}
 use Rattle.file.proofs.Head.{days-le, interval-is}
 use Rattle.file.proofs.Inside.{ordered, follow}
 
@@ -40,16 +42,19 @@ module _ (f : Content) (w : WellFormed f) where
   few : f .days ≤ 400
   few = days-le (f .first) (f .days) (f .interval) (w .head)
 
-  span-fits : (j : ℕ) → spanOk t j ≡ true → SpanFits (span f j)
+  span-fits : (j : ℕ) → j < length (f .spans) → spanOk t j ≡ true → SpanFits (ranged (f .layout)) (span f j)
   unfolding spanOk
-  span-fits j ok =
-      let r : span f j .advance ≤ 99999999 = leb-true _ _ (passed (spanTests t j) ok 3) in
-      let s : span f j .state ≤ 3 = leb-true _ _ (passed (spanTests t j) ok 4) in
+  span-fits j l ok =
+      let r : span f j .lowest ≤ span f j .highest = leb-true _ _ (passed (spanTests t j) ok 3) in
+      let q : span f j .highest ≤ 99999999 = leb-true _ _ (passed (spanTests t j) ok 4) in
+      let s : span f j .state ≤ 3 = leb-true _ _ (passed (spanTests t j) ok 5) in
       record {
         first = omega (arith, few, ordered t j ok);
         last = omega (arith, few, ordered t j ok);
-        advance = omega arith;
+        lowest = omega arith;
+        highest = omega arith;
         state = omega arith;
+        exact = λ e. w .exact e j l;
       }
 
   pub fitting : Fitting f
@@ -58,11 +63,12 @@ module _ (f : Content) (w : WellFormed f) where
       let recordsOk = passed (tableTests t) (w .tables) 0 in
       let until : f .first + f .days ≤ 36525 = leb-true _ _ (passed (headTests (f .first) (f .days) (f .interval)) (w .head) 3) in
       record {
+        layout = layout-lt (f .layout) (w .known);
         first = omega arith;
         days = omega (arith, few);
         interval = interval-is (f .first) (f .days) (f .interval) (w .head) (λ x. x < 2 ^ 8) (omega arith) (omega arith) (omega arith);
         slots = w .slots;
         spans = omega (arith, few, spans-le t spansOk);
         eachSlot = λ i l. record { value = w .values i l; method = record-tells (t .slot i) (all-at _ _ recordsOk i (rw (← w .slots) l)) .1 };
-        eachSpan = λ j l. span-fits j (all-at (spanOk t) (t .spans) spansOk j l);
+        eachSpan = λ j l. span-fits j l (all-at (spanOk t) (t .spans) spansOk j l);
       }

@@ -6,6 +6,7 @@ pub mod Rows
 pub mod Written
 pub mod Records
 pub mod Layouts
+pub mod SpanRecords
 pub mod Head
 pub mod Inside
 pub mod States

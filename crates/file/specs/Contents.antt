@@ -1,6 +1,6 @@
 -- What the theorems on files say of a content: that its numbers fit their fields, that it is well formed, and what two tables and figures hold.
 use mathlib.Core.Path.{_≡_}
-use mathlib.Core.Bool.{true, cond}
+use mathlib.Core.Bool.{Bool, true, false, cond}
 use mathlib.Core.List.{List}
 use Prim.Native.Nat.{ℕ, _*_, _/_, _^_, _<_}
 use lib.Dec.{eqb}
@@ -10,12 +10,12 @@ use Rattle.rules.specs.declared.Quality.{Quality}
 use Rattle.rules.specs.declared.Quality.the-variants.{A, S, F, N}
 use Rattle.rules.specs.declared.Span.{Span}
 use Rattle.rules.specs.Lists.{every}
-use Rattle.rules.specs.Spans.{noSpan, upTo}
+use Rattle.rules.specs.Spans.{isF, noSpan, upTo}
 use Rattle.file.specs.declared.Figures.{Figures}
 use Rattle.file.specs.declared.slots.SlotRecord.{SlotRecord}
 use Rattle.file.specs.declared.spans.SpanRecord.{SpanRecord}
-use Rattle.file.specs.Layout.{Content, letter}
-use Rattle.file.specs.Reader.{Tables, slotAt, spanAt, slotCount, headTests, tableTests}
+use Rattle.file.specs.Layout.{Content, letter, total, one, ranged}
+use Rattle.file.specs.Reader.{Tables, slotAt, spanAt, slotCount, layoutOk, layoutFits, headTests, tableTests}
 
 -- every element is a byte
 abbrev pub Bytes : List ℕ → Type 0
@@ -37,21 +37,25 @@ pub record SlotFits (o : Outcome) : Type 0 where
   pub value : o .value < 2 ^ 32
   pub method : o .method < 2 ^ 8
 
-pub record SpanFits (s : Span) : Type 0 where
+-- a record that is not ranged has one advance
+pub record SpanFits (r : Bool) (s : Span) : Type 0 where
   pub first : s .first < 2 ^ 16
   pub last : s .last < 2 ^ 16
-  pub advance : s .advance < 2 ^ 32
+  pub lowest : s .lowest < 2 ^ 32
+  pub highest : s .highest < 2 ^ 32
   pub state : s .state < 2 ^ 8
+  pub exact : r ≡ false → s .lowest ≡ s .highest
 
 -- there are N slots
 pub record Fitting (f : Content) : Type 0 where
+  pub layout : f .layout < 2 ^ 8
   pub first : f .first < 2 ^ 16
   pub days : f .days < 2 ^ 16
   pub interval : f .interval < 2 ^ 8
   pub slots : length (f .slots) ≡ 1440 / f .interval * f .days
   pub spans : length (f .spans) < 2 ^ 16
   pub eachSlot : (i : ℕ) → i < length (f .slots) → SlotFits (slot f i)
-  pub eachSpan : (j : ℕ) → j < length (f .spans) → SpanFits (span f j)
+  pub eachSpan : (j : ℕ) → j < length (f .spans) → SpanFits (ranged (f .layout)) (span f j)
 
 -- ---- Well-formed contents
 
@@ -60,7 +64,7 @@ abbrev pub slotRecord : Outcome → SlotRecord
 slotRecord o = record { value = o .value; letter = letter (o .quality); method = o .method }
 
 abbrev pub spanRecord : Span → SpanRecord
-spanRecord s = record { first = s .first; last = s .last; advance = s .advance; state = s .state; blank = 0 }
+spanRecord s = record { first = s .first; last = s .last; lowest = s .lowest; highest = s .highest; state = s .state; blank = 0 }
 
 abbrev pub recordsOf : Content → Tables
 recordsOf f = record {
@@ -71,12 +75,16 @@ recordsOf f = record {
   span = λ j. spanRecord (span f j);
 }
 
--- first day, D and L as under Opening, N slots, and what the reader asks of the records and spans
+-- first day, D and L as under Opening, N slots, and what the reader asks of the records and spans;
+-- a layout that goes with its F slots, and in layouts 1 and 2 spans of one advance R
 pub record WellFormed (f : Content) : Type 0 where
   pub head : every (headTests (f .first) (f .days) (f .interval)) ≡ true
   pub slots : length (f .slots) ≡ 1440 / f .interval * f .days
   pub values : (i : ℕ) → i < length (f .slots) → slot f i .value < 2 ^ 32
   pub tables : every (tableTests (recordsOf f)) ≡ true
+  pub known : layoutOk (f .layout) ≡ true
+  pub fits : layoutFits (f .layout) (total (one isF) (f .slots)) ≡ true
+  pub exact : ranged (f .layout) ≡ false → (j : ℕ) → j < length (f .spans) → span f j .lowest ≡ span f j .highest
 
 -- ---- What figures and tables hold
 
@@ -87,14 +95,15 @@ abbrev pub outcomeOf : SlotRecord → Outcome
 outcomeOf r = record { value = r .value; quality = qualityOf (r .letter); method = r .method }
 
 abbrev pub spanOf : SpanRecord → Span
-spanOf r = record { first = r .first; last = r .last; advance = r .advance; state = r .state }
+spanOf r = record { first = r .first; last = r .last; lowest = r .lowest; highest = r .highest; state = r .state }
 
 -- the content of these figures and of these bytes of the two tables
 unfoldable pub contentOf : Figures → List ℕ → Content
 contentOf g bs = record {
+  layout = g .layout;
   first = g .first;
   days = g .days;
   interval = g .interval;
   slots = upTo (λ i. outcomeOf (slotAt bs i)) 0 (slotCount g);
-  spans = upTo (λ j. spanOf (spanAt bs (6 * slotCount g) j)) 0 (g .spans);
+  spans = upTo (λ j. spanOf (spanAt (ranged (g .layout)) bs (6 * slotCount g) j)) 0 (g .spans);
 }

@@ -1,8 +1,8 @@
 -- The bytes of a published file (01, The published file).
-use mathlib.Core.Bool.{Bool, cond}
+use mathlib.Core.Bool.{Bool, true, false, cond}
 use mathlib.Core.List.{List, [], _∷_, _++_}
 use Prim.Native.Nat.{ℕ, zero, suc, _+_, _*_, _/_, _%_}
-use lib.Dec.{ltb}
+use lib.Dec.{eqb}
 use lib.ListN.{length}
 use Rattle.rules.specs.declared.Outcome.{Outcome}
 use Rattle.rules.specs.declared.Quality.{Quality}
@@ -37,18 +37,29 @@ letter N = 78
 abbrev pub slotRow : Outcome → List (ℕ × ℕ)
 slotRow o = (4, o .value) ∷ (1, letter (o .quality)) ∷ (1, o .method) ∷ []
 
--- first boundary (2), last boundary (2), R (4), state (1), zero (1)
-abbrev pub spanRow : Span → List (ℕ × ℕ)
-spanRow s = (2, s .first) ∷ (2, s .last) ∷ (4, s .advance) ∷ (1, s .state) ∷ (1, 0) ∷ []
+-- the span records of layout 3 hold lowest and highest advance in place of R (02, W10)
+abbrev pub ranged : ℕ → Bool
+ranged layout = eqb layout 3
 
--- first day number (2), D (2), L (1), layout (1), M (2), counts of A, of S and F, and of N slots (4 each), sum of all slot values (8), distance 10 × M (4)
+-- first boundary (2), last boundary (2), R (4), state (1), zero (1); where it is ranged, lowest and highest advance (4 each) in place of R
+abbrev pub spanRow : Bool → Span → List (ℕ × ℕ)
+spanRow false s = (2, s .first) ∷ (2, s .last) ∷ (4, s .lowest) ∷ (1, s .state) ∷ (1, 0) ∷ []
+spanRow true s = (2, s .first) ∷ (2, s .last) ∷ (4, s .lowest) ∷ (4, s .highest) ∷ (1, s .state) ∷ (1, 0) ∷ []
+
+-- the bytes of a span record
+abbrev pub spanWidth : Bool → ℕ
+spanWidth false = 10
+spanWidth true = 14
+
+-- first day number (2), D (2), L (1), layout (1), M (2), counts of A, of S and F, and of N slots (4 each), sum of all slot values (8), distance 10 × M or, in layout 3, 14 × M (4)
 abbrev pub trailerRow : Figures → List (ℕ × ℕ)
 trailerRow g =
     (2, g .first) ∷ (2, g .days) ∷ (1, g .interval) ∷ (1, g .layout) ∷ (2, g .spans)
-    ∷ (4, g .actual) ∷ (4, g .substituted) ∷ (4, g .none) ∷ (8, g .sum) ∷ (4, 10 * g .spans) ∷ []
+    ∷ (4, g .actual) ∷ (4, g .substituted) ∷ (4, g .none) ∷ (8, g .sum) ∷ (4, spanWidth (ranged (g .layout)) * g .spans) ∷ []
 
--- what a file holds: the first day's number, D, L, a slot's outcome and a span's for each in order
+-- what a file holds: its layout, the first day's number, D, L, a slot's outcome and a span's for each in order
 pub record Content : Type 0 where
+  pub layout : ℕ
   pub first : ℕ
   pub days : ℕ
   pub interval : ℕ
@@ -64,10 +75,6 @@ total g (o ∷ os) = g o + total g os
 abbrev pub one : (Quality → Bool) → Outcome → ℕ
 one q o = cond (q (o .quality)) 1 0
 
--- a file with an F slot carries layout 2, any other layout 1 (02, W1)
-unfoldable pub layoutOf : List Outcome → ℕ
-layoutOf os = cond (ltb 0 (total (one isF) os)) 2 1
-
 -- what the trailer says of a content; F counts with S (02, W1)
 unfoldable pub figuresOf : Content → Figures
 figuresOf f = record {
@@ -79,12 +86,12 @@ figuresOf f = record {
   substituted = total (one isS) (f .slots) + total (one isF) (f .slots);
   none = total (one isN) (f .slots);
   sum = total (λ o. o .value) (f .slots);
-  layout = layoutOf (f .slots);
+  layout = f .layout;
 }
 
 -- the slot table and the span table
 unfoldable pub tablesOf : Content → List ℕ
-tablesOf f = table slotRow (f .slots) ++ table spanRow (f .spans)
+tablesOf f = table slotRow (f .slots) ++ table (spanRow (ranged (f .layout))) (f .spans)
 
 unfoldable pub fileOf : Content → List ℕ
 fileOf f = tablesOf f ++ row (trailerRow (figuresOf f))

@@ -15,7 +15,7 @@ use Rattle.file.specs.declared.Verdict.the-variants.{Accepted, Refused}
 use Rattle.file.specs.declared.slots.SlotRecord.{SlotRecord}
 use Rattle.file.specs.declared.spans.SpanRecord.{SpanRecord}
 use Rattle.file.specs.Lists.{all, count, some, same, implies}
-use Rattle.file.specs.Layout.{letter}
+use Rattle.file.specs.Layout.{letter, ranged, spanWidth}
 
 -- ---- What stands in the bytes
 
@@ -31,15 +31,28 @@ byte bs at = getD bs at 0
 unfoldable pub slotAt : List ℕ → ℕ → SlotRecord
 slotAt bs i = record { value = num 4 bs (6 * i); letter = byte bs (6 * i + 4); method = byte bs (6 * i + 5) }
 
--- record j of a span table from byte b
-unfoldable pub spanAt : List ℕ → ℕ → ℕ → SpanRecord
-spanAt bs b j = record {
-  first = num 2 bs (b + 10 * j);
-  last = num 2 bs (b + 10 * j + 2);
-  advance = num 4 bs (b + 10 * j + 4);
-  state = byte bs (b + 10 * j + 8);
-  blank = byte bs (b + 10 * j + 9);
+-- the span record from place p; one that is not ranged has R as lowest and highest advance
+unfoldable pub spanFrom : Bool → List ℕ → ℕ → SpanRecord
+spanFrom false bs p = record {
+  first = num 2 bs p;
+  last = num 2 bs (p + 2);
+  lowest = num 4 bs (p + 4);
+  highest = num 4 bs (p + 4);
+  state = byte bs (p + 8);
+  blank = byte bs (p + 9);
 }
+spanFrom true bs p = record {
+  first = num 2 bs p;
+  last = num 2 bs (p + 2);
+  lowest = num 4 bs (p + 4);
+  highest = num 4 bs (p + 8);
+  state = byte bs (p + 12);
+  blank = byte bs (p + 13);
+}
+
+-- record j of a span table from byte b
+abbrev pub spanAt : Bool → List ℕ → ℕ → ℕ → SpanRecord
+spanAt r bs b j = spanFrom r bs (b + spanWidth r * j)
 
 -- the trailer is the last 32 bytes
 abbrev pub trailerAt : List ℕ → ℕ
@@ -78,17 +91,21 @@ headTests first days interval =
     ∷ leb (first + days) 36525
     ∷ []
 
--- the reader knows layouts 1 and 2 (02, W1)
+-- the reader knows layouts 1 and 2 (02, W1) and 3 (02, W10)
 unfoldable pub layoutOk : ℕ → Bool
-layoutOk layout = eqb layout 1 || eqb layout 2
+layoutOk layout = eqb layout 1 || (eqb layout 2 || eqb layout 3)
+
+-- the bytes of the span table
+abbrev pub spanBytes : Figures → ℕ
+spanBytes g = spanWidth (ranged (g .layout)) * g .spans
 
 abbrev pub trailerTests : List ℕ → Figures → List Bool
 trailerTests bs g =
     leb 32 (length bs)
     ∷ every (headTests (g .first) (g .days) (g .interval))
     ∷ layoutOk (g .layout)
-    ∷ eqb (distance bs) (10 * g .spans)
-    ∷ eqb (length bs) (6 * slotCount g + 10 * g .spans + 32)
+    ∷ eqb (distance bs) (spanBytes g)
+    ∷ eqb (length bs) (6 * slotCount g + spanBytes g + 32)
     ∷ []
 
 -- ---- 9: anything else broken
@@ -125,24 +142,33 @@ scaled r = isScaled (r .method)
 abbrev pub unscaled : SlotRecord → Bool
 unscaled r = ofQuality S r && not (scaled r)
 
--- state 2 exactly when it has an N; 1 exactly when it has a method 18 or 19, and then every S in it is such and its values sum to R; in state 0 no S
+-- a sum from lowest to highest
+abbrev pub inRange : ℕ → ℕ → ℕ → Bool
+inRange lowest sum highest = leb lowest sum && leb sum highest
+
+-- state 2 exactly when it has an N; 1 exactly when it has a method 18 or 19, and then every S in it is such and its values sum to R, or lie in its range; in state 0 no S
 abbrev pub stateRule : ℕ → Bool → Bool → Bool → Bool → Bool → List Bool
-stateRule state hasN hasScaled hasUnscaled hasS sumsToR =
+stateRule state hasN hasScaled hasUnscaled hasS sumInRange =
     same (eqb state 2) hasN
     ∷ same (eqb state 1) hasScaled
     ∷ implies (eqb state 1) (not hasUnscaled)
-    ∷ implies (eqb state 1) sumsToR
+    ∷ implies (eqb state 1) sumInRange
     ∷ implies (eqb state 0) (not hasS)
     ∷ []
 
+-- layout 2 has an F and layout 1 has none (02, W1); layout 3 is with or without one (02, W10)
+unfoldable pub layoutFits : ℕ → ℕ → Bool
+layoutFits layout agreed = ranged layout || same (eqb layout 2) (ltb 0 agreed)
+
 module _ (t : Tables) where
-  -- first < last ≤ D, each beginning where the one before ended, R ≤ 99,999,999, state 0 to 3, last byte zero
+  -- first < last ≤ D, each beginning where the one before ended, lowest ≤ highest ≤ 99,999,999, state 0 to 3, last byte zero
   abbrev pub spanTests : ℕ → List Bool
   spanTests j =
       ltb (t .span j .first) (t .span j .last)
       ∷ leb (t .span j .last) (t .days)
       ∷ implies (ltb 0 j) (eqb (t .span j .first) (t .span (j - 1) .last))
-      ∷ leb (t .span j .advance) 99999999
+      ∷ leb (t .span j .lowest) (t .span j .highest)
+      ∷ leb (t .span j .highest) 99999999
       ∷ leb (t .span j .state) 3
       ∷ eqb (t .span j .blank) 0
       ∷ []
@@ -164,7 +190,7 @@ module _ (t : Tables) where
   abbrev pub stateTests : ℕ → List Bool
   stateTests j =
       stateRule (t .span j .state) (has (ofQuality N) j) (has scaled j) (has unscaled j) (has (ofQuality S) j)
-      (eqb (sum (λ i. t .slot i .value) (startOf j) (slotsOf j)) (t .span j .advance))
+      (inRange (t .span j .lowest) (sum (λ i. t .slot i .value) (startOf j) (slotsOf j)) (t .span j .highest))
 
   unfoldable pub stateOk : ℕ → Bool
   stateOk j = every (stateTests j)
@@ -189,13 +215,13 @@ module _ (t : Tables) where
   abbrev pub countOf : Quality → ℕ
   countOf q = count (λ i. ofQuality q (t .slot i)) 0 (t .perDay * t .days)
 
-  -- right counts, F with S; an F exactly in layout 2; right sum
+  -- right counts, F with S; a layout that goes with its F slots; right sum
   abbrev pub figureTests : Figures → List Bool
   figureTests g =
       eqb (countOf A) (g .actual)
       ∷ eqb (countOf S + countOf F) (g .substituted)
       ∷ eqb (countOf N) (g .none)
-      ∷ same (eqb (g .layout) 2) (ltb 0 (countOf F))
+      ∷ layoutFits (g .layout) (countOf F)
       ∷ eqb (sum (λ i. t .slot i .value) 0 (t .perDay * t .days)) (g .sum)
       ∷ []
 
@@ -207,7 +233,7 @@ tablesAt bs g = record {
   days = g .days;
   spans = g .spans;
   slot = slotAt bs;
-  span = spanAt bs (6 * slotCount g);
+  span = spanAt (ranged (g .layout)) bs (6 * slotCount g);
 }
 
 unfoldable pub trailerOk : List ℕ → Figures → Bool

@@ -6,9 +6,7 @@ mod trailer;
 pub mod writer;
 
 ghost use mathlib.Core.Path.{_≡_};
-ghost use lib.Dec.{eqb, ltb};
-ghost use Rattle.file.specs.Lists.{same};
-ghost use Rattle.file.specs.Reader.{tablesOk, figuresOk, readFile, tablesPart};
+ghost use Rattle.file.specs.Reader.{layoutFits, tablesOk, figuresOk, readFile, tablesPart};
 ghost use Rattle.file.specs.Inner.Reading.{Ready};
 
 // The figures of a file's trailer: first day number, D, L, M, counts of A, of S and F, and of N slots, sum, layout.
@@ -47,10 +45,13 @@ fn tables_ok(file: &[u8], g: Figures) -> bool
     spans::outside_ok(file, g)
 }
 
-// An F is there exactly in layout 2.
+// Layout 3 is with or without an F; of the others layout 2 has one.
 fn layout_fits(layout: u32, agreed: usize) -> bool
-    ensures { λ r. ⌜ r ≡ same (eqb layout 2) (ltb 0 agreed) ⌝ }
+    ensures { λ r. ⌜ r ≡ layoutFits layout agreed ⌝ }
 {
+    if layout == 3 {
+        return true;
+    }
     if layout == 2 {
         return 0 < agreed;
     }

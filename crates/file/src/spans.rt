@@ -5,42 +5,73 @@ use crate::slots;
 use crate::slots::Kind;
 use crate::trailer;
 ghost use mathlib.Core.Path.{_≡_};
-ghost use mathlib.Core.Bool.{true};
+ghost use mathlib.Core.Bool.{true, false};
 ghost use mathlib.Core.List.{[], _∷_};
-ghost use Prim.Native.Nat.{_-_, _*_, _<_};
+ghost use Prim.Native.Nat.{_+_, _-_, _*_, _<_, _≤_};
 ghost use lib.Dec.{eqb, leb, ltb};
+ghost use lib.ListN.{length};
 ghost use Rattle.rules.specs.Lists.{every};
 ghost use Rattle.file.specs.Lists.{all, implies};
-ghost use Rattle.file.specs.Reader.{spanAt, slotCount, tablesAt, stateRule, spanOk, stateOk, outsideOk};
+ghost use Rattle.file.specs.Layout.{ranged};
+ghost use Rattle.file.specs.Reader.{spanFrom, spanAt, slotCount, tablesAt, inRange, stateRule, spanOk, stateOk, outsideOk};
 ghost use Rattle.file.specs.Inner.Reading.{Ready};
 
 // A record of the span table; `blank` is its last byte.
 pub struct SpanRecord {
     pub first: u32,
     pub last: u32,
-    pub advance: u32,
+    pub lowest: u32,
+    pub highest: u32,
     pub state: u8,
     pub blank: u8,
 }
 
-fn span_at(file: &[u8], g: Figures, j: usize) -> SpanRecord
-    requires { ⌜ Ready (now file) g × (j < g .spans) ⌝ }
-    ensures { λ r. ⌜ r ≡ spanAt (now (file .entry)) (6 * slotCount g) j ⌝ }
+// The record of layouts 1 and 2 from `p`: R is its lowest and its highest advance.
+fn exact_from(file: &[u8], p: usize) -> SpanRecord
+    requires { ⌜ p + 10 ≤ length (now file) ⌝ }
+    ensures { λ r. ⌜ r ≡ spanFrom false (now (file .entry)) p ⌝ }
 {
-    let p = 6 * trailer::slot_count(g) + 10 * j;
+    let advance = fields::number(file, p + 4, 4) as u32;
     SpanRecord {
         first: fields::number(file, p, 2) as u32,
         last: fields::number(file, p + 2, 2) as u32,
-        advance: fields::number(file, p + 4, 4) as u32,
+        lowest: advance,
+        highest: advance,
         state: file[p + 8],
         blank: file[p + 9],
     }
 }
 
+// The record of layout 3 from `p`.
+fn ranged_from(file: &[u8], p: usize) -> SpanRecord
+    requires { ⌜ p + 14 ≤ length (now file) ⌝ }
+    ensures { λ r. ⌜ r ≡ spanFrom true (now (file .entry)) p ⌝ }
+{
+    SpanRecord {
+        first: fields::number(file, p, 2) as u32,
+        last: fields::number(file, p + 2, 2) as u32,
+        lowest: fields::number(file, p + 4, 4) as u32,
+        highest: fields::number(file, p + 8, 4) as u32,
+        state: file[p + 12],
+        blank: file[p + 13],
+    }
+}
+
+fn span_at(file: &[u8], g: Figures, j: usize) -> SpanRecord
+    requires { ⌜ Ready (now file) g × (j < g .spans) ⌝ }
+    ensures { λ r. ⌜ r ≡ spanAt (ranged (g .layout)) (now (file .entry)) (6 * slotCount g) j ⌝ }
+{
+    let table = 6 * trailer::slot_count(g);
+    if g.layout == 3 {
+        return ranged_from(file, table + 14 * j);
+    }
+    exact_from(file, table + 10 * j)
+}
+
 // Span `j`, which begins at `first`, is the first one or begins where the one before ended.
 fn follows(file: &[u8], g: Figures, j: usize, first: u32) -> bool
     requires { ⌜ Ready (now file) g × (j < g .spans) ⌝ }
-    ensures { λ r. ⌜ r ≡ implies (ltb 0 j) (eqb first (spanAt (now (file .entry)) (6 * slotCount g) (j - 1) .last)) ⌝ }
+    ensures { λ r. ⌜ r ≡ implies (ltb 0 j) (eqb first (spanAt (ranged (g .layout)) (now (file .entry)) (6 * slotCount g) (j - 1) .last)) ⌝ }
 {
     if j == 0 {
         return true;
@@ -49,11 +80,14 @@ fn follows(file: &[u8], g: Figures, j: usize, first: u32) -> bool
     first == s.last
 }
 
-// R ≤ 99,999,999, state 0 to 3, last byte zero.
+// lowest ≤ highest ≤ 99,999,999, state 0 to 3, last byte zero.
 fn fields_ok(s: SpanRecord) -> bool
-    ensures { λ r. ⌜ r ≡ every (leb (s .advance) 99999999 ∷ leb (s .state) 3 ∷ eqb (s .blank) 0 ∷ []) ⌝ }
+    ensures { λ r. ⌜ r ≡ every (leb (s .lowest) (s .highest) ∷ leb (s .highest) 99999999 ∷ leb (s .state) 3 ∷ eqb (s .blank) 0 ∷ []) ⌝ }
 {
-    if 99_999_999 < s.advance {
+    if s.highest < s.lowest {
+        return false;
+    }
+    if 99_999_999 < s.highest {
         return false;
     }
     if 3 < s.state {
@@ -101,9 +135,9 @@ fn state_rule(
     scaled: bool,
     unscaled: bool,
     substituted: bool,
-    exact: bool,
+    in_range: bool,
 ) -> bool
-    ensures { λ r. ⌜ r ≡ every (stateRule state none scaled unscaled substituted exact) ⌝ }
+    ensures { λ r. ⌜ r ≡ every (stateRule state none scaled unscaled substituted «in_range») ⌝ }
 {
     if state == 2 {
         return none && !scaled;
@@ -115,7 +149,7 @@ fn state_rule(
         if unscaled {
             return false;
         }
-        return scaled && exact;
+        return scaled && in_range;
     }
     if scaled {
         return false;
@@ -124,6 +158,16 @@ fn state_rule(
         return !substituted;
     }
     true
+}
+
+// The sum is an advance of the range.
+fn is_within(lowest: u32, sum: u64, highest: u32) -> bool
+    ensures { λ r. ⌜ r ≡ inRange lowest sum highest ⌝ }
+{
+    if sum < lowest as u64 {
+        return false;
+    }
+    sum <= highest as u64
 }
 
 // Span `j` has the state that its slots allow.
@@ -136,15 +180,13 @@ fn state_ok(file: &[u8], g: Figures, j: usize) -> bool
     let a = s.first as usize * n;
     let k = (s.last - s.first) as usize * n;
     let found = slots::tally_of(file, a, k);
-    let sum = found.sum;
-    let r = s.advance as u64;
     state_rule(
         s.state,
         found.none,
         found.scaled,
         found.unscaled,
         found.substituted,
-        sum == r,
+        is_within(s.lowest, found.sum, s.highest),
     )
 }
 

@@ -4,10 +4,10 @@ use crate::fields;
 use rules::opening;
 ghost use mathlib.Core.Path.{_≡_};
 ghost use mathlib.Core.Bool.{true};
-ghost use Prim.Native.Nat.{_/_, _≤_};
+ghost use Prim.Native.Nat.{_*_, _/_, _≤_};
 ghost use lib.ListN.{length};
 ghost use Rattle.rules.specs.Lists.{every};
-ghost use Rattle.file.specs.Reader.{figures, headTests, layoutOk, slotCount, trailerOk};
+ghost use Rattle.file.specs.Reader.{figures, headTests, layoutOk, slotCount, spanBytes, trailerOk};
 
 // L, D and the first day are as under Opening.
 fn head_ok(g: Figures) -> bool
@@ -28,7 +28,10 @@ fn head_ok(g: Figures) -> bool
 fn is_layout(layout: u32) -> bool
     ensures { λ r. ⌜ r ≡ layoutOk layout ⌝ }
 {
-    layout == 1 || layout == 2
+    if layout == 1 {
+        return true;
+    }
+    layout == 2 || layout == 3
 }
 
 // n, the slots of a day.
@@ -45,6 +48,17 @@ pub fn slot_count(g: Figures) -> usize
     ensures { λ r. ⌜ (r ≡ slotCount g) × (r ≤ 115200) ⌝ }
 {
     per_day(g) * g.days as usize
+}
+
+// The bytes of the span table: records of 14 bytes in layout 3, of 10 in the others.
+pub fn span_bytes(g: Figures) -> u64
+    ensures { λ r. ⌜ (r ≡ spanBytes g) × (r ≤ 14 * g .spans) ⌝ }
+{
+    let m = g.spans as u64;
+    if g.layout == 3 {
+        return 14 * m;
+    }
+    10 * m
 }
 
 // The figures of the last 32 bytes.
@@ -78,11 +92,10 @@ pub fn trailer_ok(file: &[u8], g: Figures) -> bool
     if !is_layout(g.layout) {
         return false;
     }
-    let m = g.spans as u64;
     let distance = fields::number(file, t + 28, 4);
-    let back = 10 * m;
+    let back = span_bytes(g);
     if distance != back {
         return false;
     }
-    file.len() as u64 == 6 * slot_count(g) as u64 + 10 * m + 32
+    file.len() as u64 == 6 * slot_count(g) as u64 + back + 32
 }

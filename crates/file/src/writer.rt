@@ -1,14 +1,17 @@
 // Records and the trailer, written into a lent buffer.
 use crate::Figures;
 use crate::fields;
+use crate::trailer;
 use rules::Outcome;
 use rules::Quality;
 use rules::Span;
+ghost use mathlib.Core.Bool.{true};
 ghost use mathlib.Core.Path.{_≡_};
 ghost use mathlib.Core.List.{[], _∷_};
-ghost use Prim.Native.Nat.{_+_, _*_, _≤_};
+ghost use Prim.Native.Nat.{_+_, _≤_};
 ghost use lib.ListN.{length};
 ghost use Rattle.file.specs.Layout.{letter, row, slotRow, spanRow, trailerRow};
+ghost use Rattle.file.specs.Reader.{spanBytes};
 ghost use Rattle.file.specs.Inner.Writing.{written};
 
 fn letter_of(quality: Quality) -> u8
@@ -33,16 +36,25 @@ pub fn put_slot(buf: &mut [u8], at: usize, slot: Outcome)
     fields::put(buf, at + 5, 1, slot.method as u64);
 }
 
-// Writes a span record at `at`.
-pub fn put_span(buf: &mut [u8], at: usize, span: Span)
-    requires { ⌜ at + 10 ≤ length (now buf) ⌝ }
-    ensures { λ _. ⌜ now (buf .exit) ≡ written (now (buf .entry)) at (row (spanRow span)) ⌝ }
+// Writes a span's boundaries and the ends of its advance at `at`.
+fn put_range(buf: &mut [u8], at: usize, span: Span)
+    requires { ⌜ at + 12 ≤ length (now buf) ⌝ }
+    ensures { λ _. ⌜ now (buf .exit) ≡ written (now (buf .entry)) at (row ((2, span .first) ∷ (2, span .last) ∷ (4, span .lowest) ∷ (4, span .highest) ∷ [])) ⌝ }
 {
     fields::put(buf, at, 2, span.first as u64);
     fields::put(buf, at + 2, 2, span.last as u64);
-    fields::put(buf, at + 4, 4, span.advance as u64);
-    fields::put(buf, at + 8, 1, span.state as u64);
-    fields::put(buf, at + 9, 1, 0);
+    fields::put(buf, at + 4, 4, span.lowest as u64);
+    fields::put(buf, at + 8, 4, span.highest as u64);
+}
+
+// Writes a span record of layout 3 at `at`.
+pub fn put_span(buf: &mut [u8], at: usize, span: Span)
+    requires { ⌜ at + 14 ≤ length (now buf) ⌝ }
+    ensures { λ _. ⌜ now (buf .exit) ≡ written (now (buf .entry)) at (row (spanRow true span)) ⌝ }
+{
+    put_range(buf, at, span);
+    fields::put(buf, at + 12, 1, span.state as u64);
+    fields::put(buf, at + 13, 1, 0);
 }
 
 // Writes the trailer's first day, D and L at `at`.
@@ -68,13 +80,13 @@ fn put_head(buf: &mut [u8], at: usize, g: Figures)
 // Writes the rest of the trailer at `at`: the counts, the sum and the distance.
 fn put_counts(buf: &mut [u8], at: usize, g: Figures)
     requires { ⌜ at + 24 ≤ length (now buf) ⌝ }
-    ensures { λ _. ⌜ now (buf .exit) ≡ written (now (buf .entry)) at (row ((4, g .actual) ∷ (4, g .substituted) ∷ (4, g .none) ∷ (8, g .sum) ∷ (4, 10 * g .spans) ∷ [])) ⌝ }
+    ensures { λ _. ⌜ now (buf .exit) ≡ written (now (buf .entry)) at (row ((4, g .actual) ∷ (4, g .substituted) ∷ (4, g .none) ∷ (8, g .sum) ∷ (4, spanBytes g) ∷ [])) ⌝ }
 {
     fields::put(buf, at, 4, g.actual as u64);
     fields::put(buf, at + 4, 4, g.substituted as u64);
     fields::put(buf, at + 8, 4, g.none as u64);
     fields::put(buf, at + 12, 8, g.sum);
-    fields::put(buf, at + 20, 4, 10 * g.spans as u64);
+    fields::put(buf, at + 20, 4, trailer::span_bytes(g));
 }
 
 // Writes the trailer at `at`.

@@ -10,7 +10,7 @@ use Rattle.file.specs.declared.Figures.{Figures}
 use Rattle.file.specs.declared.slots.Kind.{Kind}
 use Rattle.file.specs.declared.slots.Kind.the-variants.{Actual, Substituted, Agreed, None, Scaled, Unscaled}
 use Rattle.file.specs.declared.slots.SlotRecord.{SlotRecord}
-use Rattle.file.specs.Reader.{slotAt, headTests, slotCount, ofQuality, scaled, unscaled}
+use Rattle.file.specs.Reader.{slotAt, headTests, slotCount, spanBytes, ofQuality, scaled, unscaled}
 
 -- a record is of a kind
 abbrev pub isKind : Kind → SlotRecord → Bool
@@ -28,4 +28,4 @@ kindAt bs kind i = isKind kind (slotAt bs i)
 -- a file that is not refused with 8
 pub record Ready (bs : List ℕ) (g : Figures) : Type 0 where
   pub head : every (headTests (g .first) (g .days) (g .interval)) ≡ true
-  pub long : length bs ≡ 6 * slotCount g + 10 * g .spans + 32
+  pub long : length bs ≡ 6 * slotCount g + spanBytes g + 32

@@ -1,84 +1,58 @@
--- `file::spans::span_at` meets its contract.
+-- `file::spans::span_at`: the record by the layout.
+use mathlib.Core.Bool.{true, false}
+use mathlib.Core.Path.{_∙_}
+use native.Mathlib.Omega.{arith}
+use borrow.Author.Tests.{eq-eqb, ne-eqb}
 use borrow.Author.Needs.{needs}
-use Rattle.file.specs.Reader.{spanAt}
+use Rattle.file.proofs.SpanRecords.{record-in}
 use Rattle.file.proofs.spans.span_at.Statement.{statement}
 use Rattle.file.proofs.spans.span_at.Tie as tie
 
 slot-count-requires : tie.Need-slot-count-requires
 slot-count-requires c κs = search needs
 
-mul-p : tie.Need-mul-p
-mul-p c = search needs
+mul-table : tie.Need-mul-table
+mul-table c = search needs
 
-mul-p-2 : tie.Need-mul-p-2
-mul-p-2 c = search needs
+mul-ranged-from : tie.Need-mul-ranged-from
+mul-ranged-from c = search needs
 
-add-p : tie.Need-add-p
-add-p c = search needs
+add-ranged-from : tie.Need-add-ranged-from
+add-ranged-from c = search needs
 
-number-requires : tie.Need-number-requires
-number-requires c κs = search needs
-
-cast-t9 : tie.Need-cast-t9
-cast-t9 c = search needs
-
-add-number : tie.Need-add-number
-add-number c = search needs
-
-number-requires-2 : tie.Need-number-requires-2
-number-requires-2 c κs = search needs
-
-cast-t11 : tie.Need-cast-t11
-cast-t11 c = search needs
-
-add-number-2 : tie.Need-add-number-2
-add-number-2 c = search needs
-
-number-requires-3 : tie.Need-number-requires-3
-number-requires-3 c κs = search needs
-
-cast-t13 : tie.Need-cast-t13
-cast-t13 c = search needs
-
-add-t6 : tie.Need-add-t6
-add-t6 c = search needs
-
-shared-slice-read-t15 : tie.Need-shared-slice-read-t15
-shared-slice-read-t15 c = search needs
-
-add-t16 : tie.Need-add-t16
-add-t16 c = search needs
-
-shared-slice-read-t18 : tie.Need-shared-slice-read-t18
-shared-slice-read-t18 c = search needs
+ranged-from-requires : tie.Need-ranged-from-requires
+ranged-from-requires c κs = let a = c .before .before .before .before .args in
+    let room = record-in (a .file .now) (a .g) (c .before .before .before .before .pre .0) true (eq-eqb (a .g .layout) 3 (c .if1 .taken)) (a .j) (c .before .before .before .before .pre .1) in
+    omega (arith, room, c .before .before .slot-count .ensures .0)
 
 returns : tie.Need-returns
-unfolding spanAt
-returns c =
-    let slot-count = c .before .before .before .before .before .slot-count in
-    let number = c .before .before .before .before .number in
-    let number2 = c .before .before .before .number2 in
-    let number3 = c .before .before .number3 in
-    rw (number .ensures .0, number2 .ensures .0, number3 .ensures .0, slot-count .ensures .0)
+returns c = c .ranged-from .ensures ∙ (rw (eq-eqb (c .before .before .before .before .before .args .g .layout) 3 (c .before .if1 .taken), c .before .before .before .slot-count .ensures .0))
+
+mul-exact-from : tie.Need-mul-exact-from
+mul-exact-from c = search needs
+
+add-exact-from : tie.Need-add-exact-from
+add-exact-from c = search needs
+
+exact-from-requires : tie.Need-exact-from-requires
+exact-from-requires c κs = let a = c .before .before .before .before .args in
+    let room = record-in (a .file .now) (a .g) (c .before .before .before .before .pre .0) false (ne-eqb (a .g .layout) 3 (c .if1 .left)) (a .j) (c .before .before .before .before .pre .1) in
+    omega (arith, room, c .before .before .slot-count .ensures .0)
+
+returns-2 : tie.Need-returns-2
+returns-2 c = c .exact-from .ensures ∙ (rw (ne-eqb (c .before .before .before .before .before .args .g .layout) 3 (c .before .if1 .left), c .before .before .before .slot-count .ensures .0))
 
 pub span-at-spec : {M : Type 1} → statement M
 span-at-spec =
     tie.close
     (tie.spec
     slot-count-requires
-    mul-p
-    mul-p-2
-    add-p
-    number-requires
-    cast-t9
-    add-number
-    number-requires-2
-    cast-t11
-    add-number-2
-    number-requires-3
-    cast-t13
-    add-t6
-    shared-slice-read-t15
-    add-t16
-    shared-slice-read-t18
-    returns)
+    mul-table
+    mul-ranged-from
+    add-ranged-from
+    ranged-from-requires
+    returns
+    mul-exact-from
+    add-exact-from
+    exact-from-requires
+    returns-2)

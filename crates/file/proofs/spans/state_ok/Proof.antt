@@ -4,7 +4,7 @@ use Prim.Native.Nat.{_+_, _≤_}
 use native.Mathlib.Omega.{arith}
 use borrow.Author.Needs.{needs}
 use Rattle.file.specs.Reader.{tablesAt, startOf, slotsOf, slotCount, stateOk}
-use Rattle.file.proofs.States.{rule-same}
+use Rattle.file.proofs.States.{rule-same, range-same}
 use Rattle.file.proofs.Inside.{room, Room, ends, ordered}
 use Rattle.file.proofs.spans.state_ok.Statement.{statement}
 use Rattle.file.proofs.spans.state_ok.Tie as tie
@@ -38,8 +38,8 @@ mul-k c = rw (c .before .before .before .span-at .ensures, c .before .before .pe
 tally-of-requires : tie.Need-tally-of-requires
 tally-of-requires c κs = rw (c .before .before .before .span-at .ensures, c .before .before .per-day .ensures .0) (omega (arith, inside (c .before .before .before .before .before)))
 
-cast-r : tie.Need-cast-r
-cast-r c = search needs
+is-within-requires : tie.Need-is-within-requires
+is-within-requires c κs = search needs
 
 state-rule-requires : tie.Need-state-rule-requires
 state-rule-requires c κs = search needs
@@ -53,7 +53,7 @@ returns c = let s = c .before .before .before .before .before .before .span-at .
     ∙ rule-same (ap (λ x. x .state) s)
     (rw (s, n) at (e .0)) (rw (s, n) at (e .1))
     (rw (s, n) at (e .2)) (rw (s, n) at (e .3))
-    (rw (s, n) at (e .4)) (ap (λ x. x .advance) s)
+    (c .before .is-within .ensures ∙ range-same (ap (λ x. x .lowest) s) (rw (s, n) at (e .4)) (ap (λ x. x .highest) s))
 
 pub state-ok-spec : {M : Type 1} → statement M
 state-ok-spec =
@@ -67,6 +67,6 @@ state-ok-spec =
     cast-k
     mul-k
     tally-of-requires
-    cast-r
+    is-within-requires
     state-rule-requires
     returns)

@@ -23,7 +23,7 @@ returns-5 c =
     let args = c .before .before .before .before .before .args in
     let if3 = c .before .before .before .if3 in
     let if4 = c .before .before .if4 in
-    rw (if4 .taken, if3 .left, c .before .if5 .left, c .if6 .taken) (sym (and-true (args .exact)))
+    rw (if4 .taken, if3 .left, c .before .if5 .left, c .if6 .taken) (sym (and-true (args .in-range)))
 
 returns-6 : tie.Need-returns-6
 returns-6 c = rw (c .before .before .if4 .taken, c .before .before .before .if3 .left, c .before .if5 .left, c .if6 .left)

@@ -32,41 +32,28 @@ returns-2 c =
       sym (c .before .is-layout .ensures) ∙ not-true _ (c .if2 .taken),
     )
 
-cast-m : tie.Need-cast-m
-cast-m c = search needs
-
 add-number : tie.Need-add-number
 add-number c = search needs
 
 number-requires : tie.Need-number-requires
 number-requires c κs = search needs
 
-mul-back : tie.Need-mul-back
-mul-back c = search needs
+span-bytes-requires : tie.Need-span-bytes-requires
+span-bytes-requires c κs = search needs
 
 returns-3 : tie.Need-returns-3
 unfolding trailerOk
 returns-3 c =
-    let before = c .before .before .before .before .before .before .before .before in
-    let head-ok = c .before .before .before .before .before .before .head-ok in
-    let if1 = c .before .before .before .before .before .if1 in
-    let is-layout = c .before .before .before .before .is-layout in
-    let if2 = c .before .before .before .if2 in
-    let head = sym (head-ok .ensures) ∙ not-false _ (if1 .left) in
-    let known = sym (is-layout .ensures) ∙ not-false _ (if2 .left) in
-    simp (le-leb _ _ (before .pre), head, known, tests-false (c .before .number .ensures .0) (c .if3 .taken))
+    let head = sym (c .before .before .before .before .before .before .head-ok .ensures) ∙ not-false _ (c .before .before .before .before .before .if1 .left) in
+    let known = sym (c .before .before .before .before .is-layout .ensures) ∙ not-false _ (c .before .before .before .if2 .left) in
+    let back = c .before .span-bytes .ensures .0 in
+    simp (le-leb _ _ ((c .before .before .before .before .before .before .before .before) .pre), head, known, tests-false (c .before .before .number .ensures .0) (rw back at (c .if3 .taken)))
 
 slot-count-requires : tie.Need-slot-count-requires
-slot-count-requires c κs =
-    let head-ok = c .before .before .before .before .before .before .head-ok in
-    let if1 = c .before .before .before .before .before .if1 in
-    sym (head-ok .ensures) ∙ not-false _ (if1 .left)
+slot-count-requires c κs = sym (c .before .before .before .before .before .before .head-ok .ensures) ∙ not-false _ (c .before .before .before .before .before .if1 .left)
 
 mul-result : tie.Need-mul-result
 mul-result c = search needs
-
-mul-result-2 : tie.Need-mul-result-2
-mul-result-2 c = search needs
 
 add-result : tie.Need-add-result
 add-result c = search needs
@@ -77,21 +64,16 @@ add-result-2 c = search needs
 returns-4 : tie.Need-returns-4
 unfolding trailerOk
 returns-4 c =
-    let before = c .before .before .before .before .before .before .before .before .before in
-    let head-ok = c .before .before .before .before .before .before .before .head-ok in
-    let if1 = c .before .before .before .before .before .before .if1 in
-    let is-layout = c .before .before .before .before .before .is-layout in
-    let if2 = c .before .before .before .before .if2 in
-    let number = c .before .before .number in
-    let head = sym (head-ok .ensures) ∙ not-false _ (if1 .left) in
-    let known = sym (is-layout .ensures) ∙ not-false _ (if2 .left) in
+    let head = sym (c .before .before .before .before .before .before .before .head-ok .ensures) ∙ not-false _ (c .before .before .before .before .before .before .if1 .left) in
+    let known = sym (c .before .before .before .before .before .is-layout .ensures) ∙ not-false _ (c .before .before .before .before .if2 .left) in
+    let back = c .before .before .span-bytes .ensures .0 in
     simp (
-      le-leb _ _ (before .pre),
+      le-leb _ _ ((c .before .before .before .before .before .before .before .before .before) .pre),
       head,
       known,
-      tests-true
-          (number .ensures .0) (c .before .if3 .left),
+      tests-true (c .before .before .before .number .ensures .0) (rw back at (c .before .if3 .left)),
       c .slot-count .ensures .0,
+      back,
     )
     (sym (and-true _))
 
@@ -104,14 +86,12 @@ trailer-ok-spec =
     returns
     is-layout-requires
     returns-2
-    cast-m
     add-number
     number-requires
-    mul-back
+    span-bytes-requires
     returns-3
     slot-count-requires
     mul-result
-    mul-result-2
     add-result
     add-result-2
     returns-4)

@@ -1,6 +1,6 @@
 -- `file::writer::put_counts` meets its contract.
-use Prim.Native.Nat.{_*_}
 use borrow.Author.Needs.{needs}
+use Rattle.file.specs.Reader.{spanBytes}
 use Rattle.file.proofs.Written.{row-five}
 use Rattle.file.proofs.writer.put_counts.Statement.{statement}
 use Rattle.file.proofs.writer.put_counts.Tie as tie
@@ -38,11 +38,8 @@ put-requires-4 c κs = search needs
 add-put-4 : tie.Need-add-put-4
 add-put-4 c = search needs
 
-cast-put-4 : tie.Need-cast-put-4
-cast-put-4 c = search needs
-
-mul-put : tie.Need-mul-put
-mul-put c = search needs
+span-bytes-requires : tie.Need-span-bytes-requires
+span-bytes-requires c κs = search needs
 
 put-requires-5 : tie.Need-put-requires-5
 put-requires-5 c κs = search needs
@@ -52,20 +49,14 @@ same-length c = search needs
 
 returns : tie.Need-returns
 returns c =
-    let before = c .before .before .before .before .before .before .before .before .before .before .before .before .before .before .before .before .before .before .before .before .before .before .before .before .before in
-    let put = c .before .before .before .before .before .before .before .before .before .before .before .before .before .before .before .before .before .before .before .before .before .put in
-    let put2 = c .before .before .before .before .before .before .before .before .before .before .before .before .before .before .before .before .put2 in
-    let put3 = c .before .before .before .before .before .before .before .before .before .before .before .put3 in
-    let put4 = c .before .before .before .before .before .before .before .put4 in
-    let put5 = c .before .before .put5 in
-    let s = before in
+    let s = c .before .before .before .before .before .before .before .before .before .before .before .before .before .before .before .before .before .before .before .before .before .before .before .before .before in
     let a = s .args in
-    row-five (a .buf .now) _ _ _ _ _ (a .at) 4 4 4 8 4 (a .g .actual) (a .g .substituted) (a .g .none) (a .g .sum) (10 * a .g .spans)
-    (put .ensures)
-    (put2 .ensures)
-    (put3 .ensures)
-    (put4 .ensures)
-    (put5 .ensures)
+    row-five (a .buf .now) _ _ _ _ _ (a .at) 4 4 4 8 4 (a .g .actual) (a .g .substituted) (a .g .none) (a .g .sum) (spanBytes (a .g))
+    (c .before .before .before .before .before .before .before .before .before .before .before .before .before .before .before .before .before .before .before .before .before .put .ensures)
+    (c .before .before .before .before .before .before .before .before .before .before .before .before .before .before .before .before .put2 .ensures)
+    (c .before .before .before .before .before .before .before .before .before .before .before .put3 .ensures)
+    (c .before .before .before .before .before .before .before .put4 .ensures)
+    (rw (c .before .before .before .span-bytes .ensures .0) at (c .before .before .put5 .ensures))
     (s .pre)
 
 pub put-counts-spec : {M : Type 1} → statement M
@@ -83,8 +74,7 @@ put-counts-spec =
     add-put-3
     put-requires-4
     add-put-4
-    cast-put-4
-    mul-put
+    span-bytes-requires
     put-requires-5
     same-length
     returns)

@@ -1,9 +1,10 @@
 -- `file::writer::put_trailer` meets its contract.
 use mathlib.Core.List.{List, [], _∷_}
 use mathlib.Core.Path.{_∙_}
-use Prim.Native.Nat.{ℕ, _+_, _*_}
+use Prim.Native.Nat.{ℕ, _+_}
 use native.Mathlib.Omega.{arith}
 use borrow.Author.Needs.{needs}
+use Rattle.file.specs.Reader.{spanBytes}
 use Rattle.file.proofs.Written.{rows}
 use Rattle.file.proofs.writer.put_trailer.Statement.{statement}
 use Rattle.file.proofs.writer.put_trailer.Tie as tie
@@ -28,7 +29,7 @@ returns c =
     let a = before .args in
     let g = a .g in
     let front : List (ℕ × ℕ) = (2, g .first) ∷ (2, g .days) ∷ (1, g .interval) ∷ (1, g .layout) ∷ (2, g .spans) ∷ [] in
-    let back : List (ℕ × ℕ) = (4, g .actual) ∷ (4, g .substituted) ∷ (4, g .none) ∷ (8, g .sum) ∷ (4, 10 * g .spans) ∷ [] in
+    let back : List (ℕ × ℕ) = (4, g .actual) ∷ (4, g .substituted) ∷ (4, g .none) ∷ (8, g .sum) ∷ (4, spanBytes g) ∷ [] in
     put-counts .ensures ∙ rows (a .buf .now) (put-head .last .0) (a .at) (a .at + 8) front back (put-head .ensures) (omega arith) (search needs)
 
 pub put-trailer-spec : {M : Type 1} → statement M

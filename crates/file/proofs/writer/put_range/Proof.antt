@@ -1,0 +1,73 @@
+-- `file::writer::put_range` meets its contract.
+use mathlib.Core.List.{List, [], _∷_, _++_}
+use mathlib.Core.Path.{_∙_}
+use Prim.Native.Nat.{ℕ, _+_}
+use native.Mathlib.Omega.{arith}
+use borrow.Author.Needs.{needs}
+use Rattle.file.proofs.Written.{row-last, row-next}
+use Rattle.file.proofs.writer.put_range.Statement.{statement}
+use Rattle.file.proofs.writer.put_range.Tie as tie
+
+cast-put : tie.Need-cast-put
+cast-put c = search needs
+
+put-requires : tie.Need-put-requires
+put-requires c κs = search needs
+
+add-put : tie.Need-add-put
+add-put c = search needs
+
+cast-put-2 : tie.Need-cast-put-2
+cast-put-2 c = search needs
+
+put-requires-2 : tie.Need-put-requires-2
+put-requires-2 c κs = search needs
+
+add-put-2 : tie.Need-add-put-2
+add-put-2 c = search needs
+
+cast-put-3 : tie.Need-cast-put-3
+cast-put-3 c = search needs
+
+put-requires-3 : tie.Need-put-requires-3
+put-requires-3 c κs = search needs
+
+add-put-3 : tie.Need-add-put-3
+add-put-3 c = search needs
+
+cast-put-4 : tie.Need-cast-put-4
+cast-put-4 c = search needs
+
+put-requires-4 : tie.Need-put-requires-4
+put-requires-4 c κs = search needs
+
+same-length : tie.Need-same-length
+same-length c = search needs
+
+returns : tie.Need-returns
+returns c = let a = c .before .before .before .before .before .before .before .before .before .before .before .before .before .before .before .before .before .before .before .before .before .args in
+    let f1 : List (ℕ × ℕ) = (2, a .span .first) ∷ [] in
+    let f2 : List (ℕ × ℕ) = f1 ++ ((2, a .span .last) ∷ []) in
+    let f3 : List (ℕ × ℕ) = f2 ++ ((4, a .span .lowest) ∷ []) in
+    let r1 = c .before .before .before .before .before .before .before .before .before .before .before .before .before .before .before .before .before .put .ensures ∙ row-last (a .buf .now) (a .at) 2 (a .span .first) in
+    let r2 = row-next (a .buf .now) _ _ (a .at) (a .at + 2) 2 (a .span .last) f1 r1 (c .before .before .before .before .before .before .before .before .before .before .before .before .put2 .ensures) (omega arith) (omega arith) in
+    let r3 = row-next (a .buf .now) _ _ (a .at) (a .at + 4) 4 (a .span .lowest) f2 r2 (c .before .before .before .before .before .before .before .put3 .ensures) (omega arith) (omega arith) in
+    row-next (a .buf .now) _ _ (a .at) (a .at + 8) 4 (a .span .highest) f3 r3 (c .before .before .put4 .ensures) (omega arith) (omega arith)
+
+pub put-range-spec : {M : Type 1} → statement M
+put-range-spec =
+    tie.close
+    (tie.spec
+    cast-put
+    put-requires
+    add-put
+    cast-put-2
+    put-requires-2
+    add-put-2
+    cast-put-3
+    put-requires-3
+    add-put-3
+    cast-put-4
+    put-requires-4
+    same-length
+    returns)
