@@ -1,6 +1,6 @@
 -- The file of a well-formed content is accepted, with the content's figures and tables.
 use mathlib.Core.Path.{_≡_, refl, sym, ap, ap₂, _∙_}
-use mathlib.Core.Bool.{Bool, true, false, cond}
+use mathlib.Core.Bool.{Bool, true, cond}
 use Prim.Native.Nat.{ℕ, _+_, _-_, _*_, _/_, _^_, _≤_, _<_}
 use native.Mathlib.Nat.{zero-add}
 use native.Mathlib.Omega.{arith}
@@ -18,6 +18,7 @@ use Rattle.file.specs.declared.Verdict.the-variants.{Accepted}
 use Rattle.file.specs.Layout.{Content, letter, total, one, row, ranged, spanWidth, trailerRow, figuresOf, tablesOf, fileOf}
 use Rattle.file.specs.Reader.{figures, slotCount, layoutFits, countOf, tablesAt, trailerOk, tablesOk, figuresOk, readFile, partOf, tablesPart}
 use Rattle.file.specs.Contents.{Fitting, WellFormed, slot, noSlot, recordsOf}
+use Rattle.file.proofs.Logic.{bit-le}
 use Rattle.file.proofs.Rows.{length-row}
 use Rattle.file.proofs.Lists.{upTo-list, total-sum, total-le}
 use Rattle.file.proofs.Head.{slots-le}
@@ -25,10 +26,6 @@ use Rattle.file.proofs.Fitting.{fitting}
 use Rattle.file.proofs.Content.{slot-back, span-back, first-back, days-back, interval-back, layout-back, spans-back, distance-back, trailer-field, length-file}
 use Rattle.file.proofs.Agree.{Agree, count-agree, sum-agree, tables-agree}
 use Rattle.file.proofs.Answers.{accepted-with}
-
-one-le : (b : Bool) → cond b 1 0 ≤ 1
-one-le true = omega arith
-one-le false = omega arith
 
 -- a figure of a content, as a sum over its slots
 total-slots : (f : Content) (g : Outcome → ℕ) → total g (f .slots) ≡ sum (λ i. g (slot f i)) 0 (length (f .slots))
@@ -93,7 +90,7 @@ module _ (f : Content) (w : WellFormed f) where
   few = rw (w .slots) (slots-le (f .first) (f .days) (f .interval) (w .head))
 
   count-le : (p : Quality → Bool) → total (one p) (f .slots) ≤ 115200
-  count-le p = omega (arith, few, total-le (one p) 1 noSlot (f .slots) (λ i l. one-le (p (slot f i .quality))))
+  count-le p = omega (arith, few, total-le (one p) 1 noSlot (f .slots) (λ i l. bit-le (p (slot f i .quality))))
 
   count-lt : (p : Quality → Bool) → total (one p) (f .slots) < 256 ^ 4
   count-lt p = omega (arith, count-le p)

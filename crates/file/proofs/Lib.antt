@@ -7,6 +7,7 @@ pub mod Written
 pub mod Records
 pub mod Layouts
 pub mod SpanRecords
+pub mod Counts
 pub mod Head
 pub mod Inside
 pub mod States

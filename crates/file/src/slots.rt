@@ -1,15 +1,15 @@
 // The slot table: its records, their counts and their sums.
 use crate::fields;
-ghost use mathlib.Core.Bool.{cond, _||_};
+ghost use mathlib.Core.Bool.{_||_};
 ghost use mathlib.Core.Path.{_≡_};
 ghost use Prim.Native.Nat.{_+_, _*_, _≤_};
 ghost use lib.ListN.{length};
 ghost use Rattle.rules.specs.Lists.{sum, any};
 ghost use Rattle.rules.specs.Spans.{isScaled};
-ghost use Rattle.file.specs.Lists.{all, count};
+ghost use Rattle.file.specs.Lists.{all};
 ghost use Rattle.file.specs.Reader.{slotAt, recordOk};
-ghost use Rattle.file.specs.declared.slots.Kind.the-variants.{Actual, Substituted, Agreed, None, Scaled, Unscaled};
-ghost use Rattle.file.specs.Inner.Reading.{isKind, kindAt};
+ghost use Rattle.file.specs.declared.slots.Kind.the-variants.{Substituted, None, Scaled, Unscaled};
+ghost use Rattle.file.specs.Inner.Reading.{isKind, kindAt, Within, countedWith, countedIn};
 
 // A record of the slot table.
 pub struct SlotRecord {
@@ -18,11 +18,9 @@ pub struct SlotRecord {
     pub method: u8,
 }
 
-// The slots that are looked for or counted: of a letter, or scaled, or S and not scaled.
+// The slots that are looked for: S, N, scaled, or S and not scaled.
 pub enum Kind {
-    Actual,
     Substituted,
-    Agreed,
     None,
     Scaled,
     Unscaled,
@@ -76,9 +74,7 @@ fn is_kind(kind: Kind, slot: SlotRecord) -> bool
     ensures { λ r. ⌜ r ≡ isKind kind slot ⌝ }
 {
     match kind {
-        Kind::Actual => slot.letter == b'A',
         Kind::Substituted => slot.letter == b'S',
-        Kind::Agreed => slot.letter == b'F',
         Kind::None => slot.letter == b'N',
         Kind::Scaled => is_scaled(slot.method),
         Kind::Unscaled => slot.letter == b'S' && !is_scaled(slot.method),
@@ -172,42 +168,48 @@ pub struct Counted {
     pub sum: u64,
 }
 
-// 1 for a slot of a kind.
-fn one(kind: Kind, slot: SlotRecord) -> usize
-    ensures { λ r. ⌜ (r ≡ cond (isKind kind slot) 1 0) × (r ≤ 1) ⌝ }
+// The totals with one slot more: its letter is looked at once.
+fn with_slot(found: Counted, slot: SlotRecord) -> Counted
+    requires { ⌜ Within 115200 found ⌝ }
+    ensures { λ r. ⌜ r ≡ countedWith found slot ⌝ }
 {
-    if is_kind(kind, slot) {
-        return 1;
+    let mut next = found;
+    next.sum = found.sum + slot.value as u64;
+    if slot.letter == b'A' {
+        next.actual = found.actual + 1;
+        return next;
     }
-    0
+    if slot.letter == b'S' {
+        next.substituted = found.substituted + 1;
+        return next;
+    }
+    if slot.letter == b'F' {
+        next.substituted = found.substituted + 1;
+        next.agreed = found.agreed + 1;
+        return next;
+    }
+    if slot.letter == b'N' {
+        next.none = found.none + 1;
+    }
+    next
 }
 
 // The totals of the first `k` slots.
 pub fn totals(file: &[u8], k: usize) -> Counted
     requires { ⌜ (6 * k ≤ length (now file)) × (k ≤ 115200) ⌝ }
-    ensures { λ r. ⌜ (r .actual ≡ count (kindAt (now (file .entry)) Actual) 0 k) × (r .substituted ≡ count (kindAt (now (file .entry)) Substituted) 0 k + count (kindAt (now (file .entry)) Agreed) 0 k) × (r .agreed ≡ count (kindAt (now (file .entry)) Agreed) 0 k) × (r .none ≡ count (kindAt (now (file .entry)) None) 0 k) × (r .sum ≡ sum (λ i. slotAt (now (file .entry)) i .value) 0 k) ⌝ }
+    ensures { λ r. ⌜ r ≡ countedIn (now (file .entry)) k ⌝ }
 {
-    let mut actual: usize = 0;
-    let mut substituted: usize = 0;
-    let mut agreed: usize = 0;
-    let mut none: usize = 0;
-    let mut energy: u64 = 0;
+    let mut found = Counted {
+        actual: 0,
+        substituted: 0,
+        agreed: 0,
+        none: 0,
+        sum: 0,
+    };
     let mut i = 0;
     while i < k {
-        let slot = slot_at(file, i);
-        actual += one(Kind::Actual, slot);
-        substituted += one(Kind::Substituted, slot);
-        agreed += one(Kind::Agreed, slot);
-        none += one(Kind::None, slot);
-        energy += slot.value as u64;
+        found = with_slot(found, slot_at(file, i));
         i += 1;
     }
-    let filled = substituted + agreed;
-    Counted {
-        actual: actual,
-        substituted: filled,
-        agreed: agreed,
-        none: none,
-        sum: energy,
-    }
+    found
 }

@@ -5,6 +5,7 @@ use lib.Dec.{eqb}
 use borrow.Author.Needs.{needs}
 use borrow.Author.Tests.{not-true, not-false}
 use Rattle.file.specs.Reader.{figuresOk}
+use Rattle.file.specs.Inner.Reading.{countedIn}
 use Rattle.file.proofs.Logic.{and-true, tests-true, tests-false}
 use Rattle.file.proofs.figures_ok.Statement.{statement}
 use Rattle.file.proofs.figures_ok.Tie as tie
@@ -19,62 +20,57 @@ cast-actual : tie.Need-cast-actual
 cast-actual c = search needs
 
 returns : tie.Need-returns
-unfolding figuresOk
+unfolding figuresOk countedIn
 returns c =
-    let n = c .before .before .before .before .slot-count .ensures .0 in
-    simp (tests-false (rw n at (c .before .before .before .totals .ensures .0)) (c .if1 .taken))
+    let found = c .before .before .before .totals .ensures ∙ ap (countedIn (c .before .before .before .before .before .before .args .file .now)) (c .before .before .before .before .slot-count .ensures .0) in
+    simp (tests-false (ap (λ x. x .actual) found) (c .if1 .taken))
 
 cast-substituted : tie.Need-cast-substituted
 cast-substituted c = search needs
 
 returns-2 : tie.Need-returns-2
-unfolding figuresOk
+unfolding figuresOk countedIn
 returns-2 c =
-    let n = c .before .before .before .before .before .before .before .slot-count .ensures .0 in
-    let found = c .before .before .before .before .before .before .totals .ensures in
-    let a = tests-true (rw n at (found .0)) (c .before .before .before .if1 .left) in
-    simp (a, tests-false (rw n at (found .1)) (c .if2 .taken))
+    let found = c .before .before .before .before .before .before .totals .ensures ∙ ap (countedIn (c .before .before .before .before .before .before .before .before .before .args .file .now)) (c .before .before .before .before .before .before .before .slot-count .ensures .0) in
+    let a = tests-true (ap (λ x. x .actual) found) (c .before .before .before .if1 .left) in
+    simp (a, tests-false (ap (λ x. x .substituted) found) (c .if2 .taken))
 
 cast-none : tie.Need-cast-none
 cast-none c = search needs
 
 returns-3 : tie.Need-returns-3
-unfolding figuresOk
+unfolding figuresOk countedIn
 returns-3 c =
-    let n = c .before .before .before .before .before .before .before .before .before .before .slot-count .ensures .0 in
-    let found = c .before .before .before .before .before .before .before .before .before .totals .ensures in
-    let a = tests-true (rw n at (found .0)) (c .before .before .before .before .before .before .if1 .left) in
-    let s = tests-true (rw n at (found .1)) (c .before .before .before .if2 .left) in
-    simp (a, s, tests-false (rw n at (found .3)) (c .if3 .taken))
+    let found = c .before .before .before .before .before .before .before .before .before .totals .ensures ∙ ap (countedIn (c .before .before .before .before .before .before .before .before .before .before .before .before .args .file .now)) (c .before .before .before .before .before .before .before .before .before .before .slot-count .ensures .0) in
+    let a = tests-true (ap (λ x. x .actual) found) (c .before .before .before .before .before .before .if1 .left) in
+    let s = tests-true (ap (λ x. x .substituted) found) (c .before .before .before .if2 .left) in
+    simp (a, s, tests-false (ap (λ x. x .none) found) (c .if3 .taken))
 
 layout-fits-requires : tie.Need-layout-fits-requires
 layout-fits-requires c κs = search needs
 
 returns-4 : tie.Need-returns-4
-unfolding figuresOk
+unfolding figuresOk countedIn
 returns-4 c =
-    let n = c .before .before .before .before .before .before .before .before .before .before .before .before .slot-count .ensures .0 in
-    let found = c .before .before .before .before .before .before .before .before .before .before .before .totals .ensures in
-    let a = tests-true (rw n at (found .0)) (c .before .before .before .before .before .before .before .before .if1 .left) in
-    let s = tests-true (rw n at (found .1)) (c .before .before .before .before .before .if2 .left) in
-    let t = tests-true (rw n at (found .3)) (c .before .before .if3 .left) in
-    let agreed = rw n at (found .2) in
+    let found = c .before .before .before .before .before .before .before .before .before .before .before .totals .ensures ∙ ap (countedIn (c .before .before .before .before .before .before .before .before .before .before .before .before .before .before .args .file .now)) (c .before .before .before .before .before .before .before .before .before .before .before .before .slot-count .ensures .0) in
+    let a = tests-true (ap (λ x. x .actual) found) (c .before .before .before .before .before .before .before .before .if1 .left) in
+    let s = tests-true (ap (λ x. x .substituted) found) (c .before .before .before .before .before .if2 .left) in
+    let t = tests-true (ap (λ x. x .none) found) (c .before .before .if3 .left) in
+    let agreed = ap (λ x. x .agreed) found in
     let l = rw agreed at (sym (c .before .layout-fits .ensures) ∙ not-true _ (c .if4 .taken)) in
     rw (a, s, t, l)
 
 returns-5 : tie.Need-returns-5
-unfolding figuresOk
+unfolding figuresOk countedIn
 returns-5 c =
-    let n = c .before .before .before .before .before .before .before .before .before .before .before .before .before .slot-count .ensures .0 in
-    let totals = c .before .before .before .before .before .before .before .before .before .before .before .before .totals in
-    let found = totals .ensures in
-    let a = tests-true (rw n at (found .0)) (c .before .before .before .before .before .before .before .before .before .if1 .left) in
-    let s = tests-true (rw n at (found .1)) (c .before .before .before .before .before .before .if2 .left) in
-    let t = tests-true (rw n at (found .3)) (c .before .before .before .if3 .left) in
-    let agreed = rw n at (found .2) in
+    let found = c .before .before .before .before .before .before .before .before .before .before .before .before .totals .ensures ∙ ap (countedIn (c .before .before .before .before .before .before .before .before .before .before .before .before .before .before .before .args .file .now)) (c .before .before .before .before .before .before .before .before .before .before .before .before .before .slot-count .ensures .0) in
+    let a = tests-true (ap (λ x. x .actual) found) (c .before .before .before .before .before .before .before .before .before .if1 .left) in
+    let s = tests-true (ap (λ x. x .substituted) found) (c .before .before .before .before .before .before .if2 .left) in
+    let t = tests-true (ap (λ x. x .none) found) (c .before .before .before .if3 .left) in
+    let agreed = ap (λ x. x .agreed) found in
     let l = rw agreed at (sym (c .before .before .layout-fits .ensures) ∙ not-false _ (c .before .if4 .left)) in
     let given = c .before .before .before .before .before .before .before .before .before .before .before .before .before .before .before .args .g .sum in
-    ap (λ (x : ℕ). eqb x given) (rw n at (found .4)) ∙ rw (a, s, t, l) (sym (and-true _))
+    ap (λ (x : ℕ). eqb x given) (ap (λ x. x .sum) found) ∙ rw (a, s, t, l) (sym (and-true _))
 
 pub figures-ok-spec : {M : Type 1} → statement M
 figures-ok-spec =

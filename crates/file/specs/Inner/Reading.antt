@@ -1,22 +1,23 @@
 -- What the functions of the reader know of a file.
 use mathlib.Core.Path.{_≡_}
-use mathlib.Core.Bool.{Bool, true}
+use mathlib.Core.Bool.{Bool, true, cond}
 use mathlib.Core.List.{List}
-use Prim.Native.Nat.{ℕ, _+_, _*_}
+use Prim.Native.Nat.{ℕ, _+_, _*_, _^_, _≤_}
 use lib.ListN.{length}
+use Rattle.rules.specs.declared.Quality.{Quality}
 use Rattle.rules.specs.declared.Quality.the-variants.{A, S, F, N}
-use Rattle.rules.specs.Lists.{every}
+use Rattle.rules.specs.Lists.{sum, every}
 use Rattle.file.specs.declared.Figures.{Figures}
+use Rattle.file.specs.declared.slots.Counted.{Counted}
 use Rattle.file.specs.declared.slots.Kind.{Kind}
-use Rattle.file.specs.declared.slots.Kind.the-variants.{Actual, Substituted, Agreed, None, Scaled, Unscaled}
+use Rattle.file.specs.declared.slots.Kind.the-variants.{Substituted, None, Scaled, Unscaled}
 use Rattle.file.specs.declared.slots.SlotRecord.{SlotRecord}
+use Rattle.file.specs.Lists.{count}
 use Rattle.file.specs.Reader.{slotAt, headTests, slotCount, spanBytes, ofQuality, scaled, unscaled}
 
 -- a record is of a kind
 abbrev pub isKind : Kind → SlotRecord → Bool
-isKind Actual r = ofQuality A r
 isKind Substituted r = ofQuality S r
-isKind Agreed r = ofQuality F r
 isKind None r = ofQuality N r
 isKind Scaled r = scaled r
 isKind Unscaled r = unscaled r
@@ -24,6 +25,42 @@ isKind Unscaled r = unscaled r
 -- slot i is of a kind
 abbrev pub kindAt : List ℕ → Kind → ℕ → Bool
 kindAt bs kind i = isKind kind (slotAt bs i)
+
+-- 1 for a record of a quality
+abbrev pub one : Quality → SlotRecord → ℕ
+one q r = cond (ofQuality q r) 1 0
+
+-- the counts and the sum with one slot more; F counts with S and by itself
+abbrev pub countedWith : Counted → SlotRecord → Counted
+countedWith c r = record {
+  actual = c .actual + one A r;
+  substituted = c .substituted + (one S r + one F r);
+  agreed = c .agreed + one F r;
+  none = c .none + one N r;
+  sum = c .sum + r .value;
+}
+
+-- how many of the first k slots are of a quality
+abbrev pub countIn : List ℕ → Quality → ℕ → ℕ
+countIn bs q k = count (λ i. ofQuality q (slotAt bs i)) 0 k
+
+-- the counts and the sum of the first k slots
+unfoldable pub countedIn : List ℕ → ℕ → Counted
+countedIn bs k = record {
+  actual = countIn bs A k;
+  substituted = countIn bs S k + countIn bs F k;
+  agreed = countIn bs F k;
+  none = countIn bs N k;
+  sum = sum (λ i. slotAt bs i .value) 0 k;
+}
+
+-- counts and a sum of at most k slots
+pub record Within (k : ℕ) (c : Counted) : Type 0 where
+  pub actual : c .actual ≤ k
+  pub substituted : c .substituted ≤ 2 * k
+  pub agreed : c .agreed ≤ k
+  pub none : c .none ≤ k
+  pub sum : c .sum ≤ 2 ^ 32 * k
 
 -- a file that is not refused with 8
 pub record Ready (bs : List ℕ) (g : Figures) : Type 0 where

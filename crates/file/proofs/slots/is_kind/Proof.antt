@@ -13,17 +13,11 @@ enum-told-2 c = search needs
 enum-told-3 : tie.Need-enum-told-3
 enum-told-3 c = search needs
 
-enum-told-4 : tie.Need-enum-told-4
-enum-told-4 c = search needs
-
-enum-told-5 : tie.Need-enum-told-5
-enum-told-5 c = search needs
-
 is-scaled-requires : tie.Need-is-scaled-requires
 is-scaled-requires c κs = search needs
 
-enum-told-6 : tie.Need-enum-told-6
-enum-told-6 c = search needs
+enum-told-4 : tie.Need-enum-told-4
+enum-told-4 c = search needs
 
 is-scaled-requires-2 : tie.Need-is-scaled-requires-2
 is-scaled-requires-2 c κs = search needs
@@ -35,19 +29,13 @@ returns-2 : tie.Need-returns-2
 returns-2 c = rw (c .before .enum-told2 .given .1)
 
 returns-3 : tie.Need-returns-3
-returns-3 c = rw (c .before .enum-told3 .given .1)
+returns-3 c = rw (c .before .enum-told3 .given .1, c .is-scaled .ensures)
 
 returns-4 : tie.Need-returns-4
-returns-4 c = rw (c .before .enum-told4 .given .1)
+returns-4 c = rw (c .before .before .before .enum-told4 .given .1, c .is-scaled2 .ensures, eq-eqb _ _ (c .before .if1 .taken))
 
 returns-5 : tie.Need-returns-5
-returns-5 c = rw (c .before .enum-told5 .given .1, c .is-scaled .ensures)
-
-returns-6 : tie.Need-returns-6
-returns-6 c = rw (c .before .before .before .enum-told6 .given .1, c .is-scaled2 .ensures, eq-eqb _ _ (c .before .if1 .taken))
-
-returns-7 : tie.Need-returns-7
-returns-7 c = rw (c .before .before .enum-told6 .given .1, ne-eqb _ _ (c .if1 .left))
+returns-5 c = rw (c .before .before .enum-told4 .given .1, ne-eqb _ _ (c .if1 .left))
 
 pub is-kind-spec : {M : Type 1} → statement M
 is-kind-spec =
@@ -56,15 +44,11 @@ is-kind-spec =
     enum-told
     enum-told-2
     enum-told-3
-    enum-told-4
-    enum-told-5
     is-scaled-requires
-    enum-told-6
+    enum-told-4
     is-scaled-requires-2
     returns
     returns-2
     returns-3
     returns-4
-    returns-5
-    returns-6
-    returns-7)
+    returns-5)
