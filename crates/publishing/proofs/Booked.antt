@@ -20,13 +20,14 @@ use Rattle.rules.proofs.Forms.{Form}
 use Rattle.rules.proofs.Forms.Filled.{delivered, agreed, outage, linear, sameDay, nothing}
 use Rattle.rules.proofs.Forms.Form.{unscaled, scaledLinear, scaledSameDay}
 use Rattle.rules.proofs.Neighbours.{Neighbours, each-span, side-by-side}
-use Rattle.rules.proofs.Outcomes.{advance-low, outcome-form, scaled-inside}
-use Rattle.rules.proofs.States.{state-low, open-exactly, scaled-exactly, scaled-whole, scaled-sum, agreed-no-s}
+use Rattle.rules.proofs.Outcomes.{outcome-form, scaled-inside}
+use Rattle.rules.proofs.States.{state-low, range-ordered, range-low, open-exactly, scaled-exactly, scaled-whole, scaled-within, agreed-no-s}
 use Rattle.rules.proofs.Sums.{any-cong}
 use Rattle.file.specs.Lists.{all, same, implies}
-use Rattle.file.specs.Reader.{Tables, ofQuality, scaled, unscaled as isUnscaled, startOf, slotsOf, has, recordOk, stateRule, spanOk, stateOk, outsideOk, tableTests}
+use Rattle.file.specs.Reader.{Tables, ofQuality, scaled, unscaled as isUnscaled, startOf, slotsOf, has, recordOk, inRange, stateRule, spanOk, stateOk, outsideOk, tableTests}
 use Rattle.file.specs.Contents.{slotRecord, spanRecord}
 use Rattle.file.proofs.Accepted.{Tests, testsS, testsN}
+use Rattle.file.proofs.Logic.{both}
 use Rattle.file.proofs.Outside.{covers}
 use Rattle.file.proofs.Stretches.{at-all}
 
@@ -51,17 +52,17 @@ same-own true = refl
 same-own false = refl
 
 -- the rule of a span's state, from what a book says of it
-rule-ok : (state : ℕ) (hasN hasScaled hasUnscaled hasS : Bool) (values advance : ℕ) → eqb state 2 ≡ hasN → eqb state 1 ≡ hasScaled
-    → (state ≡ 1 → hasUnscaled ≡ false) → (state ≡ 1 → values ≡ advance) → (state ≡ 0 → hasS ≡ false)
-    → every (stateRule state hasN hasScaled hasUnscaled hasS (eqb values advance)) ≡ true
-rule-ok state hasN hasScaled hasUnscaled hasS values advance n s u v a =
+rule-ok : (state : ℕ) (hasN hasScaled hasUnscaled hasS : Bool) (lowest values highest : ℕ) → eqb state 2 ≡ hasN → eqb state 1 ≡ hasScaled
+    → (state ≡ 1 → hasUnscaled ≡ false) → (state ≡ 1 → (lowest ≤ values) × (values ≤ highest)) → (state ≡ 0 → hasS ≡ false)
+    → every (stateRule state hasN hasScaled hasUnscaled hasS (inRange lowest values highest)) ≡ true
+rule-ok state hasN hasScaled hasUnscaled hasS lowest values highest n s u v a =
     rw (
       ← n,
       ← s,
       same-own (eqb state 2),
       same-own (eqb state 1),
       implied (eqb state 1) (not hasUnscaled) (λ e. rw (u (eqb-true state 1 e))),
-      implied (eqb state 1) (eqb values advance) (λ e. eq-eqb values advance (v (eqb-true state 1 e))),
+      implied (eqb state 1) (inRange lowest values highest) (λ e. let (p, q) = v (eqb-true state 1 e) in both _ _ (le-leb lowest values p) (le-leb values highest q)),
       implied (eqb state 0) (not hasS) (λ e. rw (a (eqb-true state 0 e))),
     )
 
@@ -86,10 +87,6 @@ module _ (h : Head) (bounds : Bounded h) (b : Cells) where
     here : Neighbours h b s
     here = each-span h b j l
 
-    advance-fits : s .advance ≤ 99999999
-    unfolding spanOf
-    advance-fits = rw (ap (λ (x : Span). x .advance) (here .figures)) (advance-low h b (s .first) (s .last))
-
     state-fits : s .state ≤ 3
     unfolding spanOf
     state-fits = rw (ap (λ (x : Span). x .state) (here .figures)) (state-low h b (s .first) (s .last))
@@ -101,7 +98,8 @@ module _ (h : Head) (bounds : Bounded h) (b : Cells) where
           lt-ltb _ _ (here .ordered),
           le-leb _ _ (here .within),
           follows j l,
-          le-leb _ _ advance-fits,
+          le-leb _ _ (range-ordered h bounds b s here),
+          le-leb _ _ (range-low h bounds b s here),
           le-leb _ _ state-fits,
         )
       where
@@ -122,13 +120,13 @@ module _ (h : Head) (bounds : Bounded h) (b : Cells) where
     unfolding stateOk start slotsIn
     state-ok =
         rule-ok (s .state) (has t (ofQuality N) j) (has t scaled j) (has t isUnscaled j) (has t (ofQuality S) j)
-        (sum (λ i. outcomeAt h b i .value) (startOf t j) (slotsOf t j)) (s .advance)
+        (s .lowest) (sum (λ i. outcomeAt h b i .value) (startOf t j) (slotsOf t j)) (s .highest)
         (open-exactly h bounds b s here ∙ sym (has-is N isN testsN))
         (scaled-exactly h bounds b s here)
         (λ z.
         any-cong _ _ _ _ (λ i _ _. ap (λ (q : Bool). q && not (isScaled (outcomeAt h b i .method))) (testsS .same (outcomeAt h b i .quality)))
         ∙ scaled-whole h bounds b s here z)
-        (scaled-sum h bounds b s here)
+        (scaled-within h bounds b s here)
         (λ z. has-is S isS testsS ∙ agreed-no-s h bounds b s here z)
 
   spans-ok : all (spanOk t) 0 (length (spans h b)) ≡ true

@@ -1,4 +1,5 @@
 -- A buffer that is written at its front and from a later place on.
+use mathlib.Core.Bool.{true}
 use mathlib.Core.List.{List, [], _∷_, _++_, append-assoc, append-nil}
 use mathlib.Core.Path.{_≡_, refl, sym, ap, ap₂, _∙_}
 use Prim.Native.Nat.{ℕ, _+_, _-_, _*_, _≤_, _<_}
@@ -92,21 +93,21 @@ module _ (h : Head) (b : Cells) where
   slot-bytes : (i : ℕ) → length (table slotRow (firstSlots h b i)) ≡ 6 * i
   slot-bytes i = length-table slotRow 6 (λ x. refl) (firstSlots h b i) ∙ ap (λ (x : ℕ). 6 * x) (length-upTo (outcomeAt h b) 0 i)
 
-  span-bytes : (ss : List Span) → length (table spanRow ss) ≡ 10 * length ss
-  span-bytes ss = length-table spanRow 10 (λ x. refl) ss
+  span-bytes : (ss : List Span) → length (table (spanRow true) ss) ≡ 14 * length ss
+  span-bytes ss = length-table (spanRow true) 14 (λ x. refl) ss
 
   pub buffer-first : (d : List ℕ) → bufferAt h b d 0 ≡ d
   unfolding bufferAt upTo begunBefore table
   buffer-first d = rw (written-none d 0) (written-none d (6 * slotCount h))
 
   -- one slot on
-  pub buffer-next : (w : Bounded h) (d : List ℕ) (i : ℕ) → i < slotCount h → 6 * slotCount h + 10 * length (spans h b) ≤ length d → nextBytes h b (bufferAt h b d i) i ≡ bufferAt h b d (i + 1)
+  pub buffer-next : (w : Bounded h) (d : List ℕ) (i : ℕ) → i < slotCount h → 6 * slotCount h + 14 * length (spans h b) ≤ length d → nextBytes h b (bufferAt h b d i) i ≡ bufferAt h b d (i + 1)
   unfolding nextBytes bufferAt
   buffer-next w d i l k =
       let s : List ℕ = table slotRow (firstSlots h b i) in
-      let t : List ℕ = table spanRow (begunBefore h b i) in
+      let t : List ℕ = table (spanRow true) (begunBefore h b i) in
       let r : List ℕ = row (slotRow (outcomeAt h b i)) in
-      let u : List ℕ = table spanRow (listOf (beginsAt h b i)) in
+      let u : List ℕ = table (spanRow true) (listOf (beginsAt h b i)) in
       let m : ℕ = 6 * slotCount h in
       let a = slot-bytes i in
       let c = span-bytes (begunBefore h b i) in
@@ -114,29 +115,29 @@ module _ (h : Head) (b : Cells) where
       let f : m + length t ≤ length d = omega (arith, begun-room h b w i l) in
       let p : written (written (written d 0 s) m t) (6 * i) r ≡ written (written d 0 (s ++ r)) m t = rw (sym a) (front-more d s t r m (omega arith) f) in
       let e : s ++ r ≡ table slotRow (firstSlots h b (i + 1)) = sym (ap (table slotRow) (slots-next h b i) ∙ table-append slotRow (firstSlots h b i) (outcomeAt h b i ∷ []) ∙ ap (λ (x : List ℕ). s ++ x) (table-one slotRow (outcomeAt h b i))) in
-      let q : t ++ u ≡ table spanRow (begunBefore h b (i + 1)) = sym (ap (table spanRow) (begun-next h b i) ∙ table-append spanRow (begunBefore h b i) (listOf (beginsAt h b i))) in
+      let q : t ++ u ≡ table (spanRow true) (begunBefore h b (i + 1)) = sym (ap (table (spanRow true)) (begun-next h b i) ∙ table-append (spanRow true) (begunBefore h b i) (listOf (beginsAt h b i))) in
       let n : 0 + length (s ++ r) ≤ length d = omega (arith, length-append s r) in
       let o : m + length t ≤ length (written d 0 (s ++ r)) = rw (length-written d 0 (s ++ r) n) f in
       rw (p, sym c) (written-more (written d 0 (s ++ r)) m t u o ∙ (rw (e, q)))
 
   -- the trailer behind both tables ends the file
   file-written : (w : Bounded h) (d : List ℕ) → fileLength h b ≤ length d
-      → written (bufferAt h b d (slotCount h)) (6 * slotCount h + 10 * length (spans h b)) (row (trailerRow (figuresOf (published h b)))) ≡ fileOf (published h b) ++ drop (fileLength h b) d
+      → written (bufferAt h b d (slotCount h)) (6 * slotCount h + 14 * length (spans h b)) (row (trailerRow (figuresOf (published h b)))) ≡ fileOf (published h b) ++ drop (fileLength h b) d
   unfolding bufferAt fileOf tablesOf fileLength published outcomes
   file-written w d k =
       let s : List ℕ = table slotRow (firstSlots h b (slotCount h)) in
-      let t : List ℕ = table spanRow (spans h b) in
+      let t : List ℕ = table (spanRow true) (spans h b) in
       let u : List ℕ = row (trailerRow (figuresOf (published h b))) in
       let a = slot-bytes (slotCount h) in
       let c = span-bytes (spans h b) in
-      let n : length (s ++ t) ≡ 6 * slotCount h + 10 * length (spans h b) = omega (arith, length-append s t) in
+      let n : length (s ++ t) ≡ 6 * slotCount h + 14 * length (spans h b) = omega (arith, length-append s t) in
       let o = length-upTo (outcomeAt h b) 0 (slotCount h) in
       let g : length u ≡ 32 = length-row (trailerRow (figuresOf (published h b))) in
       let p : written (written d 0 s) (6 * slotCount h) t ≡ written d 0 (s ++ t) = rw (sym a) (behind d s t (omega arith)) in
-      let q : written (written d 0 (s ++ t)) (6 * slotCount h + 10 * length (spans h b)) u ≡ written d 0 ((s ++ t) ++ u) = rw (sym n) (behind d (s ++ t) u (omega arith)) in
-      let m : length ((s ++ t) ++ u) ≡ 6 * length (firstSlots h b (slotCount h)) + 10 * length (spans h b) + 32 = omega (arith, length-append (s ++ t) u) in
+      let q : written (written d 0 (s ++ t)) (6 * slotCount h + 14 * length (spans h b)) u ≡ written d 0 ((s ++ t) ++ u) = rw (sym n) (behind d (s ++ t) u (omega arith)) in
+      let m : length ((s ++ t) ++ u) ≡ 6 * length (firstSlots h b (slotCount h)) + 14 * length (spans h b) + 32 = omega (arith, length-append (s ++ t) u) in
       rw (begun-all h b w, p) (q ∙ front d ((s ++ t) ++ u) ∙ ap (λ (x : ℕ). ((s ++ t) ++ u) ++ drop x d) m)
 
-  pub file-put : (w : Bounded h) (d d₁ d₂ : List ℕ) (place : ℕ) (g : Figures) → fileLength h b ≤ length d → d₁ ≡ bufferAt h b d (slotCount h) → place ≡ 6 * slotCount h + 10 * length (spans h b)
+  pub file-put : (w : Bounded h) (d d₁ d₂ : List ℕ) (place : ℕ) (g : Figures) → fileLength h b ≤ length d → d₁ ≡ bufferAt h b d (slotCount h) → place ≡ 6 * slotCount h + 14 * length (spans h b)
       → g ≡ figuresOf (published h b) → d₂ ≡ written d₁ place (row (trailerRow g)) → d₂ ≡ fileOf (published h b) ++ drop (fileLength h b) d
   file-put w d d₁ d₂ place g k x y z e = e ∙ (rw (x, y, z) (file-written w d k))

@@ -1,6 +1,6 @@
 -- What a book publishes is well formed: its file is accepted, and two books publish one file exactly when they publish one content.
-use mathlib.Core.Path.{_≡_, refl, ap, _∙_}
-use mathlib.Core.Bool.{true}
+use mathlib.Core.Path.{_≡_, refl, sym, ap, _∙_}
+use mathlib.Core.Bool.{true, false≢true}
 use mathlib.Core.Logic.{_↔_}
 use Prim.Native.Nat.{ℕ, _<_}
 use native.Mathlib.Nat.{zero-add}
@@ -15,7 +15,7 @@ use Rattle.rules.proofs.Logic.{passed}
 use Rattle.rules.proofs.Outcomes.{outcome-fits}
 use Rattle.file.specs.declared.Verdict.the-variants.{Accepted}
 use Rattle.file.specs.Layout.{figuresOf, tablesOf, fileOf}
-use Rattle.file.specs.Reader.{headTests as trailerHead, readFile, tablesPart}
+use Rattle.file.specs.Reader.{headTests as trailerHead, layoutOk, layoutFits, readFile, tablesPart}
 use Rattle.file.specs.Contents.{Fitting, WellFormed, noSlot, slot, slotRecord, recordsOf}
 use Rattle.publishing.specs.Publishing.{published}
 use Rattle.publishing.specs.Inner.Publishing.{Sound}
@@ -57,6 +57,9 @@ module _ (h : Head) (b : Cells) where
       slots = slots-own;
       values = λ i l. rw (slot-own i (rw slots-own at l)) (omega (arith, outcome-fits h (bounded h ok) b (agreed-low h b s) i));
       tables = tables-agree (recordsOf (published h b)) (bookTables h b) agree (book-ok h (bounded h ok) b (agreed-low h b s));
+      known = unfold layoutOk in refl;
+      fits = unfold layoutFits in refl;
+      exact = λ e. absurd (false≢true (sym e));
     }
 
     pub published-fits : Fitting (published h b)

@@ -85,7 +85,7 @@ module _ (h : Head) (b : Cells) (s : Sound h b) where
     pub spans-low : m ≤ 400
     spans-low = omega (arith, spans-found, spans-few h b, bounded h (s .head) .days-high)
 
-    pub length-found : (n : ℕ) → n ≡ 6 * slotCount h + 10 * m + 32 → n ≡ fileLength h b
+    pub length-found : (n : ℕ) → n ≡ 6 * slotCount h + 14 * m + 32 → n ≡ fileLength h b
     unfolding fileLength outcomes
     length-found n f = omega (arith, spans-found, length-upTo (outcomeAt h b) 0 (slotCount h))
 

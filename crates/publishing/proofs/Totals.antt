@@ -10,7 +10,6 @@ use Rattle.rules.specs.declared.Head.{Head}
 use Rattle.rules.specs.declared.Outcome.{Outcome}
 use Rattle.rules.specs.declared.Quality.{Quality}
 use Rattle.rules.specs.declared.Quality.the-variants.{A, S, F, N}
-use lib.Dec.{ltb}
 use lib.ListN.{length, length-append}
 use Rattle.rules.specs.declared.pass.Pass.{Pass}
 use Rattle.rules.specs.declared.stretch.Begins.{Begins}
@@ -25,7 +24,7 @@ use Rattle.rules.proofs.Bounds.{Bounded, count-high}
 use Rattle.rules.proofs.Outcomes.{outcome-fits}
 use Rattle.rules.proofs.Summaries.{sum-small}
 use Rattle.publishing.specs.declared.tables.Totals.{Totals}
-use Rattle.file.specs.Layout.{one, total, row, table, slotRow, spanRow, layoutOf, figuresOf}
+use Rattle.file.specs.Layout.{one, total, row, table, slotRow, spanRow, figuresOf}
 use Rattle.publishing.specs.Publishing.{published}
 use Rattle.publishing.specs.declared.tables.Progress.{Progress}
 use Rattle.file.specs.Inner.Writing.{written}
@@ -118,7 +117,7 @@ module _ (h : Head) (b : Cells) (i : ℕ) where
       λ t. record { pass = u t; spans = m t; totals = n t }
 
   pub bytes-next : (d d₁ d₂ : List ℕ) (p : Progress) (place : ℕ) (o : Outcome) (g : Begins) → p ≡ progressAt h b i → o ≡ outcomeAt h b i → g ≡ beginsAt h b i → place ≡ 6 * slotCount h
-      → d₁ ≡ written d (6 * i) (row (slotRow o)) → d₂ ≡ written d₁ (place + 10 * p .spans) (table spanRow (listOf g)) → d₂ ≡ nextBytes h b d i
+      → d₁ ≡ written d (6 * i) (row (slotRow o)) → d₂ ≡ written d₁ (place + 14 * p .spans) (table (spanRow true) (listOf g)) → d₂ ≡ nextBytes h b d i
   unfolding progressAt nextBytes
   bytes-next d d₁ d₂ p place o g e x y z u v = v ∙ (rw (u, e, x, y, z))
 
@@ -146,7 +145,7 @@ module _ (h : Head) (b : Cells) (t : Totals) (e : t ≡ totalsOf (outcomes h b))
       omega (arith, count-high h w, count-low h b (slotCount h) isS, count-low h b (slotCount h) isF)
 
   -- the trailer's figures of what a book publishes
-  pub figures-found : (first spans₀ layout : ℕ) → first ≡ firstDay h → spans₀ ≡ length (spans h b) → layout ≡ cond (ltb 0 (t .agreed)) 2 1
-      → record { first = first; days = h .days; interval = h .interval; spans = spans₀; actual = t .actual; substituted = t .substituted + t .agreed; none = t .none; sum = t .sum; layout = layout } ≡ figuresOf (published h b)
-  unfolding layoutOf figuresOf published totalsOf
-  figures-found first spans₀ layout x y z = rw (x, y, z, e)
+  pub figures-found : (first spans₀ : ℕ) → first ≡ firstDay h → spans₀ ≡ length (spans h b)
+      → record { first = first; days = h .days; interval = h .interval; spans = spans₀; actual = t .actual; substituted = t .substituted + t .agreed; none = t .none; sum = t .sum; layout = 3 } ≡ figuresOf (published h b)
+  unfolding figuresOf published totalsOf
+  figures-found first spans₀ x y = rw (x, y, e)

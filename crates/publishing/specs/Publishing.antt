@@ -14,9 +14,10 @@ use Rattle.publishing.specs.declared.Published.{Published}
 use Rattle.publishing.specs.declared.Published.the-variants.{Length, Refused}
 use Rattle.file.specs.Layout.{Content, fileOf}
 
--- what a book publishes: its slots' outcomes and its spans'
+-- what a book publishes: its slots' outcomes and its spans', in layout 3 (02, W10)
 unfoldable pub published : Head → Cells → Content
 published h b = record {
+  layout = 3;
   first = firstDay h;
   days = h .days;
   interval = h .interval;
@@ -24,9 +25,9 @@ published h b = record {
   spans = spans h b;
 }
 
--- 6N + 10M + 32
+-- 6N + 14M + 32
 unfoldable pub fileLength : Head → Cells → ℕ
-fileLength h b = 6 * length (outcomes h b) + 10 * length (spans h b) + 32
+fileLength h b = 6 * length (outcomes h b) + 14 * length (spans h b) + 32
 
 -- the first broken rule's number, or the length
 abbrev pub lengthUnless : List Rule → ℕ → Published

@@ -8,11 +8,10 @@ use file::writer;
 use rules::Head;
 use rules::opening;
 use rules::readings;
-ghost use mathlib.Core.Bool.{true, cond};
+ghost use mathlib.Core.Bool.{true};
 ghost use mathlib.Core.List.{_++_};
 ghost use mathlib.Core.Path.{_≡_};
 ghost use Prim.Native.Nat.{_+_, _*_, _≤_};
-ghost use lib.Dec.{ltb};
 ghost use lib.ListN.{length, drop};
 ghost use Rattle.rules.specs.Opening.{headOk, slotCount};
 ghost use Rattle.rules.specs.Spans.{spans as spansOf};
@@ -27,16 +26,6 @@ ghost use Rattle.publishing.specs.Inner.Publishing.{Sound, Roomy, Put, L
 pub enum Published {
     Length(usize),
     Refused(u8),
-}
-
-// 2 where a slot is F, else 1 (02, W1).
-fn layout_of(agreed: u32) -> u32
-    ensures { λ r. ⌜ r ≡ cond (ltb 0 agreed) 2 1 ⌝ }
-{
-    if 0 < agreed {
-        return 2;
-    }
-    1
 }
 
 // The whole file into the first bytes of `out`.
@@ -79,17 +68,17 @@ fn put_file(
         substituted: found.substituted + found.agreed,
         none: found.none,
         sum: found.sum,
-        layout: layout_of(found.agreed),
+        layout: 3,
     };
-    writer::put_trailer(out, table + 10 * spans, g);
+    writer::put_trailer(out, table + 14 * spans, g);
 }
 
 // The length of a file with so many spans.
 fn length_of(head: Head, spans: usize) -> usize
     requires { ⌜ (headOk head ≡ true) × (spans ≤ 400) ⌝ }
-    ensures { λ r. ⌜ r ≡ 6 * slotCount head + 10 * spans + 32 ⌝ }
+    ensures { λ r. ⌜ r ≡ 6 * slotCount head + 14 * spans + 32 ⌝ }
 {
-    6 * opening::slot_count(head) + 10 * spans + 32
+    6 * opening::slot_count(head) + 14 * spans + 32
 }
 
 // Writes the file of a book that is refused for a short buffer only.

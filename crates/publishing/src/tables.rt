@@ -7,6 +7,7 @@ use rules::opening;
 use rules::pass;
 use rules::pass::Pass;
 use rules::stretch::Begins;
+ghost use mathlib.Core.Bool.{true};
 ghost use mathlib.Core.Path.{_≡_};
 ghost use Prim.Native.Nat.{_+_, _*_, _≤_};
 ghost use lib.ListN.{length};
@@ -93,12 +94,12 @@ fn add(totals: Totals, slot: Outcome) -> Totals
 
 // Writes the record of the span that begins at a slot, if one does; how many are written then.
 fn put_begun(out: &mut [u8], at: usize, count: usize, begins: Begins) -> usize
-    requires { ⌜ at + 10 * count + 10 * length (listOf begins) ≤ length (now out) ⌝ }
-    ensures { λ r. ⌜ (r ≡ count + length (listOf begins)) × (now (out .exit) ≡ written (now (out .entry)) (at + 10 * count) (table spanRow (listOf begins))) ⌝ }
+    requires { ⌜ at + 14 * count + 14 * length (listOf begins) ≤ length (now out) ⌝ }
+    ensures { λ r. ⌜ (r ≡ count + length (listOf begins)) × (now (out .exit) ≡ written (now (out .entry)) (at + 14 * count) (table (spanRow true) (listOf begins))) ⌝ }
 {
     match begins {
         Begins::Span(span) => {
-            writer::put_span(out, at + 10 * count, span);
+            writer::put_span(out, at + 14 * count, span);
             count + 1
         }
         Begins::Nothing => count,

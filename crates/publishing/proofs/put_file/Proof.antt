@@ -41,36 +41,33 @@ add-t20 c = let a = c .before .before .before .before .before .before .before .b
     let b = cells (slots (a .values .now) (a .versions .now) (a .statuses .now)) (a .holidays .now) (a .readings .now) (a .reads .now) (agreedLists (a .agreed .now) (a .agreed-versions .now)) in
     omega (arith, filled-low (a .head) b (c .before .before .before .before .put-tables .result) (c .before .before .before .before .put-tables .ensures .0) w)
 
-layout-of-requires : tie.Need-layout-of-requires
-layout-of-requires c κs = search needs
-
 mul-put-trailer : tie.Need-mul-put-trailer
-mul-put-trailer c = let a = c .before .before .before .before .before .before .before .before .before .before .before .before .before .before .before .before .before .before .args in
-    let w = bounded (a .head) (c .before .before .before .before .before .before .before .before .before .before .before .before .before .before .before .before .before .before .pre .0 .whole .lent .fitted .head) in
+mul-put-trailer c = let a = c .before .before .before .before .before .before .before .before .before .before .before .before .before .before .before .before .before .args in
+    let w = bounded (a .head) (c .before .before .before .before .before .before .before .before .before .before .before .before .before .before .before .before .before .pre .0 .whole .lent .fitted .head) in
     let b = cells (slots (a .values .now) (a .versions .now) (a .statuses .now)) (a .holidays .now) (a .readings .now) (a .reads .now) (agreedLists (a .agreed .now) (a .agreed-versions .now)) in
-    omega (arith, c .before .before .before .before .before .before .before .before .before .before .before .before .before .before .before .before .before .before .pre .1, spans-few (a .head) b, w .days-high)
+    omega (arith, c .before .before .before .before .before .before .before .before .before .before .before .before .before .before .before .before .before .pre .1, spans-few (a .head) b, w .days-high)
 
 add-put-trailer : tie.Need-add-put-trailer
-add-put-trailer c = let a = c .before .before .before .before .before .before .before .before .before .before .before .before .before .before .before .before .before .before .args in
-    let w = bounded (a .head) (c .before .before .before .before .before .before .before .before .before .before .before .before .before .before .before .before .before .before .pre .0 .whole .lent .fitted .head) in
+add-put-trailer c = let a = c .before .before .before .before .before .before .before .before .before .before .before .before .before .before .before .before .before .args in
+    let w = bounded (a .head) (c .before .before .before .before .before .before .before .before .before .before .before .before .before .before .before .before .before .pre .0 .whole .lent .fitted .head) in
     let b = cells (slots (a .values .now) (a .versions .now) (a .statuses .now)) (a .holidays .now) (a .readings .now) (a .reads .now) (agreedLists (a .agreed .now) (a .agreed-versions .now)) in
-    omega (arith, c .before .before .before .before .before .before .before .before .before .before .before .before .before .before .before .before .before .before .pre .1, spans-few (a .head) b, w .days-high, c .before .before .before .before .before .before .before .before .slot-count .ensures, count-high (a .head) w)
+    omega (arith, c .before .before .before .before .before .before .before .before .before .before .before .before .before .before .before .before .before .pre .1, spans-few (a .head) b, w .days-high, c .before .before .before .before .before .before .before .slot-count .ensures, count-high (a .head) w)
 
 put-trailer-requires : tie.Need-put-trailer-requires
-put-trailer-requires c κs = omega (arith, c .before .before .before .before .before .before .before .before .before .before .before .before .before .before .before .before .before .before .pre .0 .room, c .before .before .before .before .before .before .before .before .before .before .before .before .before .before .before .before .before .before .pre .1, c .before .before .before .before .before .before .before .before .slot-count .ensures)
+put-trailer-requires c κs = omega (arith, c .before .before .before .before .before .before .before .before .before .before .before .before .before .before .before .before .before .pre .0 .room, c .before .before .before .before .before .before .before .before .before .before .before .before .before .before .before .before .before .pre .1, c .before .before .before .before .before .before .before .slot-count .ensures)
 
 same-length : tie.Need-same-length
 same-length c = search needs
 
 returns : tie.Need-returns
 unfolding fileLength outcomes
-returns c = let a = c .before .before .before .before .before .before .before .before .before .before .before .before .before .before .before .before .before .before .before .before .before .args in
-    let w = bounded (a .head) (c .before .before .before .before .before .before .before .before .before .before .before .before .before .before .before .before .before .before .before .before .before .pre .0 .whole .lent .fitted .head) in
+returns c = let a = c .before .before .before .before .before .before .before .before .before .before .before .before .before .before .before .before .before .before .before .before .args in
+    let w = bounded (a .head) (c .before .before .before .before .before .before .before .before .before .before .before .before .before .before .before .before .before .before .before .before .pre .0 .whole .lent .fitted .head) in
     let b = cells (slots (a .values .now) (a .versions .now) (a .statuses .now)) (a .holidays .now) (a .readings .now) (a .reads .now) (agreedLists (a .agreed .now) (a .agreed-versions .now)) in
-    let f = figures-found (a .head) b (c .before .before .before .before .before .before .before .before .before .put-tables .result) (c .before .before .before .before .before .before .before .before .before .put-tables .ensures .0) (c .before .before .before .before .before .before .first-day .result) (a .spans) (c .before .before .before .before .layout-of .result) (c .before .before .before .before .before .before .first-day .ensures) (c .before .before .before .before .before .before .before .before .before .before .before .before .before .before .before .before .before .before .before .before .before .pre .1) (c .before .before .before .before .layout-of .ensures) in
-    let l : fileLength (a .head) b ≤ length (a .out .now) = omega (arith, c .before .before .before .before .before .before .before .before .before .before .before .before .before .before .before .before .before .before .before .before .before .pre .0 .room, length-upTo (outcomeAt (a .head) b) 0 (slotCount (a .head))) in
-    let p : 6 * c .before .before .before .before .before .before .before .before .before .before .before .slot-count .result + 10 * a .spans ≡ 6 * slotCount (a .head) + 10 * length (spans (a .head) b) = rw (c .before .before .before .before .before .before .before .before .before .before .before .slot-count .ensures, c .before .before .before .before .before .before .before .before .before .before .before .before .before .before .before .before .before .before .before .before .before .pre .1) in
-    file-put (a .head) b w (a .out .now) _ _ _ _ l (c .before .before .before .before .before .before .before .before .before .put-tables .ensures .1) p f (c .before .before .put-trailer .ensures)
+    let f = figures-found (a .head) b (c .before .before .before .before .before .before .before .before .put-tables .result) (c .before .before .before .before .before .before .before .before .put-tables .ensures .0) (c .before .before .before .before .before .first-day .result) (a .spans) (c .before .before .before .before .before .first-day .ensures) (c .before .before .before .before .before .before .before .before .before .before .before .before .before .before .before .before .before .before .before .before .pre .1) in
+    let l : fileLength (a .head) b ≤ length (a .out .now) = omega (arith, c .before .before .before .before .before .before .before .before .before .before .before .before .before .before .before .before .before .before .before .before .pre .0 .room, length-upTo (outcomeAt (a .head) b) 0 (slotCount (a .head))) in
+    let p : 6 * c .before .before .before .before .before .before .before .before .before .before .slot-count .result + 14 * a .spans ≡ 6 * slotCount (a .head) + 14 * length (spans (a .head) b) = rw (c .before .before .before .before .before .before .before .before .before .before .slot-count .ensures, c .before .before .before .before .before .before .before .before .before .before .before .before .before .before .before .before .before .before .before .before .pre .1) in
+    file-put (a .head) b w (a .out .now) _ _ _ _ l (c .before .before .before .before .before .before .before .before .put-tables .ensures .1) p f (c .before .before .put-trailer .ensures)
 
 pub put-file-spec : {M : Type 1} → statement M
 put-file-spec =
@@ -82,7 +79,6 @@ put-file-spec =
     first-day-requires
     cast-t19
     add-t20
-    layout-of-requires
     mul-put-trailer
     add-put-trailer
     put-trailer-requires

@@ -27,7 +27,7 @@ put-file-requires : tie.Need-put-file-requires
 put-file-requires c κs = let a = c .before .before .before .before .before .before .before .before .before .before .before .before .before .args in
     let b = cells (slots (a .values .now) (a .versions .now) (a .statuses .now)) (a .holidays .now) (a .readings .now) (a .reads .now) (agreedLists (a .agreed .now) (a .agreed-versions .now)) in
     let m = spans-found (a .head) b (c .before .before .before .before .before .before .before .before .before .before .before .before .before .pre) _ (c .before .before .before .span-count .ensures) in
-    let room : 6 * slotCount (a .head) + 10 * length (spans (a .head) b) + 32 ≤ length (a .out .now) = omega (arith, m, c .before .if1 .left, c .before .before .length-of .ensures) in
+    let room : 6 * slotCount (a .head) + 14 * length (spans (a .head) b) + 32 ≤ length (a .out .now) = omega (arith, m, c .before .if1 .left, c .before .before .length-of .ensures) in
     (record { whole = whole-of (a .head) b (c .before .before .before .before .before .before .before .before .before .before .before .before .before .pre); room = room }, m)
 
 same-length : tie.Need-same-length

@@ -52,13 +52,13 @@ progressAt h b i =
 -- a buffer d with the records of the first i slots, and of the spans that begin at them
 unfoldable pub bufferAt : Head → Cells → List ℕ → ℕ → List ℕ
 bufferAt h b d i =
-    written (written d 0 (table slotRow (firstSlots h b i))) (6 * slotCount h) (table spanRow (begunBefore h b i))
+    written (written d 0 (table slotRow (firstSlots h b i))) (6 * slotCount h) (table (spanRow true) (begunBefore h b i))
 
 -- d with the records of slot i and of the span that begins at it
 unfoldable pub nextBytes : Head → Cells → List ℕ → ℕ → List ℕ
 nextBytes h b d i =
-    written (written d (6 * i) (row (slotRow (outcomeAt h b i)))) (6 * slotCount h + 10 * length (begunBefore h b i))
-    (table spanRow (listOf (beginsAt h b i)))
+    written (written d (6 * i) (row (slotRow (outcomeAt h b i)))) (6 * slotCount h + 14 * length (begunBefore h b i))
+    (table (spanRow true) (listOf (beginsAt h b i)))
 
 -- cells that publishing does not refuse
 pub record Sound (h : Head) (b : Cells) : Type 0 where
@@ -80,7 +80,7 @@ Left h b d p e = (p ≡ publishAnswer h b d) × (e ≡ publishAfter h b d)
 -- such cells, and room for the file
 pub record Roomy (h : Head) (b : Cells) (d : List ℕ) : Type 0 where
   pub whole : Whole h b
-  pub room : 6 * slotCount h + 10 * length (spans h b) + 32 ≤ length d
+  pub room : 6 * slotCount h + 14 * length (spans h b) + 32 ≤ length d
 
 -- before slot `pass .fills .at`, with the span table from byte `table` on
 pub record Next (h : Head) (b : Cells) (d : List ℕ) (table : ℕ) (here : Progress) : Type 0 where

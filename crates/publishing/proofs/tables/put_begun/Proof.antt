@@ -1,4 +1,5 @@
 -- `tables::put_begun` writes a table of one span or of none.
+use mathlib.Core.Bool.{true}
 use mathlib.Core.Path.{sym, ap, _∙_}
 use Prim.Native.Nat.{_+_, _*_}
 use native.Mathlib.Omega.{arith}
@@ -35,12 +36,12 @@ same-length c = search needs
 
 returns : tie.Need-returns
 returns c = let e = c .before .before .before .before .before .begins .given .1 in
-    (omega (arith, ap (λ (x : Begins). length (listOf x)) e), c .before .before .put-span .ensures ∙ ap (written (c .before .before .before .before .before .before .before .before .args .out .now) (c .before .before .before .before .before .before .before .before .args .at + 10 * c .before .before .before .before .before .before .before .before .args .count)) (sym (table-one spanRow (c .before .before .before .before .before .begins .given .0 .0)) ∙ ap (λ (x : Begins). table spanRow (listOf x)) (sym e)))
+    (omega (arith, ap (λ (x : Begins). length (listOf x)) e), c .before .before .put-span .ensures ∙ ap (written (c .before .before .before .before .before .before .before .before .args .out .now) (c .before .before .before .before .before .before .before .before .args .at + 14 * c .before .before .before .before .before .before .before .before .args .count)) (sym (table-one (spanRow true) (c .before .before .before .before .before .begins .given .0 .0)) ∙ ap (λ (x : Begins). table (spanRow true) (listOf x)) (sym e)))
 
 returns-2 : tie.Need-returns-2
 unfolding table
 returns-2 c = let e = c .enum-told .given .1 in
-    (omega (arith, ap (λ (x : Begins). length (listOf x)) e), sym (ap (λ (x : Begins). written (c .before .before .before .args .out .now) (c .before .before .before .args .at + 10 * c .before .before .before .args .count) (table spanRow (listOf x))) e ∙ written-none (c .before .before .before .args .out .now) (c .before .before .before .args .at + 10 * c .before .before .before .args .count)))
+    (omega (arith, ap (λ (x : Begins). length (listOf x)) e), sym (ap (λ (x : Begins). written (c .before .before .before .args .out .now) (c .before .before .before .args .at + 14 * c .before .before .before .args .count) (table (spanRow true) (listOf x))) e ∙ written-none (c .before .before .before .args .out .now) (c .before .before .before .args .at + 14 * c .before .before .before .args .count)))
 
 pub put-begun-spec : {M : Type 1} → statement M
 put-begun-spec =

@@ -40,7 +40,7 @@ put-next-requires : tie.Need-put-next-requires Inv-loop μ-loop
 put-next-requires c κs = let a = c .before .before .before .before .before .before .before .before .before .before .before .before .before .before .args in
     let b = cells (slots (a .values .now) (a .versions .now) (a .statuses .now)) (a .holidays .now) (a .readings .now) (a .reads .now) (agreedLists (a .agreed .now) (a .agreed-versions .now)) in
     let x = progress-place (a .head) b (c .before .before .loop .i) (c .before .before .loop .here) (c .before .before .loop .inv .2) in
-    let r : 6 * slotCount (a .head) + 10 * length (spans (a .head) b) + 32 ≤ length (c .before .before .loop .out) = omega (arith, c .before .before .before .before .before .before .before .before .before .before .before .before .before .before .pre .0 .room, c .before .before .loop .inv .1) in
+    let r : 6 * slotCount (a .head) + 14 * length (spans (a .head) b) + 32 ≤ length (c .before .before .loop .out) = omega (arith, c .before .before .before .before .before .before .before .before .before .before .before .before .before .before .pre .0 .room, c .before .before .loop .inv .1) in
     record {
       roomy = record { whole = c .before .before .before .before .before .before .before .before .before .before .before .before .before .before .pre .0 .whole; room = r };
       place = c .before .before .before .before .before .before .before .before .before .before .before .before .before .before .pre .1;
@@ -60,7 +60,7 @@ loop-again c = let a = c .before .before .before .before .before .before .before
     let b = cells (slots (a .values .now) (a .versions .now) (a .statuses .now)) (a .holidays .now) (a .readings .now) (a .reads .now) (agreedLists (a .agreed .now) (a .agreed-versions .now)) in
     let x = progress-place (a .head) b (c .before .before .before .before .before .loop .i) (c .before .before .before .before .before .loop .here) (c .before .before .before .before .before .loop .inv .2) in
     let l : c .before .before .before .before .before .loop .i < slotCount (a .head) = omega (arith, c .before .before .before .before .before .before .before .slot-count .ensures, c .before .before .before .before .loop-test .taken) in
-    let k : 6 * slotCount (a .head) + 10 * length (spans (a .head) b) ≤ length (a .out .now) = omega (arith, c .before .before .before .before .before .before .before .before .before .before .before .before .before .before .before .before .before .pre .0 .room) in
+    let k : 6 * slotCount (a .head) + 14 * length (spans (a .head) b) ≤ length (a .out .now) = omega (arith, c .before .before .before .before .before .before .before .before .before .before .before .before .before .before .before .before .before .pre .0 .room) in
     (omega arith, search needs, rw x at (c .before .before .put-next .ensures .known), c .before .before .put-next .ensures .bytes ∙ (rw (x, c .before .before .before .before .before .loop .inv .3) (buffer-next (a .head) b w (a .out .now) (c .before .before .before .before .before .loop .i) l k)))
 
 same-length : tie.Need-same-length Inv-loop μ-loop
