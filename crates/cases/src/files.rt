@@ -29,7 +29,7 @@ fn trailer(file: &[u8]) {
     say::text(b"\n");
 }
 
-// The day's 25 Wh agree with the advance of a dial that passes zero: R and the state of the only span.
+// The day's 25 Wh agree with the advance of a dial that passes zero: lowest and highest advance and the state of the only span.
 pub fn dial() {
     let rows = [
         [1, 0, 1, 25, 0],
@@ -37,7 +37,7 @@ pub fn dial() {
         [3, 0, 1, 99999990, 0],
         [3, 1, 1, 15, 0],
     ];
-    let mut file = [0u8; 330];
+    let mut file = [0u8; 334];
     books::publish_rows(books::head_of(1, 30, 1), &rows, &mut file);
     say::text(b"dial 99999990 then 15:");
     span(&file);
@@ -47,15 +47,17 @@ pub fn dial() {
 fn span(file: &[u8]) {
     say::text(b" R");
     say::field(say::word_at(file, 292));
+    say::text(b" to");
+    say::field(say::word_at(file, 296));
     say::text(b" state");
-    say::field(say::byte_at(file, 288, 8) as u64);
+    say::field(say::byte_at(file, 288, 12) as u64);
     say::text(b"\n");
 }
 
-// The agreed slot counts in V, so the day agrees with its dial; the file has layout 2.
+// The agreed slot counts in V, so the day agrees with its dial; the file has layout 3 all the same.
 pub fn agreed() {
     let rows = books::agreed_rows();
-    let mut file = [0u8; 330];
+    let mut file = [0u8; 334];
     books::publish_rows(books::head_of(1, 30, 1), &rows, &mut file);
     say::text(b"a file with an agreed slot: layout");
     if let Verdict::Accepted(g) = file::read(&file) {
@@ -67,7 +69,7 @@ pub fn agreed() {
 // By itself each of three slots would get 3 of the 10 Wh.
 pub fn slot_alone() {
     let rows = books::scaled_rows(1, 96);
-    let mut file = [0u8; 330];
+    let mut file = [0u8; 334];
     books::publish_rows(books::head_of(1, 30, 1), &rows, &mut file);
     say::text(b"scaling each slot by itself: sum");
     if let Verdict::Accepted(g) = file::read(&file) {

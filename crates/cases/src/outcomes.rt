@@ -5,7 +5,7 @@ use rules::Head;
 
 // Publishes the book of a list of rows and writes the outcomes of some of its slots.
 fn show(label: &[u8], head: Head, rows: &[[u32; 5]], slots: &[u32]) {
-    let mut file = [0u8; 8394];
+    let mut file = [0u8; 8398];
     books::publish_rows(head, rows, &mut file);
     say::text(label);
     let mut i = 0;

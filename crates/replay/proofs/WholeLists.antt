@@ -77,7 +77,7 @@ module _ (h g : Head) (b c : Cells) where
       let date = same-date h g (s .year) (s .month) (s .day) in
       let slots = same-slots (same-count h g (s .interval) (s .days)) (s .slots) in
       let all = ext-getD noSpan (spans h b) (spans g c) (s .spanCount) (s .eachSpan) in
-      λ t. record { first = date t; days = s .days t; interval = s .interval t; slots = slots t; spans = all t }
+      λ t. record { layout = 3; first = date t; days = s .days t; interval = s .interval t; slots = slots t; spans = all t }
 
   -- the first day's number names one date
   date-found : headOk h ≡ true → headOk g ≡ true → firstDay h ≡ firstDay g → (h .year ≡ g .year) × (h .month ≡ g .month) × (h .day ≡ g .day)
