@@ -10,10 +10,10 @@ ghost use lib.ListN.{length};
 ghost use Rattle.play.specs.Inner.Feeding.{Held};
 
 // Room for the largest file: 115,200 slots, 400 spans and the trailer.
-fn file_buffer() -> [u8; 695232]
-    ensures { λ r. ⌜ 695232 ≡ length r ⌝ }
+fn file_buffer() -> [u8; 696832]
+    ensures { λ r. ⌜ 696832 ≡ length r ⌝ }
 {
-    [0; 695232]
+    [0; 696832]
 }
 
 fn write_file(

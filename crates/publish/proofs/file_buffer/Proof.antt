@@ -6,7 +6,7 @@ use Rattle.publish.proofs.file_buffer.Statement.{statement}
 use Rattle.publish.proofs.file_buffer.Tie as tie
 
 returns : tie.Need-returns
-returns c = let zero : ℕ = 0 in sym (length-replicate 695232 zero)
+returns c = let zero : ℕ = 0 in sym (length-replicate 696832 zero)
 
 pub file-buffer-spec : {M : Type 1} → statement M
 file-buffer-spec = tie.close (tie.spec returns)
