@@ -9,7 +9,7 @@
 #define SLOTS 48
 #define DAYS 1
 #define HEAD 2024, 5, 1, DAYS, 30, 40000, 0
-#define LENGTH (6 * SLOTS + 10 + 32)
+#define LENGTH (6 * SLOTS + 14 + 32)
 
 static uint32_t values[SLOTS], versions[SLOTS], readings[DAYS + 1], reads[DAYS + 1], agreed[SLOTS], agreed_versions[SLOTS];
 static uint16_t counts[DAYS];

@@ -36,7 +36,7 @@ static uint64_t publish(size_t room)
 int main(void)
 {
     static const uint8_t trailer[32] = {
-        0xB7, 0x22, 1, 0, 0x1E, 1, 0, 0, 0x2F, 0, 0, 0, 1, 0, 0, 0, 0, 0, 0, 0, 0xC0, 0x12,
+        0xB7, 0x22, 1, 0, 0x1E, 3, 0, 0, 0x2F, 0, 0, 0, 1, 0, 0, 0, 0, 0, 0, 0, 0xC0, 0x12,
     };
 
     /* The limit of single phase, in the table of the two kinds; a kind that is no place; a table that falls. */
@@ -95,9 +95,9 @@ int main(void)
         figures[SAWMAUVE_SUBSTITUTED], figures[SAWMAUVE_NONE], figures[SAWMAUVE_SUM]);
     puts(line);
     EXPECT(strcmp(line, "8887 1 30 47 1 0 4800") == 0);
-    EXPECT(figures[SAWMAUVE_LAYOUT] == 1);
+    EXPECT(figures[SAWMAUVE_LAYOUT] == 3);
 
-    /* Slot 10 is settled with the skipper; a good slot keeps what was delivered. The file has layout 2. */
+    /* Slot 10 is settled with the skipper; a good slot keeps what was delivered. */
     EXPECT(agree(10, 1, 100000000) == 12);
     EXPECT(agree(10, 2, 600) == SAWMAUVE_STORED);
     EXPECT(agree(10, 1, 700) == SAWMAUVE_LATE);
@@ -106,7 +106,7 @@ int main(void)
     EXPECT(agree(11, 1, 700) == SAWMAUVE_STORED);
     EXPECT(publish(sizeof out) == LENGTH);
     EXPECT(sawmauve_read(out, LENGTH, figures, SAWMAUVE_FIGURES) == SAWMAUVE_DONE);
-    EXPECT(figures[SAWMAUVE_LAYOUT] == 2 && figures[SAWMAUVE_SUBSTITUTED] == 1 && figures[SAWMAUVE_SUM] == 5300);
+    EXPECT(figures[SAWMAUVE_LAYOUT] == 3 && figures[SAWMAUVE_SUBSTITUTED] == 1 && figures[SAWMAUVE_SUM] == 5300);
     EXPECT(out[64] == 'F' && out[65] == 5);
     return 0;
 }

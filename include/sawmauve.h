@@ -56,7 +56,7 @@ extern "C" {
 #define SAWMAUVE_SUBSTITUTED 5 /* count of S and F slots */
 #define SAWMAUVE_NONE 6        /* count of N slots */
 #define SAWMAUVE_SUM 7         /* sum of all slot values, in Wh */
-#define SAWMAUVE_LAYOUT 8      /* 2 where a slot is F, else 1 */
+#define SAWMAUVE_LAYOUT 8      /* 3 in every file published now; 1, or 2 where a slot is F, in older ones */
 #define SAWMAUVE_FIGURES 9     /* how many there are */
 
 /* The head, which every call of a book is given: first day, D (1 to 400), L (5, 15 or 30), demand limit in W (1 to 1,000,000), tolerance in
@@ -114,7 +114,7 @@ uint32_t sawmauve_register(
     uint32_t *reads, size_t reads_len,
     uint32_t boundary, uint32_t version, uint32_t reading);
 
-/* Writes the file into the first bytes of out: its length, 6 N + 10 M + 32, or 1, 2, 7, 11. */
+/* Writes the file into the first bytes of out: its length, 6 N + 14 M + 32, or 1, 2, 7, 11. */
 uint64_t sawmauve_publish(
     SAWMAUVE_HEAD,
     const uint32_t *values, size_t values_len,
