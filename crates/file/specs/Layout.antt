@@ -51,11 +51,15 @@ abbrev pub spanWidth : Bool → ℕ
 spanWidth false = 10
 spanWidth true = 14
 
--- first day number (2), D (2), L (1), layout (1), M (2), counts of A, of S and F, and of N slots (4 each), sum of all slot values (8), distance 10 × M or, in layout 3, 14 × M (4)
+-- the bytes of the span table: 10 × M or, in layout 3, 14 × M
+abbrev pub spanBytes : Figures → ℕ
+spanBytes g = spanWidth (ranged (g .layout)) * g .spans
+
+-- first day number (2), D (2), L (1), layout (1), M (2), counts of A, of S and F, and of N slots (4 each), sum of all slot values (8), distance back to the span table (4)
 abbrev pub trailerRow : Figures → List (ℕ × ℕ)
 trailerRow g =
     (2, g .first) ∷ (2, g .days) ∷ (1, g .interval) ∷ (1, g .layout) ∷ (2, g .spans)
-    ∷ (4, g .actual) ∷ (4, g .substituted) ∷ (4, g .none) ∷ (8, g .sum) ∷ (4, spanWidth (ranged (g .layout)) * g .spans) ∷ []
+    ∷ (4, g .actual) ∷ (4, g .substituted) ∷ (4, g .none) ∷ (8, g .sum) ∷ (4, spanBytes g) ∷ []
 
 -- what a file holds: its layout, the first day's number, D, L, a slot's outcome and a span's for each in order
 pub record Content : Type 0 where

@@ -15,7 +15,7 @@ use Rattle.file.specs.declared.Verdict.the-variants.{Accepted, Refused}
 use Rattle.file.specs.declared.slots.SlotRecord.{SlotRecord}
 use Rattle.file.specs.declared.spans.SpanRecord.{SpanRecord}
 use Rattle.file.specs.Lists.{all, count, some, same, implies}
-use Rattle.file.specs.Layout.{letter, ranged, spanWidth}
+use Rattle.file.specs.Layout.{letter, ranged, spanWidth, spanBytes}
 
 -- ---- What stands in the bytes
 
@@ -95,10 +95,6 @@ headTests first days interval =
 unfoldable pub layoutOk : ℕ → Bool
 layoutOk layout = eqb layout 1 || (eqb layout 2 || eqb layout 3)
 
--- the bytes of the span table
-abbrev pub spanBytes : Figures → ℕ
-spanBytes g = spanWidth (ranged (g .layout)) * g .spans
-
 abbrev pub trailerTests : List ℕ → Figures → List Bool
 trailerTests bs g =
     leb 32 (length bs)
@@ -142,11 +138,11 @@ scaled r = isScaled (r .method)
 abbrev pub unscaled : SlotRecord → Bool
 unscaled r = ofQuality S r && not (scaled r)
 
--- a sum from lowest to highest
+-- the sum lies between lowest and highest
 abbrev pub inRange : ℕ → ℕ → ℕ → Bool
 inRange lowest sum highest = leb lowest sum && leb sum highest
 
--- state 2 exactly when it has an N; 1 exactly when it has a method 18 or 19, and then every S in it is such and its values sum to R, or lie in its range; in state 0 no S
+-- state 2 exactly when it has an N; 1 exactly when it has a method 18 or 19, and then every S in it is such and its sum lies between lowest and highest, in layouts 1 and 2 both R; in state 0 no S
 abbrev pub stateRule : ℕ → Bool → Bool → Bool → Bool → Bool → List Bool
 stateRule state hasN hasScaled hasUnscaled hasS sumInRange =
     same (eqb state 2) hasN

@@ -7,7 +7,8 @@ ghost use mathlib.Core.Bool.{true};
 ghost use Prim.Native.Nat.{_*_, _/_, _≤_};
 ghost use lib.ListN.{length};
 ghost use Rattle.rules.specs.Lists.{every};
-ghost use Rattle.file.specs.Reader.{figures, headTests, layoutOk, slotCount, spanBytes, trailerOk};
+ghost use Rattle.file.specs.Layout.{spanBytes};
+ghost use Rattle.file.specs.Reader.{figures, headTests, layoutOk, slotCount, trailerOk};
 
 // L, D and the first day are as under Opening.
 fn head_ok(g: Figures) -> bool

@@ -10,8 +10,7 @@ ghost use mathlib.Core.Path.{_≡_};
 ghost use mathlib.Core.List.{[], _∷_};
 ghost use Prim.Native.Nat.{_+_, _≤_};
 ghost use lib.ListN.{length};
-ghost use Rattle.file.specs.Layout.{letter, row, slotRow, spanRow, trailerRow};
-ghost use Rattle.file.specs.Reader.{spanBytes};
+ghost use Rattle.file.specs.Layout.{letter, row, slotRow, spanRow, spanBytes, trailerRow};
 ghost use Rattle.file.specs.Inner.Writing.{written};
 
 fn letter_of(quality: Quality) -> u8

@@ -13,7 +13,8 @@ use Rattle.file.specs.declared.slots.Kind.{Kind}
 use Rattle.file.specs.declared.slots.Kind.the-variants.{Substituted, None, Scaled, Unscaled}
 use Rattle.file.specs.declared.slots.SlotRecord.{SlotRecord}
 use Rattle.file.specs.Lists.{count}
-use Rattle.file.specs.Reader.{slotAt, headTests, slotCount, spanBytes, ofQuality, scaled, unscaled}
+use Rattle.file.specs.Layout.{spanBytes}
+use Rattle.file.specs.Reader.{slotAt, headTests, slotCount, ofQuality, scaled, unscaled}
 
 -- a record is of a kind
 abbrev pub isKind : Kind → SlotRecord → Bool

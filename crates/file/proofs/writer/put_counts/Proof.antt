@@ -1,6 +1,6 @@
 -- `file::writer::put_counts` meets its contract.
 use borrow.Author.Needs.{needs}
-use Rattle.file.specs.Reader.{spanBytes}
+use Rattle.file.specs.Layout.{spanBytes}
 use Rattle.file.proofs.Written.{row-five}
 use Rattle.file.proofs.writer.put_counts.Statement.{statement}
 use Rattle.file.proofs.writer.put_counts.Tie as tie

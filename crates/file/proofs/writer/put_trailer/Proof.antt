@@ -4,7 +4,7 @@ use mathlib.Core.Path.{_∙_}
 use Prim.Native.Nat.{ℕ, _+_}
 use native.Mathlib.Omega.{arith}
 use borrow.Author.Needs.{needs}
-use Rattle.file.specs.Reader.{spanBytes}
+use Rattle.file.specs.Layout.{spanBytes}
 use Rattle.file.proofs.Written.{rows}
 use Rattle.file.proofs.writer.put_trailer.Statement.{statement}
 use Rattle.file.proofs.writer.put_trailer.Tie as tie
