@@ -1,11 +1,17 @@
 -- `spans::fields_ok`: the tests in their order.
+use mathlib.Core.Path.{_≡_}
+use mathlib.Core.Bool.{false}
 use borrow.Author.Tests.{le-leb, lt-leb}
+use lib.Dec.{leb}
 use Rattle.file.proofs.Logic.{and-true}
 use Rattle.file.proofs.spans.fields_ok.Statement.{statement}
 use Rattle.file.proofs.spans.fields_ok.Tie as tie
 
 returns : tie.Need-returns
-returns c = simp (lt-leb _ _ (c .if1 .taken))
+returns c =
+    let s = c .before .before .args .s in
+    let turned : leb (s .lowest) (s .highest) ≡ false = lt-leb _ _ (c .if1 .taken) in
+    simp turned
 
 returns-2 : tie.Need-returns-2
 returns-2 c = simp (le-leb _ _ (c .before .before .if1 .left), lt-leb _ _ (c .if2 .taken))
