@@ -51,11 +51,11 @@ module _ (h : Head) (b : Cells) (first last : ℕ) where
     meet-stretch = rw (state-found, p, q, scaling-first)
 
 -- a span's figures rest on no register version
-module _ (h : Head) (s : Slots) (holidays readings v w : List ℕ) (agreed : Agreed) (first last : ℕ) where
-  pub span-versions : spanOf h (cells s holidays readings v agreed) first last ≡ spanOf h (cells s holidays readings w agreed) first last
+module _ (h : Head) (s : Slots) (holidays readings v w : List ℕ) (agreed : Agreed) (widths : List ℕ) (first last : ℕ) where
+  pub span-versions : spanOf h (cells s holidays readings v agreed widths) first last ≡ spanOf h (cells s holidays readings w agreed widths) first last
   unfolding spanOf R stateOf actual start slotsIn
   span-versions = refl
 
-  pub stretch-versions : (i : ℕ) → spanStretch h (cells s holidays readings v agreed) first last i ≡ spanStretch h (cells s holidays readings w agreed) first last i
+  pub stretch-versions : (i : ℕ) → spanStretch h (cells s holidays readings v agreed widths) first last i ≡ spanStretch h (cells s holidays readings w agreed widths) first last i
   unfolding spanStretch R stateOf actual start slotsIn T E allZero e P
   stretch-versions i = refl

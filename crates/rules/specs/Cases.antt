@@ -45,6 +45,7 @@ day e rest = record {
   readings = 0 ∷ 110 ∷ [];
   readVersions = 1 ∷ 1 ∷ [];
   agreed = record { values = []; versions = [] };
+  widths = [];
 }
 
 -- the gaps get 3, 3 and 4
@@ -65,6 +66,7 @@ agreedDay = record {
   readings = 0 ∷ 690 ∷ [];
   readVersions = 1 ∷ 1 ∷ [];
   agreed = record { values = 0 ∷ 600 ∷ 700 ∷ []; versions = 0 ∷ 1 ∷ 1 ∷ [] };
+  widths = [];
 }
 
 -- its slot i has this value, quality and method

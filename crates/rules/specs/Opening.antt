@@ -55,10 +55,12 @@ pub record Agreed : Type 0 where
   pub values : List ℕ
   pub versions : List ℕ
 
--- the eight lent lists
+-- the nine lent lists
 pub record Cells : Type 0 where
   pub slots : Slots
   pub holidays : List ℕ
   pub readings : List ℕ
   pub readVersions : List ℕ
   pub agreed : Agreed
+  -- of the readings (02, W10)
+  pub widths : List ℕ

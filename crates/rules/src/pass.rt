@@ -78,10 +78,11 @@ pub fn step(
     reads: &[u32],
     agreed: &[u32],
     agreed_versions: &[u32],
+    widths: &[u16],
     pass: Pass,
 ) -> Stepped
-    requires { ⌜ Whole head (lentCells values versions statuses holidays readings reads agreed «agreed_versions») × (pass .fills .at < slotCount head) × (pass ≡ passAt head (lentCells values versions statuses holidays readings reads agreed «agreed_versions») (pass .fills .at)) ⌝ }
-    ensures { λ r. ⌜ SteppedAt head (lentCells (values .entry) (versions .entry) (statuses .entry) (holidays .entry) (readings .entry) (reads .entry) (agreed .entry) («agreed_versions» .entry)) (pass .fills .at) r ⌝ }
+    requires { ⌜ Whole head (lentCells values versions statuses holidays readings reads agreed «agreed_versions» widths) × (pass .fills .at < slotCount head) × (pass ≡ passAt head (lentCells values versions statuses holidays readings reads agreed «agreed_versions» widths) (pass .fills .at)) ⌝ }
+    ensures { λ r. ⌜ SteppedAt head (lentCells (values .entry) (versions .entry) (statuses .entry) (holidays .entry) (readings .entry) (reads .entry) (agreed .entry) («agreed_versions» .entry) (widths .entry)) (pass .fills .at) r ⌝ }
 {
     let fills = pass.fills;
     let carried = pass.stretch;
@@ -95,6 +96,7 @@ pub fn step(
         reads,
         agreed,
         agreed_versions,
+        widths,
         fills,
         carried,
     );

@@ -15,7 +15,7 @@ ghost use mathlib.Core.Path.{_≡_};
 ghost use Prim.Native.Nat.{_≤_};
 ghost use Rattle.rules.specs.declared.stretch.Begins.the-variants.{Nothing};
 ghost use Rattle.rules.specs.Spans.{spanOf};
-ghost use Rattle.rules.specs.Inner.Lent.{lentSlots, lentAgreed, lentCells, cells, Lent, Settled, Dialled, Whole};
+ghost use Rattle.rules.specs.Inner.Lent.{lentSlots, lentAgreed, lentCells, cells, Lent, Settled, Dialled, Widths, Whole};
 ghost use Rattle.rules.specs.Inner.Stretches.{unscaledTo, spanStretch, stretchBy, beginsWith, stretchFrom, beginsAt, stretchAt, fitOutcome, fitNext, Fits, Starts, Before};
 
 // Where the stretch ends, and how it is scaled.
@@ -86,12 +86,13 @@ fn meet(
     readings: &[u32],
     agreed: &[u32],
     agreed_versions: &[u32],
+    widths: &[u16],
     fills: Fills,
     first: usize,
     last: usize,
 ) -> Met
-    requires { ⌜ Lent head (lentSlots values versions statuses) (now holidays) × Dialled head (now readings) × Settled head (lentAgreed agreed «agreed_versions») × Starts head (lentSlots values versions statuses) (now «agreed_versions») fills first last ⌝ }
-    ensures { λ r. ⌜ (r .span ≡ spanOf head (cells (lentSlots (values .entry) (versions .entry) (statuses .entry)) (now (holidays .entry)) (now (readings .entry)) [] (lentAgreed (agreed .entry) («agreed_versions» .entry))) first last) × (r .stretch ≡ spanStretch head (cells (lentSlots (values .entry) (versions .entry) (statuses .entry)) (now (holidays .entry)) (now (readings .entry)) [] (lentAgreed (agreed .entry) («agreed_versions» .entry))) first last (fills .at)) ⌝ }
+    requires { ⌜ Lent head (lentSlots values versions statuses) (now holidays) × Dialled head (now readings) × Settled head (lentAgreed agreed «agreed_versions») × Starts head (lentSlots values versions statuses) (now «agreed_versions») fills first last × Widths head (now widths) ⌝ }
+    ensures { λ r. ⌜ (r .span ≡ spanOf head (cells (lentSlots (values .entry) (versions .entry) (statuses .entry)) (now (holidays .entry)) (now (readings .entry)) [] (lentAgreed (agreed .entry) («agreed_versions» .entry)) (now (widths .entry))) first last) × (r .stretch ≡ spanStretch head (cells (lentSlots (values .entry) (versions .entry) (statuses .entry)) (now (holidays .entry)) (now (readings .entry)) [] (lentAgreed (agreed .entry) («agreed_versions» .entry)) (now (widths .entry))) first last (fills .at)) ⌝ }
 {
     let day = opening::slots_per_day(head);
     let sum = spans::summarise(
@@ -141,12 +142,13 @@ fn reach(
     reads: &[u32],
     agreed: &[u32],
     agreed_versions: &[u32],
+    widths: &[u16],
     fills: Fills,
     day: usize,
     last: usize,
 ) -> Entered
-    requires { ⌜ Whole head (lentCells values versions statuses holidays readings reads agreed «agreed_versions») × Starts head (lentSlots values versions statuses) (now «agreed_versions») fills day last ⌝ }
-    ensures { λ r. ⌜ (r .begins ≡ beginsWith head (lentCells (values .entry) (versions .entry) (statuses .entry) (holidays .entry) (readings .entry) (reads .entry) (agreed .entry) («agreed_versions» .entry)) day last) × (r .stretch ≡ stretchFrom head (lentCells (values .entry) (versions .entry) (statuses .entry) (holidays .entry) (readings .entry) (reads .entry) (agreed .entry) («agreed_versions» .entry)) day last (fills .at)) ⌝ }
+    requires { ⌜ Whole head (lentCells values versions statuses holidays readings reads agreed «agreed_versions» widths) × Starts head (lentSlots values versions statuses) (now «agreed_versions») fills day last ⌝ }
+    ensures { λ r. ⌜ (r .begins ≡ beginsWith head (lentCells (values .entry) (versions .entry) (statuses .entry) (holidays .entry) (readings .entry) (reads .entry) (agreed .entry) («agreed_versions» .entry) (widths .entry)) day last) × (r .stretch ≡ stretchFrom head (lentCells (values .entry) (versions .entry) (statuses .entry) (holidays .entry) (readings .entry) (reads .entry) (agreed .entry) («agreed_versions» .entry) (widths .entry)) day last (fills .at)) ⌝ }
 {
     if reads[day] == 0 {
         return no_span(unscaled_to(last * opening::slots_per_day(head)));
@@ -160,6 +162,7 @@ fn reach(
         readings,
         agreed,
         agreed_versions,
+        widths,
         fills,
         day,
         last,
@@ -183,11 +186,12 @@ pub fn enter(
     reads: &[u32],
     agreed: &[u32],
     agreed_versions: &[u32],
+    widths: &[u16],
     fills: Fills,
     carried: Stretch,
 ) -> Entered
-    requires { ⌜ Whole head (lentCells values versions statuses holidays readings reads agreed «agreed_versions») × Before head (lentCells values versions statuses holidays readings reads agreed «agreed_versions») fills carried ⌝ }
-    ensures { λ r. ⌜ (r .begins ≡ beginsAt head (lentCells (values .entry) (versions .entry) (statuses .entry) (holidays .entry) (readings .entry) (reads .entry) (agreed .entry) («agreed_versions» .entry)) (fills .at)) × (r .stretch ≡ stretchAt head (lentCells (values .entry) (versions .entry) (statuses .entry) (holidays .entry) (readings .entry) (reads .entry) (agreed .entry) («agreed_versions» .entry)) (fills .at)) ⌝ }
+    requires { ⌜ Whole head (lentCells values versions statuses holidays readings reads agreed «agreed_versions» widths) × Before head (lentCells values versions statuses holidays readings reads agreed «agreed_versions» widths) fills carried ⌝ }
+    ensures { λ r. ⌜ (r .begins ≡ beginsAt head (lentCells (values .entry) (versions .entry) (statuses .entry) (holidays .entry) (readings .entry) (reads .entry) (agreed .entry) («agreed_versions» .entry) (widths .entry)) (fills .at)) × (r .stretch ≡ stretchAt head (lentCells (values .entry) (versions .entry) (statuses .entry) (holidays .entry) (readings .entry) (reads .entry) (agreed .entry) («agreed_versions» .entry) (widths .entry)) (fills .at)) ⌝ }
 {
     let at = fills.at;
     if at != carried.until {
@@ -206,6 +210,7 @@ pub fn enter(
             reads,
             agreed,
             agreed_versions,
+            widths,
             fills,
             day,
             last,

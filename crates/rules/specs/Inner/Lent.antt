@@ -2,7 +2,7 @@
 use mathlib.Core.Bool.{true}
 use mathlib.Core.List.{List}
 use mathlib.Core.Path.{_≡_}
-use Prim.Native.Nat.{ℕ, suc, _<_}
+use Prim.Native.Nat.{ℕ, suc, _<_, _≤_}
 use denote.Ref.{RefT, now}
 use lib.ListN.{length, getD}
 use Rattle.rules.specs.declared.Head.{Head}
@@ -42,22 +42,32 @@ pub record Settled (h : Head) (a : Agreed) : Type 0 where
   pub versions : length (a .versions) ≡ slotCount h
   pub low : AgreedLow a
 
-abbrev pub cells : Slots → List ℕ → List ℕ → List ℕ → Agreed → Cells
-cells s holidays readings readVersions agreed =
-    record { slots = s; holidays = holidays; readings = readings; readVersions = readVersions; agreed = agreed }
+abbrev pub cells : Slots → List ℕ → List ℕ → List ℕ → Agreed → List ℕ → Cells
+cells s holidays readings readVersions agreed widths =
+    record { slots = s; holidays = holidays; readings = readings; readVersions = readVersions; agreed = agreed; widths = widths }
 
-abbrev pub lentCells : RefT (List ℕ) → RefT (List ℕ) → RefT (List ℕ) → RefT (List ℕ) → RefT (List ℕ) → RefT (List ℕ) → RefT (List ℕ) → RefT (List ℕ) → Cells
-lentCells values versions statuses holidays readings reads agreed agreedVersions =
-    cells (lentSlots values versions statuses) (now holidays) (now readings) (now reads) (lentAgreed agreed agreedVersions)
+abbrev pub lentCells : RefT (List ℕ) → RefT (List ℕ) → RefT (List ℕ) → RefT (List ℕ) → RefT (List ℕ) → RefT (List ℕ) → RefT (List ℕ) → RefT (List ℕ) → RefT (List ℕ) → Cells
+lentCells values versions statuses holidays readings reads agreed agreedVersions widths =
+    cells (lentSlots values versions statuses) (now holidays) (now readings) (now reads) (lentAgreed agreed agreedVersions) (now widths)
 
 -- readings of an eight-digit dial
 pub record Dialled (h : Head) (readings : List ℕ) : Type 0 where
   pub length : length readings ≡ suc (h .days)
   pub low : (d : ℕ) → getD readings d 0 < 100000000
 
--- a good head, and cells of its lengths with readings of an eight-digit dial and agreed values of eight digits
+-- no width is over 9,999 (02, W10)
+abbrev pub WidthsLow : List ℕ → Type 0
+WidthsLow widths = (d : ℕ) → getD widths d 0 ≤ 9999
+
+-- a width for each boundary
+pub record Widths (h : Head) (widths : List ℕ) : Type 0 where
+  pub length : length widths ≡ suc (h .days)
+  pub low : WidthsLow widths
+
+-- a good head, and cells of its lengths with readings of an eight-digit dial, agreed values of eight digits and widths of four
 pub record Whole (h : Head) (b : Cells) : Type 0 where
   pub lent : Lent h (b .slots) (b .holidays)
   pub dialled : Dialled h (b .readings)
   pub readVersions : length (b .readVersions) ≡ suc (h .days)
   pub settled : Settled h (b .agreed)
+  pub widths : Widths h (b .widths)

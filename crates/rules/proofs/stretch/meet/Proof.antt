@@ -22,17 +22,17 @@ sub-summarise : tie.Need-sub-summarise
 sub-summarise c = search needs
 
 mul-summarise : tie.Need-mul-summarise
-mul-summarise c = let b = bounded (c .before .before .before .before .before .before .before .before .args .head) (c .before .before .before .before .before .before .before .before .pre .0 .fitted .head) in
-    let w = c .before .before .before .before .before .before .before .before .pre .3 in
-    let p : c .before .before .before .before .before .before .before .before .args .last - c .before .before .before .before .before .before .before .before .args .first ≤ 400 = omega arith in
+mul-summarise c = let b = bounded (c .before .before .before .before .before .before .before .before .before .args .head) (c .before .before .before .before .before .before .before .before .before .pre .0 .fitted .head) in
+    let w = c .before .before .before .before .before .before .before .before .before .pre .3 in
+    let p : c .before .before .before .before .before .before .before .before .before .args .last - c .before .before .before .before .before .before .before .before .before .args .first ≤ 400 = omega arith in
     let q : c .slots-per-day .result ≤ 288 = omega (arith, c .slots-per-day .ensures) in
     omega (arith, mul-le-mul p q)
 
 summarise-requires : tie.Need-summarise-requires
-summarise-requires c κs = let a = c .before .before .before .before .before .before .before .before .args in
-    let w = c .before .before .before .before .before .before .before .before .pre .3 in
+summarise-requires c κs = let a = c .before .before .before .before .before .before .before .before .before .args in
+    let w = c .before .before .before .before .before .before .before .before .before .pre .3 in
     let e = c .slots-per-day .ensures in
-    (c .before .before .before .before .before .before .before .before .pre .0, c .before .before .before .before .before .before .before .before .pre .2, rw (e, w .at-first) (slots-within (a .head) (a .first) (a .last) (omega arith) (w .within)), w .known)
+    (c .before .before .before .before .before .before .before .before .before .pre .0, c .before .before .before .before .before .before .before .before .before .pre .2, rw (e, w .at-first) (slots-within (a .head) (a .first) (a .last) (omega arith) (w .within)), w .known)
 
 mul-advanced : tie.Need-mul-advanced
 mul-advanced c = search needs
@@ -47,7 +47,7 @@ shared-slice-read-advanced-2 : tie.Need-shared-slice-read-advanced-2
 shared-slice-read-advanced-2 c = search needs
 
 advanced-requires : tie.Need-advanced-requires
-advanced-requires c κs = c .before .before .before .before .before .before .before .before .before .before .before .pre .1 .low (c .before .before .before .before .before .before .before .before .before .before .before .args .first)
+advanced-requires c κs = c .before .before .before .before .before .before .before .before .before .before .before .before .pre .1 .low (c .before .before .before .before .before .before .before .before .before .before .before .before .args .first)
 
 cast-state-of : tie.Need-cast-state-of
 cast-state-of c = search needs
@@ -58,20 +58,16 @@ cast-state-of-2 c = search needs
 state-of-requires : tie.Need-state-of-requires
 state-of-requires c κs = search needs
 
-cast-t20 : tie.Need-cast-t20
-cast-t20 c = let b = bounded (c .before .before .before .before .before .before .before .before .before .before .before .before .before .before .args .head) (c .before .before .before .before .before .before .before .before .before .before .before .before .before .before .pre .0 .fitted .head) in
-    let w = c .before .before .before .before .before .before .before .before .before .before .before .before .before .before .pre .3 in
-    omega (arith, b .days-high, w .within, w .ordered)
+cast-t21 : tie.Need-cast-t21
+cast-t21 c = search needs
 
-cast-t22 : tie.Need-cast-t22
-cast-t22 c = let b = bounded (c .before .before .before .before .before .before .before .before .before .before .before .before .before .before .args .head) (c .before .before .before .before .before .before .before .before .before .before .before .before .before .before .pre .0 .fitted .head) in
-    let w = c .before .before .before .before .before .before .before .before .before .before .before .before .before .before .pre .3 in
-    omega (arith, b .days-high, w .within)
+cast-t23 : tie.Need-cast-t23
+cast-t23 c = search needs
 
 mul-stretch-by : tie.Need-mul-stretch-by
-mul-stretch-by c = let b = bounded (c .before .before .before .before .before .before .before .before .before .before .before .before .before .before .args .head) (c .before .before .before .before .before .before .before .before .before .before .before .before .before .before .pre .0 .fitted .head) in
-    let w = c .before .before .before .before .before .before .before .before .before .before .before .before .before .before .pre .3 in
-    let p : c .before .before .before .before .before .before .before .before .before .before .before .before .before .before .args .last ≤ 400 = omega (arith, b .days-high, w .within) in
+mul-stretch-by c = let b = bounded (c .before .before .before .before .before .before .before .before .before .before .before .before .before .before .before .args .head) (c .before .before .before .before .before .before .before .before .before .before .before .before .before .before .before .pre .0 .fitted .head) in
+    let w = c .before .before .before .before .before .before .before .before .before .before .before .before .before .before .before .pre .3 in
+    let p : c .before .before .before .before .before .before .before .before .before .before .before .before .before .before .before .args .last ≤ 400 = omega (arith, b .days-high, w .within) in
     let q : c .before .before .before .before .before .before .slots-per-day .result ≤ 288 = omega (arith, c .before .before .before .before .before .before .slots-per-day .ensures, b .day-high) in
     omega (arith, mul-le-mul p q)
 
@@ -83,10 +79,10 @@ stretch-by-requires c κs = λ z. scaled-advance _ _ _ _ _ (sym (c .state-of .en
 
 returns : tie.Need-returns
 unfolding start slotsIn R
-returns c = let a = c .before .before .before .before .before .before .before .before .before .before .before .before .before .before .before .args in
-    let w = c .before .before .before .before .before .before .before .before .before .before .before .before .before .before .before .pre .3 in
+returns c = let a = c .before .before .before .before .before .before .before .before .before .before .before .before .before .before .before .before .args in
+    let w = c .before .before .before .before .before .before .before .before .before .before .before .before .before .before .before .before .pre .3 in
     let e = c .before .before .before .before .before .before .before .slots-per-day .ensures in
-    let b = cells (slots (a .values .now) (a .versions .now) (a .statuses .now)) (a .holidays .now) (a .readings .now) [] (agreedLists (a .agreed .now) (a .agreed-versions .now)) in
+    let b = cells (slots (a .values .now) (a .versions .now) (a .statuses .now)) (a .holidays .now) (a .readings .now) [] (agreedLists (a .agreed .now) (a .agreed-versions .now)) (a .widths .now) in
     let s : c .before .before .before .before .before .before .summarise .result ≡ summaryOf (a .head) (b .slots) (b .agreed) (b .holidays) (a .first * slotsPerDay (a .head)) ((a .last - a .first) * slotsPerDay (a .head)) = c .before .before .before .before .before .before .summarise .ensures ∙ (rw (e, w .at-first)) in
     (meet-span (a .head) b (a .first) (a .last) (c .before .before .before .before .before .before .summarise .result) (c .before .before .before .advanced .result) (c .before .state-of .result) s (c .before .before .before .advanced .ensures) (c .before .state-of .ensures), c .stretch-by .ensures ∙ (rw (e, w .at-first) (meet-stretch (a .head) b (a .first) (a .last) (c .before .before .before .before .before .before .summarise .result) (c .before .before .before .advanced .result) (c .before .state-of .result) s (c .before .before .before .advanced .ensures) (c .before .state-of .ensures))))
 
@@ -106,8 +102,8 @@ meet-spec =
     cast-state-of
     cast-state-of-2
     state-of-requires
-    cast-t20
-    cast-t22
+    cast-t21
+    cast-t23
     mul-stretch-by
     cast-stretch-by
     stretch-by-requires

@@ -18,14 +18,14 @@ mul-if1 : tie.Need-mul-if1
 mul-if1 c = search needs
 
 shared-slice-read-if1 : tie.Need-shared-slice-read-if1
-shared-slice-read-if1 c = omega (arith, c .before .before .before .before .before .before .before .before .before .pre .0 .readVersions, c .before .before .before .before .before .before .before .before .before .pre .1 .ordered, c .before .before .before .before .before .before .before .before .before .pre .1 .within)
+shared-slice-read-if1 c = omega (arith, c .before .before .before .before .before .before .before .before .before .before .pre .0 .readVersions, c .before .before .before .before .before .before .before .before .before .before .pre .1 .ordered, c .before .before .before .before .before .before .before .before .before .before .pre .1 .within)
 
 slots-per-day-requires : tie.Need-slots-per-day-requires
-slots-per-day-requires c κs = c .before .before .before .before .before .before .before .before .before .before .pre .0 .lent .fitted .head
+slots-per-day-requires c κs = c .before .before .before .before .before .before .before .before .before .before .before .pre .0 .lent .fitted .head
 
 mul-unscaled-to : tie.Need-mul-unscaled-to
-mul-unscaled-to c = let b = bounded (c .before .before .before .before .before .before .before .before .before .before .before .args .head) (c .before .before .before .before .before .before .before .before .before .before .before .pre .0 .lent .fitted .head) in
-    let p : c .before .before .before .before .before .before .before .before .before .before .before .args .last ≤ 400 = omega (arith, b .days-high, c .before .before .before .before .before .before .before .before .before .before .before .pre .1 .within) in
+mul-unscaled-to c = let b = bounded (c .before .before .before .before .before .before .before .before .before .before .before .before .args .head) (c .before .before .before .before .before .before .before .before .before .before .before .before .pre .0 .lent .fitted .head) in
+    let p : c .before .before .before .before .before .before .before .before .before .before .before .before .args .last ≤ 400 = omega (arith, b .days-high, c .before .before .before .before .before .before .before .before .before .before .before .before .pre .1 .within) in
     let q : c .slots-per-day .result ≤ 288 = omega (arith, c .slots-per-day .ensures, b .day-high) in
     omega (arith, mul-le-mul p q)
 
@@ -37,17 +37,17 @@ no-span-requires c κs = search needs
 
 returns : tie.Need-returns
 unfolding beginsWith stretchFrom
-returns c = rw (unread (c .before .before .before .before .before .before .before .before .before .before .before .before .before .args .reads .now) (c .before .before .before .before .before .before .before .before .before .before .before .before .before .args .day) (c .before .before .before .if1 .taken)) (c .no-span .ensures .0, c .no-span .ensures .1 ∙ c .before .unscaled-to .ensures ∙ (rw (c .before .before .slots-per-day .ensures)))
+returns c = rw (unread (c .before .before .before .before .before .before .before .before .before .before .before .before .before .before .args .reads .now) (c .before .before .before .before .before .before .before .before .before .before .before .before .before .before .args .day) (c .before .before .before .if1 .taken)) (c .no-span .ensures .0, c .no-span .ensures .1 ∙ c .before .unscaled-to .ensures ∙ (rw (c .before .before .slots-per-day .ensures)))
 
 meet-requires : tie.Need-meet-requires
-meet-requires c κs = (c .before .before .before .before .before .before .before .before .before .before .pre .0 .lent, c .before .before .before .before .before .before .before .before .before .before .pre .0 .dialled, c .before .before .before .before .before .before .before .before .before .before .pre .0 .settled, c .before .before .before .before .before .before .before .before .before .before .pre .1)
+meet-requires c κs = (c .before .before .before .before .before .before .before .before .before .before .before .pre .0 .lent, c .before .before .before .before .before .before .before .before .before .before .before .pre .0 .dialled, c .before .before .before .before .before .before .before .before .before .before .before .pre .0 .settled, c .before .before .before .before .before .before .before .before .before .before .before .pre .1, c .before .before .before .before .before .before .before .before .before .before .before .pre .0 .widths)
 
 returns-2 : tie.Need-returns-2
 unfolding beginsWith stretchFrom
-returns-2 c = let a = c .before .before .before .before .before .before .before .before .before .before .before .before .before .args in
+returns-2 c = let a = c .before .before .before .before .before .before .before .before .before .before .before .before .before .before .args in
     let s = slots (a .values .now) (a .versions .now) (a .statuses .now) in
     let g = agreedLists (a .agreed .now) (a .agreed-versions .now) in
-    rw (is-read (a .reads .now) (a .day) (c .before .before .before .if1 .left)) (ap Span (c .before .before .meet .ensures .0 ∙ span-versions (a .head) s (a .holidays .now) (a .readings .now) [] (a .reads .now) g (a .day) (a .last)), c .before .before .meet .ensures .1 ∙ stretch-versions (a .head) s (a .holidays .now) (a .readings .now) [] (a .reads .now) g (a .day) (a .last) (a .fills .at))
+    rw (is-read (a .reads .now) (a .day) (c .before .before .before .if1 .left)) (ap Span (c .before .before .meet .ensures .0 ∙ span-versions (a .head) s (a .holidays .now) (a .readings .now) [] (a .reads .now) g (a .widths .now) (a .day) (a .last)), c .before .before .meet .ensures .1 ∙ stretch-versions (a .head) s (a .holidays .now) (a .readings .now) [] (a .reads .now) g (a .widths .now) (a .day) (a .last) (a .fills .at))
 
 pub reach-spec : {M : Type 1} → statement M
 reach-spec =
