@@ -7,9 +7,9 @@ use Rattle.rules.specs.Opening.{firstDay, intervalOk, headOk, slotsPerDa
 use Rattle.rules.specs.Tests.{isGap, timeChangeBit, outageBit, partialBit, causeOf, causeAt, goodAt}
 use Rattle.rules.specs.Weeks.{firstBack, farthestBack, weeksWithin}
 use Rattle.rules.specs.Filling.{outageAt, outageBefore, outageAfter, isOutageZero, inRun, runBefore, runFrom, runStart, runLength, isLinear, lineValue, linearValue, isReference, weeksBack, references, total, meanOf, fromReferences, isAgreed, filledAt, shapeOf, shapeAt}
-use Rattle.rules.specs.Spans.{isRead, lastRead, nextRead, advance, apart, stateBy, share, start, slotsIn, R, actual, stateOf, T, allZero, e, E, C, P, newValue, inSpan, between, outcomeAt}
+use Rattle.rules.specs.Spans.{isRead, lastRead, nextRead, advance, rangeOf, leastIn, isNear, stateBy, share, start, slotsIn, G, range, actual, R, stateOf, T, allZero, e, E, C, P, newValue, inSpan, between, outcomeAt}
 use Rattle.rules.specs.Cases.{cases}
 
 pub cases-hold : every cases ≡ true
-unfolding cases leap monthLengths monthLength yearLength daysBeforeMonth daysBeforeYear dayNumber isDate toSunday firstDay intervalOk headOk slotsPerDay slotCount isGap timeChangeBit outageBit partialBit causeOf causeAt goodAt outageAt outageBefore outageAfter isOutageZero inRun runBefore runFrom runStart runLength isLinear lineValue linearValue isReference firstBack farthestBack weeksWithin weeksBack references total meanOf fromReferences isAgreed filledAt shapeOf shapeAt sum any isRead lastRead nextRead advance apart stateBy share start slotsIn R actual stateOf T allZero e E C P newValue inSpan between outcomeAt
+unfolding cases leap monthLengths monthLength yearLength daysBeforeMonth daysBeforeYear dayNumber isDate toSunday firstDay intervalOk headOk slotsPerDay slotCount isGap timeChangeBit outageBit partialBit causeOf causeAt goodAt outageAt outageBefore outageAfter isOutageZero inRun runBefore runFrom runStart runLength isLinear lineValue linearValue isReference firstBack farthestBack weeksWithin weeksBack references total meanOf fromReferences isAgreed filledAt shapeOf shapeAt sum any isRead lastRead nextRead advance rangeOf leastIn isNear stateBy share start slotsIn G range actual R stateOf T allZero e E C P newValue inSpan between outcomeAt
 cases-hold = refl

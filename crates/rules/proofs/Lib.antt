@@ -1,4 +1,5 @@
 pub mod Logic
+pub mod Ranges
 pub mod Lists
 pub mod Sums
 pub mod Looked

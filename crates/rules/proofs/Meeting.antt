@@ -7,10 +7,11 @@ use native.Mathlib.Nat.{sub-self}
 use borrow.Author.Tests.{leb-true, eq-eqb}
 use lib.Dec.{leb}
 use Rattle.rules.specs.declared.Head.{Head}
+use Rattle.rules.specs.declared.range.Range.{Range}
 use Rattle.rules.specs.declared.spans.Summary.{Summary}
 use Rattle.rules.specs.Lists.{sum}
 use Rattle.rules.specs.Opening.{Slots, Agreed, Cells, slotsPerDay}
-use Rattle.rules.specs.Spans.{apart, stateBy, filled, shape, start, slotsIn, R, actual, stateOf, T, allZero, e, E, P, spanOf, isS}
+use Rattle.rules.specs.Spans.{leastIn, isNear, stateBy, filled, shape, start, slotsIn, G, range, R, actual, stateOf, T, allZero, e, E, P, spanOf, isS}
 use Rattle.rules.specs.Inner.Lent.{cells}
 use Rattle.rules.specs.Inner.Summaries.{summaryOf, scalingOf}
 use Rattle.rules.specs.Inner.Stretches.{scalingAt, spanStretch, stretchBy}
@@ -19,9 +20,9 @@ use Rattle.rules.proofs.States.{stated}
 use Rattle.rules.proofs.Sums.{sum-cong}
 
 -- state 1 is given only where R ≥ V
-pub scaled-advance : (hole full : Bool) (r v t : ℕ) → stateBy hole full r v t ≡ 1 → v ≤ r
+pub scaled-advance : (hole full : Bool) (range : Range) (r v t : ℕ) → stateBy hole full range r v t ≡ 1 → v ≤ r
 unfolding stateBy
-scaled-advance hole full r v t z = leb-true v r (stated hole full (leb v r) (leb (apart r v) t) .scaled-has (eq-eqb _ _ z) .1)
+scaled-advance hole full range r v t z = leb-true v r (stated hole full (leb v r) (isNear range v t) .scaled-has (eq-eqb _ _ z) .1)
 
 module _ (h : Head) (b : Cells) (first last : ℕ) where
   -- the sums of the span's slots
@@ -37,14 +38,18 @@ module _ (h : Head) (b : Cells) (first last : ℕ) where
   unfolding scalingOf T actual allZero E e P summaryOf sum
   scaling-first = rw (sub-self, weights (allZero h b first last))
 
-  module _ (m : Summary) (r state : ℕ) (p : m ≡ whole) (q : r ≡ R h b first last) (s : state ≡ stateBy (m .hole) (m .filled) r (m .actual) (h .tolerance)) where
+  module _ (m : Summary) (found : Range) (r state : ℕ) (p : m ≡ whole) (f : found ≡ range h b first last) (l : r ≡ leastIn found (m .actual)) (s : state ≡ stateBy (m .hole) (m .filled) found r (m .actual) (h .tolerance)) where
+    q : r ≡ R h b first last
+    unfolding R actual summaryOf
+    q = l ∙ (rw (p, f))
+
     state-found : state ≡ stateOf h b first last
     unfolding stateOf actual summaryOf
-    state-found = s ∙ (rw (p, q))
+    state-found = s ∙ (rw (p, f, q))
 
-    pub meet-span : record { first = first; last = last; lowest = r; highest = r; state = state } ≡ spanOf h b first last
+    pub meet-span : record { first = first; last = last; lowest = found .lowest; highest = found .highest; state = state } ≡ spanOf h b first last
     unfolding spanOf
-    meet-span = rw (state-found, q)
+    meet-span = rw (state-found, f)
 
     pub meet-stretch : stretchBy (last * slotsPerDay h) state m r ≡ spanStretch h b first last (start h b first last)
     unfolding stretchBy spanStretch
@@ -53,9 +58,9 @@ module _ (h : Head) (b : Cells) (first last : ℕ) where
 -- a span's figures rest on no register version
 module _ (h : Head) (s : Slots) (holidays readings v w : List ℕ) (agreed : Agreed) (widths : List ℕ) (first last : ℕ) where
   pub span-versions : spanOf h (cells s holidays readings v agreed widths) first last ≡ spanOf h (cells s holidays readings w agreed widths) first last
-  unfolding spanOf R stateOf actual start slotsIn
+  unfolding spanOf G range R stateOf actual start slotsIn
   span-versions = refl
 
   pub stretch-versions : (i : ℕ) → spanStretch h (cells s holidays readings v agreed widths) first last i ≡ spanStretch h (cells s holidays readings w agreed widths) first last i
-  unfolding spanStretch R stateOf actual start slotsIn T E allZero e P
+  unfolding spanStretch G range R stateOf actual start slotsIn T E allZero e P
   stretch-versions i = refl

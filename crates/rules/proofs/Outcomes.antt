@@ -8,8 +8,8 @@ use Rattle.rules.specs.declared.Head.{Head}
 use Rattle.rules.specs.declared.Outcome.{Outcome}
 use Rattle.rules.specs.Opening.{Cells, slotsPerDay}
 use Rattle.rules.specs.Filling.{filledAt}
-use Rattle.rules.specs.Spans.{isScaled, advance, start, slotsIn, R, inSpan, spanOf, noSpan, outcomeAt, spans}
-use Rattle.rules.specs.Inner.Lent.{AgreedLow}
+use Rattle.rules.specs.Spans.{isScaled, start, slotsIn, G, range, R, actual, inSpan, spanOf, noSpan, outcomeAt, spans}
+use Rattle.rules.specs.Inner.Lent.{AgreedLow, WidthsLow}
 use Rattle.rules.proofs.Bounds.{Bounded}
 use Rattle.rules.proofs.Small.{filled-low}
 use Rattle.rules.proofs.Fillings.{spanned-by}
@@ -17,14 +17,28 @@ use Rattle.rules.proofs.Forms.{Filled, Form, filled-form, scaled-form}
 use Rattle.rules.proofs.Forms.Filled.{delivered, agreed, outage, linear, sameDay, nothing}
 use Rattle.rules.proofs.Forms.Form.{unscaled}
 use Rattle.rules.proofs.Neighbours.{span-found}
+use Rattle.rules.proofs.Ranges.{advance-below, range-of-ordered, range-of-low, least-within}
 use Rattle.rules.proofs.Scaling.{new-high}
 use Rattle.rules.proofs.Places.{Place, place, span-end}
 use Rattle.rules.proofs.Places.Place.{outside, inside}
 
 module _ (h : Head) (b : Cells) (first last : ℕ) where
-  pub advance-low : R h b first last ≤ 99999999
-  unfolding R advance
-  advance-low = omega arith
+  -- its lowest and highest advance
+  pub ends-ordered : range h b first last .lowest ≤ range h b first last .highest
+  unfolding range
+  ends-ordered = range-of-ordered _ _ _
+
+  -- R lies between them
+  pub advance-within : (range h b first last .lowest ≤ R h b first last) × (R h b first last ≤ range h b first last .highest)
+  unfolding R
+  advance-within = least-within (range h b first last) (actual h b first last) ends-ordered
+
+  pub highest-low : WidthsLow (b .widths) → range h b first last .highest ≤ 99999999
+  unfolding range G
+  highest-low w = range-of-low _ _ _ (advance-below _ _) (w last)
+
+  pub advance-low : WidthsLow (b .widths) → R h b first last ≤ 99999999
+  advance-low w = omega (arith, advance-within .1, highest-low w)
 
 filled-unscaled : {o : Outcome} → Filled o → isScaled (o .method) ≡ false
 filled-unscaled (delivered v) = refl
@@ -54,18 +68,18 @@ module _ (h : Head) (bounds : Bounded h) (b : Cells) where
         go outside = form
         go (inside s n l m) = span-form (s .first) (s .last)
 
-    span-fits : (first last : ℕ) → i < start h b first last + slotsIn h b first last → inSpan h b first last i .value < 100000000
-    span-fits first last l =
+    span-fits : WidthsLow (b .widths) → (first last : ℕ) → i < start h b first last + slotsIn h b first last → inSpan h b first last i .value < 100000000
+    span-fits w first last l =
         spanned-by (λ o. o .value < 100000000) h b first last i
-        (λ _. omega (arith, new-high h b first last i l, advance-low h b first last))
+        (λ _. omega (arith, new-high h b first last i l, advance-low h b first last w))
         (omega (arith, filled-low h bounds (b .slots) (b .agreed) (b .holidays) i low))
 
-    pub outcome-fits : outcomeAt h b i .value < 100000000
-    outcome-fits = go (place h bounds b i)
+    pub outcome-fits : WidthsLow (b .widths) → outcomeAt h b i .value < 100000000
+    outcome-fits w = go (place h bounds b i)
       where
         go : {o : Outcome} → Place h b i o → o .value < 100000000
         go outside = omega (arith, filled-low h bounds (b .slots) (b .agreed) (b .holidays) i low)
-        go (inside s n l m) = span-fits (s .first) (s .last) (rw (span-end h b (s .first) (s .last) (omega (arith, n .ordered))) m)
+        go (inside s n l m) = span-fits w (s .first) (s .last) (rw (span-end h b (s .first) (s .last) (omega (arith, n .ordered))) m)
 
   -- no 18 or 19 outside spans
   pub scaled-inside : (i : ℕ) → isScaled (outcomeAt h b i .method) ≡ true → Covered h b i

@@ -11,7 +11,8 @@ use Rattle.rules.specs.declared.Quality.the-variants.{S}
 use Rattle.rules.specs.declared.Span.{Span}
 use Rattle.rules.specs.Lists.{sum, any}
 use Rattle.rules.specs.Opening.{Cells}
-use Rattle.rules.specs.Spans.{isS, isN, actualIn, isScaled, apart, stateBy, filled, start, slotsIn, R, actual, stateOf, newValue, inSpan, spanOf, outcomeAt}
+use Rattle.rules.specs.Inner.Lent.{WidthsLow}
+use Rattle.rules.specs.Spans.{isS, isN, actualIn, isScaled, isNear, stateBy, filled, start, slotsIn, range, R, actual, stateOf, newValue, inSpan, spanOf, outcomeAt}
 use Rattle.rules.proofs.Bounds.{Bounded}
 use Rattle.rules.proofs.Sums.{sum-cong, sum-plus, any-cong, any-none}
 use Rattle.rules.proofs.Forms.{Filled, filled-form}
@@ -19,7 +20,7 @@ use Rattle.rules.proofs.Forms.Filled.{delivered, agreed, outage, linear
 use Rattle.rules.proofs.Neighbours.{Neighbours}
 use Rattle.rules.proofs.Scaling.{new-zero, new-total}
 use Rattle.rules.proofs.Places.{span-end, in-span}
-use Rattle.rules.proofs.Outcomes.{advance-low}
+use Rattle.rules.proofs.Outcomes.{ends-ordered, highest-low, advance-within}
 
 -- what a state says of its span: whether it has an N, an S, and R ≥ V
 pub record Stated (hasN hasS reached : Bool) (state : ℕ) : Type 0 where
@@ -68,7 +69,7 @@ module _ (h : Head) (b : Cells) (first last : ℕ) where
       (leb (actual h b first last) (R h b first last))
       (stateOf h b first last)
   unfolding stateOf stateBy
-  state-is = stated _ _ _ (leb (apart (R h b first last) (actual h b first last)) (h .tolerance))
+  state-is = stated _ _ _ (isNear (range h b first last) (actual h b first last) (h .tolerance))
 
   pub state-low : stateOf h b first last ≤ 3
   state-low = state-is .low
@@ -107,20 +108,20 @@ module _ (h : Head) (bounds : Bounded h) (b : Cells) (s : Span) (n : Neighbours 
   unfolding spanOf
   state-same = ap (λ (x : Span). x .state) (n .figures)
 
-  lowest-same : s .lowest ≡ R h b (s .first) (s .last)
+  lowest-same : s .lowest ≡ range h b (s .first) (s .last) .lowest
   unfolding spanOf
   lowest-same = ap (λ (x : Span). x .lowest) (n .figures)
 
-  highest-same : s .highest ≡ R h b (s .first) (s .last)
+  highest-same : s .highest ≡ range h b (s .first) (s .last) .highest
   unfolding spanOf
   highest-same = ap (λ (x : Span). x .highest) (n .figures)
 
   -- the ends of its advance
   pub range-ordered : s .lowest ≤ s .highest
-  range-ordered = omega (arith, lowest-same, highest-same)
+  range-ordered = omega (arith, lowest-same, highest-same, ends-ordered h b (s .first) (s .last))
 
-  pub range-low : s .highest ≤ 99999999
-  range-low = omega (arith, highest-same, advance-low h b (s .first) (s .last))
+  pub range-low : WidthsLow (b .widths) → s .highest ≤ 99999999
+  range-low w = omega (arith, highest-same, highest-low h b (s .first) (s .last) w)
 
   -- state 2 exactly when it has an N
   pub open-exactly : eqb (s .state) 2 ≡ any (λ i. isN (outcomeAt h b i .quality)) a k
@@ -170,4 +171,6 @@ module _ (h : Head) (bounds : Bounded h) (b : Cells) (s : Span) (n : Neighbours 
 
     -- which lies between the ends of its advance
     pub scaled-within : (s .lowest ≤ sum (λ i. outcomeAt h b i .value) a k) × (sum (λ i. outcomeAt h b i .value) a k ≤ s .highest)
-    scaled-within = (omega (arith, scaled-sum, lowest-same), omega (arith, scaled-sum, highest-same))
+    scaled-within =
+        let w = advance-within h b (s .first) (s .last) in
+        (omega (arith, scaled-sum, lowest-same, w .0), omega (arith, scaled-sum, highest-same, w .1))

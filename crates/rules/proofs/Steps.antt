@@ -17,6 +17,7 @@ use Rattle.rules.specs.declared.stretch.Stretch.{Stretch}
 use Rattle.rules.specs.Opening.{Cells, slotsPerDay, slotCount}
 use Rattle.rules.specs.Filling.{filledAt, shapeAt}
 use Rattle.rules.specs.Spans.{isS, lastRead, nextRead, filled, shape, start, slotsIn, stateOf, T, allZero, e, E, C, P, newValue, inSpan, between, outcomeAt}
+use Rattle.rules.specs.Inner.Lent.{WidthsLow}
 use Rattle.rules.specs.Inner.Summaries.{scaledBy, Scales}
 use Rattle.rules.specs.Inner.Stretches.{unscaledTo, scalingAt, spanStretch, stretchOf, stretchOn, stretchAt, carriedAt, scales, fitOutcome, fitNext, Fits, beginsAt}
 use Rattle.rules.specs.Inner.Fills.{fillsAt}
@@ -167,21 +168,21 @@ module _ (h : Head) (w : Bounded h) (b : Cells) (i : ℕ) where
         rw (← weight first last l m q, ← running h b first last i l)
         (sum-grows (e h b first last) (start h b first last) {j = i + 1 - start h b first last} {k = slotsIn h b first last} (omega arith))
 
-  scaled-well : {before after : Stretch} {x : Outcome} → Slot h b i before x after → isS (filledAt h (b .slots) (b .agreed) (b .holidays) i .quality) ≡ true → (before .by .whole ≡ 0 → ⊥)
+  scaled-well : WidthsLow (b .widths) → {before after : Stretch} {x : Outcome} → Slot h b i before x after → isS (filledAt h (b .slots) (b .agreed) (b .holidays) i .quality) ≡ true → (before .by .whole ≡ 0 → ⊥)
       → Scales (shapeAt h (b .slots) (b .agreed) (b .holidays) i) (before .by)
   unfolding T
-  scaled-well (unscaled until) q t = absurd (t refl)
-  scaled-well (scaled first last l m j k) q t =
+  scaled-well wide (unscaled until) q t = absurd (t refl)
+  scaled-well wide (scaled first last l m j k) q t =
       record {
-        t-low = omega (arith, advance-low h b first last);
+        t-low = omega (arith, advance-low h b first last wide);
         room = room first last l m q;
         whole-high = whole-high first last j k;
         whole-low = whole-low first last l m q;
       }
 
   -- slot i itself
-  pub step-fits : Fits (filledAt h (b .slots) (b .agreed) (b .holidays) i) (shapeAt h (b .slots) (b .agreed) (b .holidays) i) (stretchAt h b i)
-  step-fits = record { method-low = method-low (filled-form h (b .slots) (b .agreed) (b .holidays) i); scales = scaled-well slot }
+  pub step-fits : WidthsLow (b .widths) → Fits (filledAt h (b .slots) (b .agreed) (b .holidays) i) (shapeAt h (b .slots) (b .agreed) (b .holidays) i) (stretchAt h b i)
+  step-fits wide = record { method-low = method-low (filled-form h (b .slots) (b .agreed) (b .holidays) i); scales = scaled-well wide slot }
 
   module _ (entered : Entered) (new : Filled) (begins : entered .begins ≡ beginsAt h b i) (here : entered .stretch ≡ stretchAt h b i) (outcome : new .outcome ≡ filledAt h (b .slots) (b .agreed) (b .holidays) i) (shaped : new .shape ≡ shapeAt h (b .slots) (b .agreed) (b .holidays) i) (next : new .next ≡ fillsAt h (b .slots) (b .agreed .versions) (i + 1)) where
     carried : fitNext (new .outcome) (new .shape) (entered .stretch) ≡ carriedAt h b (i + 1)

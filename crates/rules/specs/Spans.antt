@@ -1,4 +1,4 @@
--- Spans, scaling to the dial, and outcomes (01, Spans; 02, W7).
+-- Spans, scaling to the dial, and outcomes (01, Spans; 02, W7 and W10).
 use mathlib.Core.Bool.{Bool, true, false, cond, not, _&&_, _||_}
 use mathlib.Core.List.{List, [], _∷_, _++_}
 use mathlib.Core.Option.{Option, none, some}
@@ -10,6 +10,7 @@ use Rattle.rules.specs.declared.Outcome.{Outcome}
 use Rattle.rules.specs.declared.Quality.{Quality}
 use Rattle.rules.specs.declared.Quality.the-variants.{A, S, F, N}
 use Rattle.rules.specs.declared.Span.{Span}
+use Rattle.rules.specs.declared.range.Range.{Range}
 use Rattle.rules.specs.Lists.{sum, any}
 use Rattle.rules.specs.Opening.{Cells, slotsPerDay, slotCount}
 use Rattle.rules.specs.Filling.{filledAt, shapeAt}
@@ -64,13 +65,25 @@ nextRead readVersions d (suc k) = cond (isRead readVersions d) (some d) (nextRea
 unfoldable pub advance : ℕ → ℕ → ℕ
 advance earlier later = (later + 100000000 - earlier) % 100000000
 
--- |r − v|
-unfoldable pub apart : ℕ → ℕ → ℕ
-apart r v = (r - v) + (v - r)
+-- with G the advance of two readings, u the earlier one's width and v the later one's, the advance lies from the larger of 0 and G − u to G + v, or, where G + v is 100,000,000 or more, from 0 to G + v − 100,000,000 (02, W10)
+unfoldable pub rangeOf : ℕ → ℕ → ℕ → Range
+rangeOf g u v =
+    cond (leb 100000000 (g + v))
+    (record { lowest = 0; highest = g + v - 100000000 })
+    (record { lowest = g - u; highest = g + v })
 
--- 2 (open) if a slot is N; else, if a slot is S, 1 (scaled) when R ≥ V and 3 (disagrees) when R < V; else 0 when |R − V| ≤ t and 3 otherwise
-unfoldable pub stateBy : Bool → Bool → ℕ → ℕ → ℕ → ℕ
-stateBy hasN hasS r v t = cond hasN 2 (cond hasS (cond (leb v r) 1 3) (cond (leb (apart r v) t) 0 3))
+-- the least advance in the range that is at least v; if there is none, the highest (02, W10)
+unfoldable pub leastIn : Range → ℕ → ℕ
+leastIn range v =
+    cond (leb v (range .lowest)) (range .lowest) (cond (leb v (range .highest)) v (range .highest))
+
+-- some advance in the range is within t of v: v is at most t below the lowest and at most t above the highest (02, W10)
+unfoldable pub isNear : Range → ℕ → ℕ → Bool
+isNear range v t = leb (range .lowest - v) t && leb (v - range .highest) t
+
+-- 2 (open) if a slot is N; else, if a slot is S, 1 (scaled) when R ≥ V and 3 (disagrees) when R < V; else 0 when some advance in the range is within t of V and 3 otherwise
+unfoldable pub stateBy : Bool → Bool → Range → ℕ → ℕ → ℕ → ℕ
+stateBy hasN hasS range r v t = cond hasN 2 (cond hasS (cond (leb v r) 1 3) (cond (isNear range v t) 0 3))
 
 -- floor(T × C / E)
 unfoldable pub share : ℕ → ℕ → ℕ → ℕ
@@ -92,17 +105,25 @@ module _ (h : Head) (b : Cells) (first last : ℕ) where
   unfoldable pub slotsIn : ℕ
   slotsIn = (last - first) * slotsPerDay h
 
-  unfoldable pub R : ℕ
-  R = advance (getD (b .readings) first 0) (getD (b .readings) last 0)
+  -- the advance of its two readings
+  unfoldable pub G : ℕ
+  G = advance (getD (b .readings) first 0) (getD (b .readings) last 0)
+
+  -- where its advance lies, by their widths
+  unfoldable pub range : Range
+  range = rangeOf G (getD (b .widths) first 0) (getD (b .widths) last 0)
 
   -- V, the sum of its A and F slots
   unfoldable pub actual : ℕ
   actual = sum (λ i. actualIn (filled i)) start slotsIn
 
+  unfoldable pub R : ℕ
+  R = leastIn range actual
+
   unfoldable pub stateOf : ℕ
   stateOf =
       stateBy (any (λ i. isN (filled i .quality)) start slotsIn) (any (λ i. isS (filled i .quality)) start slotsIn)
-      R actual (h .tolerance)
+      range R actual (h .tolerance)
 
   unfoldable pub T : ℕ
   T = R - actual
@@ -135,9 +156,9 @@ module _ (h : Head) (b : Cells) (first last : ℕ) where
       (record { value = newValue i; quality = S; method = filled i .method + 16 })
       (filled i)
 
-  -- a span's outcome is its two boundaries, both ends of its advance, which are R, and state
+  -- a span's outcome is its two boundaries, its lowest and highest advance, and state
   unfoldable pub spanOf : Span
-  spanOf = record { first = first; last = last; lowest = R; highest = R; state = stateOf }
+  spanOf = record { first = first; last = last; lowest = range .lowest; highest = range .highest; state = stateOf }
 
 -- past the last span of a list
 abbrev pub noSpan : Span

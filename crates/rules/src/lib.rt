@@ -5,6 +5,7 @@ pub mod limits;
 pub mod linear;
 pub mod opening;
 pub mod pass;
+pub mod range;
 pub mod readings;
 pub mod spans;
 pub mod stretch;

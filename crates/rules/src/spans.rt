@@ -6,12 +6,13 @@ use crate::filling;
 use crate::fills;
 use crate::fills::Fills;
 use crate::linear;
+use crate::range;
+use crate::range::Range;
 use crate::tests;
 ghost use mathlib.Core.Path.{_≡_};
-ghost use lib.Dec.{leb};
 ghost use Prim.Native.Nat.{_+_, _-_, _^_, _<_, _≤_};
 ghost use Rattle.rules.specs.Opening.{slotCount};
-ghost use Rattle.rules.specs.Spans.{isS, advance, apart, stateBy, share};
+ghost use Rattle.rules.specs.Spans.{isS, advance, stateBy, share};
 ghost use Rattle.rules.specs.Inner.Lent.{lentSlots, lentAgreed, Lent, Settled};
 ghost use Rattle.rules.specs.Inner.Fills.{fillsAt};
 ghost use Rattle.rules.specs.Inner.Summaries.{summaryOf, actualAdded, addedTo, scalingOf, scaledBy, Scales};
@@ -134,7 +135,7 @@ pub fn summarise(
     sum
 }
 
-// R, for a dial of eight digits.
+// G, for a dial of eight digits.
 pub fn advanced(earlier: u32, later: u32) -> u32
     requires { ⌜ earlier < 100000000 ⌝ }
     ensures { λ r. ⌜ r ≡ advance earlier later ⌝ }
@@ -142,18 +143,9 @@ pub fn advanced(earlier: u32, later: u32) -> u32
     (((later as u64) + 100000000 - (earlier as u64)) % 100000000) as u32
 }
 
-fn is_near(r: u64, v: u64, tolerance: u64) -> bool
-    ensures { λ b. ⌜ b ≡ leb (apart r v) tolerance ⌝ }
-{
-    if v <= r {
-        return r - v <= tolerance;
-    }
-    v - r <= tolerance
-}
-
 // 0 agrees, 1 scaled, 2 open, 3 disagrees.
-pub fn state_of(sum: Summary, r: u64, tolerance: u64) -> u8
-    ensures { λ s. ⌜ s ≡ stateBy (sum .hole) (sum .filled) r (sum .actual) tolerance ⌝ }
+pub fn state_of(sum: Summary, range: Range, r: u64, tolerance: u64) -> u8
+    ensures { λ s. ⌜ s ≡ stateBy (sum .hole) (sum .filled) range r (sum .actual) tolerance ⌝ }
 {
     if sum.hole {
         return 2;
@@ -164,7 +156,7 @@ pub fn state_of(sum: Summary, r: u64, tolerance: u64) -> u8
         }
         return 3;
     }
-    if is_near(r, sum.actual, tolerance) {
+    if range::is_near(range, sum.actual, tolerance) {
         return 0;
     }
     3

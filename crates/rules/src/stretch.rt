@@ -5,6 +5,7 @@ use crate::Quality;
 use crate::Span;
 use crate::fills::Fills;
 use crate::opening;
+use crate::range;
 use crate::readings;
 use crate::readings::Next;
 use crate::spans;
@@ -107,17 +108,19 @@ fn meet(
         (last - first) * day,
     );
     let advance = spans::advanced(readings[first], readings[last]);
-    let state = spans::state_of(sum, advance as u64, head.tolerance as u64);
+    let range = range::range_of(advance, widths[first], widths[last]);
+    let r = range::least_in(range, sum.actual);
+    let state = spans::state_of(sum, range, r, head.tolerance as u64);
     let span = Span {
         first: first as u32,
         last: last as u32,
-        lowest: advance,
-        highest: advance,
+        lowest: range.lowest,
+        highest: range.highest,
         state: state,
     };
     Met {
         span: span,
-        stretch: stretch_by(last * day, state, sum, advance as u64),
+        stretch: stretch_by(last * day, state, sum, r),
     }
 }
 

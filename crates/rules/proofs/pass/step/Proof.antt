@@ -20,7 +20,7 @@ settle-requires : tie.Need-settle-requires
 settle-requires c κs = let a = c .before .before .before .before .before .before .before .before .before .before .before .before .before .args in
     let w = bounded (a .head) (c .before .before .before .before .before .before .before .before .before .before .before .before .before .pre .0 .lent .fitted .head) in
     let b = cells (slots (a .values .now) (a .versions .now) (a .statuses .now)) (a .holidays .now) (a .readings .now) (a .reads .now) (agreedLists (a .agreed .now) (a .agreed-versions .now)) (a .widths .now) in
-    rw (c .fill .ensures .0, c .fill .ensures .1, c .before .enter .ensures .1) (step-fits (a .head) w b (a .pass .fills .at))
+    rw (c .fill .ensures .0, c .fill .ensures .1, c .before .enter .ensures .1) (step-fits (a .head) w b (a .pass .fills .at) (c .before .before .before .before .before .before .before .before .before .before .before .before .before .pre .0 .widths .low))
 
 returns : tie.Need-returns
 returns c = let a = c .before .before .before .before .before .before .before .before .before .before .before .before .before .before .args in

@@ -4,12 +4,14 @@ use mathlib.Core.Path.{_≡_, sym, _∙_}
 use Prim.Native.Nat.{_-_, _*_, _≤_}
 use native.Mathlib.Nat.{mul-le-mul}
 use native.Mathlib.Omega.{arith}
+use lib.ListN.{getD}
 use Rattle.rules.specs.Opening.{slotsPerDay}
-use Rattle.rules.specs.Spans.{start, slotsIn, R}
+use Rattle.rules.specs.Spans.{start, slotsIn, G, range}
 use Rattle.rules.specs.Inner.Lent.{slots, agreedLists, cells}
 use Rattle.rules.specs.Inner.Summaries.{summaryOf}
 use Rattle.rules.proofs.Bounds.{bounded}
 use Rattle.rules.proofs.Places.{slots-within}
+use Rattle.rules.proofs.Ranges.{advance-below}
 use Rattle.rules.proofs.Meeting.{scaled-advance, meet-span, meet-stretch}
 use borrow.Author.Needs.{needs}
 use Rattle.rules.proofs.stretch.meet.Statement.{statement}
@@ -49,42 +51,69 @@ shared-slice-read-advanced-2 c = search needs
 advanced-requires : tie.Need-advanced-requires
 advanced-requires c κs = c .before .before .before .before .before .before .before .before .before .before .before .before .pre .1 .low (c .before .before .before .before .before .before .before .before .before .before .before .before .args .first)
 
+mul-range-of : tie.Need-mul-range-of
+mul-range-of c = let b = bounded (c .before .before .before .before .before .before .before .before .before .before .before .before .before .args .head) (c .before .before .before .before .before .before .before .before .before .before .before .before .before .pre .0 .fitted .head) in
+    let w = c .before .before .before .before .before .before .before .before .before .before .before .before .before .pre .3 in
+    omega (arith, b .days-high, w .within, w .ordered)
+
+shared-slice-read-range-of : tie.Need-shared-slice-read-range-of
+shared-slice-read-range-of c = search needs
+
+mul-range-of-2 : tie.Need-mul-range-of-2
+mul-range-of-2 c = let b = bounded (c .before .before .before .before .before .before .before .before .before .before .before .before .before .before .args .head) (c .before .before .before .before .before .before .before .before .before .before .before .before .before .before .pre .0 .fitted .head) in
+    let w = c .before .before .before .before .before .before .before .before .before .before .before .before .before .before .pre .3 in
+    omega (arith, b .days-high, w .within, w .ordered)
+
+shared-slice-read-range-of-2 : tie.Need-shared-slice-read-range-of-2
+shared-slice-read-range-of-2 c = search needs
+
+range-of-requires : tie.Need-range-of-requires
+range-of-requires c κs = let a = c .before .before .before .before .before .before .before .before .before .before .before .before .before .before .before .args in
+    let l = advance-below (getD (a .readings .now) (a .first) 0) (getD (a .readings .now) (a .last) 0) in
+    omega (arith, c .before .before .advanced .ensures, l)
+
+least-in-requires : tie.Need-least-in-requires
+least-in-requires c κs = search needs
+
 cast-state-of : tie.Need-cast-state-of
 cast-state-of c = search needs
-
-cast-state-of-2 : tie.Need-cast-state-of-2
-cast-state-of-2 c = search needs
 
 state-of-requires : tie.Need-state-of-requires
 state-of-requires c κs = search needs
 
-cast-t21 : tie.Need-cast-t21
-cast-t21 c = search needs
+cast-t25 : tie.Need-cast-t25
+cast-t25 c = let b = bounded (c .before .before .before .before .before .before .before .before .before .before .before .before .before .before .before .before .before .before .before .args .head) (c .before .before .before .before .before .before .before .before .before .before .before .before .before .before .before .before .before .before .before .pre .0 .fitted .head) in
+    let w = c .before .before .before .before .before .before .before .before .before .before .before .before .before .before .before .before .before .before .before .pre .3 in
+    omega (arith, b .days-high, w .within, w .ordered)
 
 cast-t23 : tie.Need-cast-t23
-cast-t23 c = search needs
+cast-t23 c = let b = bounded (c .before .before .before .before .before .before .before .before .before .before .before .before .before .before .before .before .before .before .before .args .head) (c .before .before .before .before .before .before .before .before .before .before .before .before .before .before .before .before .before .before .before .pre .0 .fitted .head) in
+    let w = c .before .before .before .before .before .before .before .before .before .before .before .before .before .before .before .before .before .before .before .pre .3 in
+    omega (arith, b .days-high, w .within, w .ordered)
 
 mul-stretch-by : tie.Need-mul-stretch-by
-mul-stretch-by c = let b = bounded (c .before .before .before .before .before .before .before .before .before .before .before .before .before .before .before .args .head) (c .before .before .before .before .before .before .before .before .before .before .before .before .before .before .before .pre .0 .fitted .head) in
-    let w = c .before .before .before .before .before .before .before .before .before .before .before .before .before .before .before .pre .3 in
-    let p : c .before .before .before .before .before .before .before .before .before .before .before .before .before .before .before .args .last ≤ 400 = omega (arith, b .days-high, w .within) in
-    let q : c .before .before .before .before .before .before .slots-per-day .result ≤ 288 = omega (arith, c .before .before .before .before .before .before .slots-per-day .ensures, b .day-high) in
+mul-stretch-by c = let b = bounded (c .before .before .before .before .before .before .before .before .before .before .before .before .before .before .before .before .before .before .before .args .head) (c .before .before .before .before .before .before .before .before .before .before .before .before .before .before .before .before .before .before .before .pre .0 .fitted .head) in
+    let w = c .before .before .before .before .before .before .before .before .before .before .before .before .before .before .before .before .before .before .before .pre .3 in
+    let p : c .before .before .before .before .before .before .before .before .before .before .before .before .before .before .before .before .before .before .before .args .last ≤ 400 = omega (arith, b .days-high, w .within) in
+    let q : c .before .before .before .before .before .before .before .before .before .before .slots-per-day .result ≤ 288 = omega (arith, c .before .before .before .before .before .before .before .before .before .before .slots-per-day .ensures, b .day-high) in
     omega (arith, mul-le-mul p q)
 
-cast-stretch-by : tie.Need-cast-stretch-by
-cast-stretch-by c = search needs
-
 stretch-by-requires : tie.Need-stretch-by-requires
-stretch-by-requires c κs = λ z. scaled-advance _ _ _ _ _ (sym (c .state-of .ensures) ∙ z)
+stretch-by-requires c κs = λ z. scaled-advance _ _ _ _ _ _ (sym (c .state-of .ensures) ∙ z)
 
 returns : tie.Need-returns
-unfolding start slotsIn R
-returns c = let a = c .before .before .before .before .before .before .before .before .before .before .before .before .before .before .before .before .args in
-    let w = c .before .before .before .before .before .before .before .before .before .before .before .before .before .before .before .before .pre .3 in
-    let e = c .before .before .before .before .before .before .before .slots-per-day .ensures in
+unfolding start slotsIn G range
+returns c = let a = c .before .before .before .before .before .before .before .before .before .before .before .before .before .before .before .before .before .before .before .before .args in
+    let w = c .before .before .before .before .before .before .before .before .before .before .before .before .before .before .before .before .before .before .before .before .pre .3 in
+    let e = c .before .before .before .before .before .before .before .before .before .before .before .slots-per-day .ensures in
     let b = cells (slots (a .values .now) (a .versions .now) (a .statuses .now)) (a .holidays .now) (a .readings .now) [] (agreedLists (a .agreed .now) (a .agreed-versions .now)) (a .widths .now) in
-    let s : c .before .before .before .before .before .before .summarise .result ≡ summaryOf (a .head) (b .slots) (b .agreed) (b .holidays) (a .first * slotsPerDay (a .head)) ((a .last - a .first) * slotsPerDay (a .head)) = c .before .before .before .before .before .before .summarise .ensures ∙ (rw (e, w .at-first)) in
-    (meet-span (a .head) b (a .first) (a .last) (c .before .before .before .before .before .before .summarise .result) (c .before .before .before .advanced .result) (c .before .state-of .result) s (c .before .before .before .advanced .ensures) (c .before .state-of .ensures), c .stretch-by .ensures ∙ (rw (e, w .at-first) (meet-stretch (a .head) b (a .first) (a .last) (c .before .before .before .before .before .before .summarise .result) (c .before .before .before .advanced .result) (c .before .state-of .result) s (c .before .before .before .advanced .ensures) (c .before .state-of .ensures))))
+    let m = c .before .before .before .before .before .before .before .before .before .before .summarise .result in
+    let s : m ≡ summaryOf (a .head) (b .slots) (b .agreed) (b .holidays) (a .first * slotsPerDay (a .head)) ((a .last - a .first) * slotsPerDay (a .head)) = c .before .before .before .before .before .before .before .before .before .before .summarise .ensures ∙ (rw (e, w .at-first)) in
+    let found = c .before .before .before .before .range-of .result in
+    let f : found ≡ range (a .head) b (a .first) (a .last) = c .before .before .before .before .range-of .ensures ∙ (rw (c .before .before .before .before .before .before .before .advanced .ensures)) in
+    let r = c .before .before .before .least-in .result in
+    let state = c .before .state-of .result in
+    (meet-span (a .head) b (a .first) (a .last) m found r state s f (c .before .before .before .least-in .ensures) (c .before .state-of .ensures), c .stretch-by .ensures ∙ (rw (e, w .at-first) (meet-stretch (a .head) b (a .first) (a .last) m found r state s f (c .before .before .before .least-in .ensures) (c .before .state-of .ensures))))
 
 pub meet-spec : {M : Type 1} → statement M
 meet-spec =
@@ -99,12 +128,16 @@ meet-spec =
     mul-advanced-2
     shared-slice-read-advanced-2
     advanced-requires
+    mul-range-of
+    shared-slice-read-range-of
+    mul-range-of-2
+    shared-slice-read-range-of-2
+    range-of-requires
+    least-in-requires
     cast-state-of
-    cast-state-of-2
     state-of-requires
-    cast-t21
+    cast-t25
     cast-t23
     mul-stretch-by
-    cast-stretch-by
     stretch-by-requires
     returns)
