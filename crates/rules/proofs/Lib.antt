@@ -21,6 +21,7 @@ pub mod Shares
 pub mod Scaling
 pub mod Outcomes
 pub mod States
+pub mod Sharp
 pub mod Summaries
 pub mod Meeting
 pub mod Stretches
