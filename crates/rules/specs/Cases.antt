@@ -1,5 +1,5 @@
 -- 01's starred cases and those of 02, as one table of tests. `proofs/Cases.antt` computes that every one passes.
-use mathlib.Core.Bool.{Bool, not, _&&_}
+use mathlib.Core.Bool.{Bool, false, not, _&&_}
 use mathlib.Core.List.{List, [], _∷_, _++_}
 use Prim.Native.Nat.{ℕ, _*_, _-_}
 use lib.Dec.{eqb}
@@ -11,7 +11,7 @@ use Rattle.rules.specs.declared.Quality.{Quality}
 use Rattle.rules.specs.Opening.{Slots, Cells, headOk}
 use Rattle.rules.specs.Tests.{goodAt}
 use Rattle.rules.specs.Filling.{isLinear, linearValue, isReference, references, total, meanOf, fromReferences, shapeOf, shapeAt}
-use Rattle.rules.specs.Spans.{isA, isF, advance, actual, stateOf, outcomeAt}
+use Rattle.rules.specs.Spans.{isA, isF, advance, rangeOf, leastIn, stateBy, actual, R, stateOf, outcomeAt}
 
 -- a head of interval 30, limit 40,000 and tolerance 0
 abbrev pub headOn : ℕ → ℕ → ℕ → ℕ → Head
@@ -33,9 +33,9 @@ abbrev pub refers : ℕ → ℕ → Bool
 refers value status =
     isReference (headOn 2024 5 1 1) (record { values = value ∷ []; versions = 1 ∷ []; statuses = status ∷ [] }) (0 ∷ []) 0
 
--- a day that begins with four deliveries of e and a gap between each two, and one of `rest` among zeros; the dial goes from 0 to 110
-abbrev pub day : ℕ → ℕ → Cells
-day e rest = record {
+-- a day that begins with four deliveries of e and a gap between each two, and one of `rest` among zeros; the dial goes from 0 to 110, with widths u and v
+abbrev pub day : ℕ → ℕ → ℕ → ℕ → Cells
+day e rest u v = record {
   slots = record {
     values = e ∷ 0 ∷ e ∷ 0 ∷ e ∷ 0 ∷ e ∷ rest ∷ replicate 40 0;
     versions = 1 ∷ 0 ∷ 1 ∷ 0 ∷ 1 ∷ 0 ∷ replicate 42 1;
@@ -45,14 +45,14 @@ day e rest = record {
   readings = 0 ∷ 110 ∷ [];
   readVersions = 1 ∷ 1 ∷ [];
   agreed = record { values = []; versions = [] };
-  widths = [];
+  widths = u ∷ v ∷ [];
 }
 
--- the gaps get 3, 3 and 4
-abbrev pub scaled : Cells → Bool
-scaled b =
+-- the gaps get these values
+abbrev pub scaled : Cells → ℕ → ℕ → ℕ → Bool
+scaled b x y z =
     let value : ℕ → ℕ = λ i. outcomeAt (headOn 2024 5 1 1) b i .value in
-    eqb (value 1) 3 && eqb (value 3) 3 && eqb (value 5) 4
+    eqb (value 1) x && eqb (value 3) y && eqb (value 5) z
 
 -- a day that begins with a delivery of 40 with the outage bit, a gap agreed at 600 and a delivery of 50 agreed at 700; the rest are 0, and the dial goes from 0 to 690 (02, W1)
 abbrev pub agreedDay : Cells
@@ -106,6 +106,23 @@ shaped xs shape = eqb (shapeOf (fromReferences xs) xs) shape
 abbrev pub lineShaped : ℕ → ℕ → ℕ → Bool
 lineShaped l r shape = eqb (shapeAt (headOf 30 40000) (lineDay l 1 r) (record { values = []; versions = [] }) [] 1) shape
 
+-- with the advance g and the widths u and v of its readings a dial has gone from lowest to highest (02, W10)
+abbrev pub ranges : ℕ → ℕ → ℕ → ℕ → ℕ → Bool
+ranges g u v lowest highest = eqb (rangeOf g u v .lowest) lowest && eqb (rangeOf g u v .highest) highest
+
+-- where it has gone from 50 to 110 and the A and F slots sum to `actual`, R is this
+abbrev pub heldTo : ℕ → ℕ → Bool
+heldTo actual r = eqb (leastIn (rangeOf 100 50 10) actual) r
+
+-- and without S or N the state this, with tolerance t
+abbrev pub rangeState : ℕ → ℕ → ℕ → Bool
+rangeState actual t state =
+    eqb (stateBy false false (rangeOf 100 50 10) (leastIn (rangeOf 100 50 10) actual) actual t) state
+
+-- the day's R with these widths
+abbrev pub dayHeldTo : ℕ → ℕ → ℕ → Bool
+dayHeldTo u v r = eqb (R (headOn 2024 5 1 1) (day 1 96 u v) 0 1) r
+
 unfoldable pub cases : List Bool
 cases =
     passes 40000 30 20000 ∷ not (passes 40000 30 20001)
@@ -121,8 +138,8 @@ cases =
     ∷ eqb (meanOf (1045 ∷ 1089 ∷ [])) 1067
     ∷ eqb (meanOf (2310 ∷ 1995 ∷ 2079 ∷ [])) 2128
     ∷ eqb (advance 99999990 15) 25
-    ∷ scaled (day 1 96)
-    ∷ scaled (day 0 100)
+    ∷ scaled (day 1 96 0 0) 3 3 4
+    ∷ scaled (day 0 100 0 0) 3 3 4
     ∷ eqb (dayNumber 2000 2 29) 59
     ∷ not (headOk (headOn 2001 2 29 1))
     ∷ headOk (headOn 2099 12 31 1)
@@ -137,4 +154,10 @@ cases =
     ∷ not (takesSunday 1 1 6)
     ∷ shaped (1 ∷ 2 ∷ []) 18 ∷ lineShaped 1 1 12
     ∷ shaped (7 ∷ []) 84 ∷ shaped (1 ∷ 1 ∷ 2 ∷ []) 16 ∷ shaped (1 ∷ 1 ∷ 1 ∷ 2 ∷ []) 15 ∷ shaped (0 ∷ 0 ∷ []) 0 ∷ shaped [] 0
+    ∷ ranges 25 50 10 0 35 ∷ ranges 25 0 0 25 25 ∷ ranges 100 50 10 50 110
+    ∷ ranges 99999990 20 9 99999970 99999999 ∷ ranges 99999990 20 10 0 0 ∷ ranges 99999990 20 15 0 5
+    ∷ heldTo 49 50 ∷ heldTo 50 50 ∷ heldTo 51 51 ∷ heldTo 110 110 ∷ heldTo 111 110
+    ∷ rangeState 40 9 3 ∷ rangeState 40 10 0 ∷ rangeState 50 0 0 ∷ rangeState 70 0 0 ∷ rangeState 110 0 0 ∷ rangeState 120 10 0 ∷ rangeState 120 9 3
+    ∷ dayHeldTo 5 20 105 ∷ scaled (day 1 96 5 20) 1 2 2
+    ∷ dayHeldTo 15 20 100 ∷ scaled (day 1 96 15 20) 0 0 0
     ∷ []
