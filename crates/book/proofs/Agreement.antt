@@ -58,16 +58,16 @@ against-day h kept day ok lt = simp getD-upTo (rw (day-clean h kept ok day) (go 
     go true = refl
     go false = refl
 
-against-boundary : (h : Head) (kept : List Call) (boundary version reading : ℕ) → Kept h kept → boundary < suc (h .days)
-    → againstBoundary (getD (bookOf h kept .readVersions) boundary 0) (getD (bookOf h kept .readings) boundary 0) version reading
-    ≡ againstKept kept (register boundary version reading)
+against-boundary : (h : Head) (kept : List Call) (boundary version reading width : ℕ) → Kept h kept → boundary < suc (h .days)
+    → againstBoundary (getD (bookOf h kept .readVersions) boundary 0) (getD (bookOf h kept .readings) boundary 0) (getD (bookOf h kept .widths) boundary 0) version reading width
+    ≡ againstKept kept (register boundary version reading width)
 unfolding againstBoundary againstKept bookOf
-against-boundary h kept boundary version reading ok lt = simp getD-upTo (rw (read-clean h kept ok boundary))
+against-boundary h kept boundary version reading width ok lt = simp getD-upTo (rw (read-clean h kept ok boundary))
 
 against-agreed : (h : Head) (kept : List Call) (slot version value : ℕ) → Kept h kept → slot < slotCount h
     → againstAgreed (getD (bookOf h kept .agreed .versions) slot 0) (getD (bookOf h kept .agreed .values) slot 0) version value
     ≡ againstKept kept (agreed slot version value)
-unfolding againstBoundary againstKept bookOf
+unfolding againstAgreed againstKept bookOf
 against-agreed h kept slot version value ok lt = simp getD-upTo (rw (agreed-clean h kept ok slot))
 
 -- where the lists fit, answers that are equal for a good head and a sound call are equal behind the rules
@@ -86,9 +86,9 @@ answer-agrees h kept (delivery slot version value status) ok =
 answer-agrees h kept (holiday day) ok =
     behind h (holiday day) (daysFit h (bookOf h kept .holidays)) _ _ (passed (cellsFits h (bookOf h kept)) (cells-fit h kept) 1)
     (λ good s. against-day h kept day ok s)
-answer-agrees h kept (register boundary version reading) ok =
-    behind h (register boundary version reading) (readsFit h (readsOf (bookOf h kept))) _ _ (passed (cellsFits h (bookOf h kept)) (cells-fit h kept) 2)
-    (λ good s. let le = s .0 in against-boundary h kept boundary version reading ok (omega arith))
+answer-agrees h kept (register boundary version reading width) ok =
+    behind h (register boundary version reading width) (readsFit h (readsOf (bookOf h kept))) _ _ (passed (cellsFits h (bookOf h kept)) (cells-fit h kept) 2)
+    (λ good s. let le = s .0 in against-boundary h kept boundary version reading width ok (omega arith))
 answer-agrees h kept (agreed slot version value) ok =
     behind h (agreed slot version value) (agreedFits h (bookOf h kept .agreed)) _ _ (passed (cellsFits h (bookOf h kept)) (cells-fit h kept) 3)
     (λ good s. against-agreed h kept slot version value ok (s .0))
@@ -101,7 +101,7 @@ counted h kept (delivery slot version value status) good s ok =
     let b = bounded h good in
     counts-next h kept slot version value status (day-positive b) (s .0) (day-below h b slot (s .0)) (s .1) ok
 counted h kept (holiday day) good s ok = refl
-counted h kept (register boundary version reading) good s ok = refl
+counted h kept (register boundary version reading width) good s ok = refl
 counted h kept (agreed slot version value) good s ok = refl
 
 lists-next : (h : Head) (kept : List Call) (c : Call) → headOk h ≡ true → Sound h c → isAccepted (againstKept kept c) ≡ true

@@ -24,7 +24,7 @@ module _ (h : Head) (b : Cells) (counts : List ℕ) (call : Call) (a : Answer) w
       → statuses ≡ deliverAfter h (b .slots) counts slot version value status .statuses
       → after-counts ≡ countsAfter h (b .slots) counts slot version value status
       → (a ≡ answer h (book b counts) (callMeant call))
-      × (book (cells (slots values versions statuses) (b .holidays) (b .readings) (b .readVersions) (b .agreed)) after-counts ≡ after h (book b counts) (callMeant call))
+      × (book (cells (slots values versions statuses) (b .holidays) (b .readings) (b .readVersions) (b .agreed) (b .widths)) after-counts ≡ after h (book b counts) (callMeant call))
   unfolding answer after
   delivered slot version value status values versions statuses after-counts k e p q r s =
       rw k (
@@ -36,6 +36,7 @@ module _ (h : Head) (b : Cells) (counts : List ℕ) (call : Call) (a : Answer) w
             readings = b .readings;
             readVersions = b .readVersions;
             agreed = b .agreed;
+            widths = b .widths;
           };
           counts = s t;
         },
@@ -44,29 +45,44 @@ module _ (h : Head) (b : Cells) (counts : List ℕ) (call : Call) (a : Answer) w
   pub named : (day : ℕ) (holidays : List ℕ) → call ≡ Holiday day → a ≡ holidayAnswer h (b .holidays) day
       → holidays ≡ holidayAfter h (b .holidays) day
       → (a ≡ answer h (book b counts) (callMeant call))
-      × (book (cells (b .slots) holidays (b .readings) (b .readVersions) (b .agreed)) counts ≡ after h (book b counts) (callMeant call))
+      × (book (cells (b .slots) holidays (b .readings) (b .readVersions) (b .agreed) (b .widths)) counts ≡ after h (book b counts) (callMeant call))
   unfolding answer after
   named day holidays k e p =
       rw k (
         e,
         λ t. record {
-          cells = record { slots = b .slots; holidays = p t; readings = b .readings; readVersions = b .readVersions; agreed = b .agreed };
+          cells = record {
+            slots = b .slots;
+            holidays = p t;
+            readings = b .readings;
+            readVersions = b .readVersions;
+            agreed = b .agreed;
+            widths = b .widths;
+          };
           counts = counts;
         },
       )
 
-  pub registered : (boundary version reading : ℕ) (readings reads : List ℕ) → call ≡ Register boundary version reading
-      → a ≡ registerAnswer h (readsOf b) boundary version reading
-      → readings ≡ registerAfter h (readsOf b) boundary version reading .readings
-      → reads ≡ registerAfter h (readsOf b) boundary version reading .readVersions
+  pub registered : (boundary version reading width : ℕ) (readings reads widths : List ℕ) → call ≡ Register boundary version reading width
+      → a ≡ registerAnswer h (readsOf b) boundary version reading width
+      → readings ≡ registerAfter h (readsOf b) boundary version reading width .readings
+      → reads ≡ registerAfter h (readsOf b) boundary version reading width .readVersions
+      → widths ≡ registerAfter h (readsOf b) boundary version reading width .widths
       → (a ≡ answer h (book b counts) (callMeant call))
-      × (book (cells (b .slots) (b .holidays) readings reads (b .agreed)) counts ≡ after h (book b counts) (callMeant call))
+      × (book (cells (b .slots) (b .holidays) readings reads (b .agreed) widths) counts ≡ after h (book b counts) (callMeant call))
   unfolding answer after
-  registered boundary version reading readings reads k e p q =
+  registered boundary version reading width readings reads widths k e p q r =
       rw k (
         e,
         λ t. record {
-          cells = record { slots = b .slots; holidays = b .holidays; readings = p t; readVersions = q t; agreed = b .agreed };
+          cells = record {
+            slots = b .slots;
+            holidays = b .holidays;
+            readings = p t;
+            readVersions = q t;
+            agreed = b .agreed;
+            widths = r t;
+          };
           counts = counts;
         },
       )
@@ -76,7 +92,7 @@ module _ (h : Head) (b : Cells) (counts : List ℕ) (call : Call) (a : Answer) w
       → values ≡ agreeAfter h (b .agreed) slot version value .values
       → versions ≡ agreeAfter h (b .agreed) slot version value .versions
       → (a ≡ answer h (book b counts) (callMeant call))
-      × (book (cells (b .slots) (b .holidays) (b .readings) (b .readVersions) (agreedLists values versions)) counts ≡ after h (book b counts) (callMeant call))
+      × (book (cells (b .slots) (b .holidays) (b .readings) (b .readVersions) (agreedLists values versions) (b .widths)) counts ≡ after h (book b counts) (callMeant call))
   unfolding answer after
   settled slot version value values versions k e p q =
       rw k (
@@ -88,6 +104,7 @@ module _ (h : Head) (b : Cells) (counts : List ℕ) (call : Call) (a : Answer) w
             readings = b .readings;
             readVersions = b .readVersions;
             agreed = record { values = p t; versions = q t };
+            widths = b .widths;
           };
           counts = counts;
         },

@@ -18,7 +18,7 @@ long n [] e k = refl
 long n (l ∷ ls) e zero = eqb-true l n (and-parts (eqb l n) (allLong n ls) e .0)
 long n (l ∷ ls) e (suc k) = long n ls (and-parts (eqb l n) (allLong n ls) e .1) k
 
--- the eight lengths of lists that fit
+-- the nine lengths of lists that fit
 pub record Lengths (h : Head) (b : Cells) : Type 0 where
   pub values : length (b .slots .values) ≡ slotCount h
   pub versions : length (b .slots .versions) ≡ slotCount h
@@ -28,6 +28,7 @@ pub record Lengths (h : Head) (b : Cells) : Type 0 where
   pub readVersions : length (b .readVersions) ≡ suc (h .days)
   pub agreed : length (b .agreed .values) ≡ slotCount h
   pub agreedVersions : length (b .agreed .versions) ≡ slotCount h
+  pub widths : length (b .widths) ≡ suc (h .days)
 
 pub lengths-of : (h : Head) (b : Cells) → cellsFit h b ≡ true → Lengths h b
 unfolding cellsFit slotsFit daysFit readsFit agreedFits
@@ -45,6 +46,7 @@ lengths-of h b fit =
       readVersions = reads 1;
       agreed = agreed 0;
       agreedVersions = agreed 1;
+      widths = reads 2;
     }
 
 -- the cells of lists that fit do, and the counts are D long

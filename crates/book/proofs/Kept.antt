@@ -43,7 +43,7 @@ unless-same (rule n false ∷ rs) a b same = unless-same rs a b (λ u. same (unb
 abbrev pub Sound : Head → Call → Type 0
 Sound h (delivery slot version value status) = (slot < slotCount h) × (0 < version) × (status ≤ 7)
 Sound h (holiday day) = day < h .days
-Sound h (register boundary version reading) = (boundary ≤ h .days) × (0 < version) × (reading ≤ 99999999)
+Sound h (register boundary version reading width) = (boundary ≤ h .days) × (0 < version) × (reading ≤ 99999999) × (width ≤ 9999)
 Sound h (agreed slot version value) = (slot < slotCount h) × (0 < version) × (value ≤ 99999999)
 
 positive : (n : ℕ) → eqb n 0 ≡ false → 0 < n
@@ -55,8 +55,8 @@ unfolding argumentRules
 sound h (delivery slot version value status) u =
     (leb-false _ _ (u 1), positive version (u 2), ltb-false _ _ (u 3))
 sound h (holiday day) u = leb-false _ _ (u 1)
-sound h (register boundary version reading) u =
-    (ltb-false _ _ (u 1), positive version (u 2), ltb-false _ _ (u 3))
+sound h (register boundary version reading width) u =
+    (ltb-false _ _ (u 1), positive version (u 2), ltb-false _ _ (u 3), ltb-false _ _ (u 4))
 sound h (agreed slot version value) u =
     (leb-false _ _ (u 1), positive version (u 2), ltb-false _ _ (u 3))
 

@@ -10,14 +10,14 @@ use borrow.Author.Tests.{eqb-true, eq-eqb}
 use Rattle.rules.proofs.Logic.{or-parts}
 use Rattle.book.specs.Arguments.{Call}
 use Rattle.book.specs.Arguments.Call.{delivery, holiday, register, agreed}
-use Rattle.book.specs.Plain.{Said, Measured, deliveries, reads, agreements, named}
+use Rattle.book.specs.Plain.{Said, Measured, DialRead, deliveries, reads, agreements, named}
 
 -- the call that said it
 abbrev pub deliveredAs : ℕ → Said Measured → Call
 deliveredAs i s = delivery i (s .version) (s .content .value) (s .content .status)
 
-abbrev pub readAs : ℕ → Said ℕ → Call
-readAs d s = register d (s .version) (s .content)
+abbrev pub readAs : ℕ → Said DialRead → Call
+readAs d s = register d (s .version) (s .content .reading) (s .content .width)
 
 abbrev pub agreedAs : ℕ → Said ℕ → Call
 agreedAs i s = agreed i (s .version) (s .content)
@@ -37,17 +37,17 @@ deliveries-from i (delivery slot version value status ∷ kept) s m =
     (deliveries i kept) (deliveredAs i s) (delivery slot version value status) kept
     (λ e q. rw (q, eqb-true slot i e)) (deliveries-from i kept s) m
 deliveries-from i (holiday day ∷ kept) s m = List·Memᴰ·tail (deliveries-from i kept s m)
-deliveries-from i (register boundary version reading ∷ kept) s m = List·Memᴰ·tail (deliveries-from i kept s m)
+deliveries-from i (register boundary version reading width ∷ kept) s m = List·Memᴰ·tail (deliveries-from i kept s m)
 deliveries-from i (agreed slot version value ∷ kept) s m = List·Memᴰ·tail (deliveries-from i kept s m)
 
 -- and of a boundary by a kept register read
-pub reads-from : (d : ℕ) (kept : List Call) (s : Said ℕ) → List·Memᴰ s (reads d kept) → List·Memᴰ (readAs d s) kept
+pub reads-from : (d : ℕ) (kept : List Call) (s : Said DialRead) → List·Memᴰ s (reads d kept) → List·Memᴰ (readAs d s) kept
 unfolding reads
 reads-from d (delivery slot version value status ∷ kept) s m = List·Memᴰ·tail (reads-from d kept s m)
 reads-from d (holiday day ∷ kept) s m = List·Memᴰ·tail (reads-from d kept s m)
-reads-from d (register boundary version reading ∷ kept) s m =
-    said-by (eqb boundary d) (record { version = version; content = reading }) s
-    (reads d kept) (readAs d s) (register boundary version reading) kept
+reads-from d (register boundary version reading width ∷ kept) s m =
+    said-by (eqb boundary d) (record { version = version; content = record { reading = reading; width = width } }) s
+    (reads d kept) (readAs d s) (register boundary version reading width) kept
     (λ e q. rw (q, eqb-true boundary d e)) (reads-from d kept s) m
 reads-from d (agreed slot version value ∷ kept) s m = List·Memᴰ·tail (reads-from d kept s m)
 
@@ -56,7 +56,7 @@ pub agreements-from : (i : ℕ) (kept : List Call) (s : Said ℕ) → List·Mem�
 unfolding agreements
 agreements-from i (delivery slot version value status ∷ kept) s m = List·Memᴰ·tail (agreements-from i kept s m)
 agreements-from i (holiday day ∷ kept) s m = List·Memᴰ·tail (agreements-from i kept s m)
-agreements-from i (register boundary version reading ∷ kept) s m = List·Memᴰ·tail (agreements-from i kept s m)
+agreements-from i (register boundary version reading width ∷ kept) s m = List·Memᴰ·tail (agreements-from i kept s m)
 agreements-from i (agreed slot version value ∷ kept) s m =
     said-by (eqb slot i) (record { version = version; content = value }) s
     (agreements i kept) (agreedAs i s) (agreed slot version value) kept
@@ -89,25 +89,27 @@ deliveries-of i (delivery slot version value status ∷ kept) s m =
         let y : s .content .status ≡ status = cc in
         (eq-eqb slot i at, λ t. record { version = v t; content = record { value = x t; status = y t } })
 deliveries-of i (holiday day ∷ kept) s m = deliveries-of i kept s (other-call (λ e. let z : _≡_ {A = ℕ} 0 1 = cc in omega arith) m)
-deliveries-of i (register boundary version reading ∷ kept) s m =
+deliveries-of i (register boundary version reading width ∷ kept) s m =
     deliveries-of i kept s (other-call (λ e. let z : _≡_ {A = ℕ} 0 1 = cc in omega arith) m)
 deliveries-of i (agreed slot version value ∷ kept) s m = deliveries-of i kept s (other-call (λ e. let z : _≡_ {A = ℕ} 0 1 = cc in omega arith) m)
 
-pub reads-of : (d : ℕ) (kept : List Call) (s : Said ℕ) → List·Memᴰ (readAs d s) kept → List·Memᴰ s (reads d kept)
+pub reads-of : (d : ℕ) (kept : List Call) (s : Said DialRead) → List·Memᴰ (readAs d s) kept → List·Memᴰ s (reads d kept)
 unfolding reads
 reads-of d (delivery slot version value status ∷ kept) s m =
     reads-of d kept s (other-call (λ e. let z : _≡_ {A = ℕ} 0 1 = cc in omega arith) m)
 reads-of d (holiday day ∷ kept) s m = reads-of d kept s (other-call (λ e. let z : _≡_ {A = ℕ} 0 1 = cc in omega arith) m)
-reads-of d (register boundary version reading ∷ kept) s m =
-    said-of (eqb boundary d) (record { version = version; content = reading }) s
-    (reads d kept) (readAs d s) (register boundary version reading) kept (λ e. parts e) (reads-of d kept s) m
+reads-of d (register boundary version reading width ∷ kept) s m =
+    said-of (eqb boundary d) (record { version = version; content = record { reading = reading; width = width } }) s
+    (reads d kept) (readAs d s) (register boundary version reading width) kept (λ e. parts e) (reads-of d kept s) m
   where
-    parts : readAs d s ≡ register boundary version reading → (eqb boundary d ≡ true) × (s ≡ record { version = version; content = reading })
+    parts : readAs d s ≡ register boundary version reading width
+        → (eqb boundary d ≡ true) × (s ≡ record { version = version; content = record { reading = reading; width = width } })
     parts e =
         let at : boundary ≡ d = cc in
         let v : s .version ≡ version = cc in
-        let x : s .content ≡ reading = cc in
-        (eq-eqb boundary d at, λ t. record { version = v t; content = x t })
+        let x : s .content .reading ≡ reading = cc in
+        let y : s .content .width ≡ width = cc in
+        (eq-eqb boundary d at, λ t. record { version = v t; content = record { reading = x t; width = y t } })
 reads-of d (agreed slot version value ∷ kept) s m = reads-of d kept s (other-call (λ e. let z : _≡_ {A = ℕ} 0 1 = cc in omega arith) m)
 
 pub agreements-of : (i : ℕ) (kept : List Call) (s : Said ℕ) → List·Memᴰ (agreedAs i s) kept → List·Memᴰ s (agreements i kept)
@@ -115,7 +117,7 @@ unfolding agreements
 agreements-of i (delivery slot version value status ∷ kept) s m =
     agreements-of i kept s (other-call (λ e. let z : _≡_ {A = ℕ} 0 1 = cc in omega arith) m)
 agreements-of i (holiday day ∷ kept) s m = agreements-of i kept s (other-call (λ e. let z : _≡_ {A = ℕ} 0 1 = cc in omega arith) m)
-agreements-of i (register boundary version reading ∷ kept) s m =
+agreements-of i (register boundary version reading width ∷ kept) s m =
     agreements-of i kept s (other-call (λ e. let z : _≡_ {A = ℕ} 0 1 = cc in omega arith) m)
 agreements-of i (agreed slot version value ∷ kept) s m =
     said-of (eqb slot i) (record { version = version; content = value }) s
@@ -135,7 +137,7 @@ named-from d [] e = absurd (false≢true e)
 named-from d (delivery slot version value status ∷ kept) e = List·Memᴰ·tail (named-from d kept e)
 named-from d (holiday day ∷ kept) e =
     ⊎-elim (λ q. List·Memᴰ·head (ap holiday (sym (eqb-true day d q)))) (λ q. List·Memᴰ·tail (named-from d kept q)) (or-parts _ _ e)
-named-from d (register boundary version reading ∷ kept) e = List·Memᴰ·tail (named-from d kept e)
+named-from d (register boundary version reading width ∷ kept) e = List·Memᴰ·tail (named-from d kept e)
 named-from d (agreed slot version value ∷ kept) e = List·Memᴰ·tail (named-from d kept e)
 
 pub named-of : (d : ℕ) (kept : List Call) → List·Memᴰ (holiday d) kept → named d kept ≡ true
@@ -143,6 +145,6 @@ unfolding named
 named-of d (delivery slot version value status ∷ kept) m = named-of d kept (other-call (λ e. let z : _≡_ {A = ℕ} 0 1 = cc in omega arith) m)
 named-of d (holiday day ∷ kept) (List·Memᴰ·head e) = let at : day ≡ d = cc in rw (eq-eqb day d at)
 named-of d (holiday day ∷ kept) (List·Memᴰ·tail m) = rw (named-of d kept m) (or-true (eqb day d))
-named-of d (register boundary version reading ∷ kept) m =
+named-of d (register boundary version reading width ∷ kept) m =
     named-of d kept (other-call (λ e. let z : _≡_ {A = ℕ} 0 1 = cc in omega arith) m)
 named-of d (agreed slot version value ∷ kept) m = named-of d kept (other-call (λ e. let z : _≡_ {A = ℕ} 0 1 = cc in omega arith) m)

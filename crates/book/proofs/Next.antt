@@ -15,7 +15,7 @@ use Rattle.book.specs.Arguments.{Call}
 use Rattle.book.specs.Arguments.Call.{delivery, holiday, register, agreed}
 use Rattle.book.specs.Cells.{Book}
 use Rattle.book.specs.Filling.{storedIn, slotsWith, countsWith, deliverAfter, countsAfter, holidayAfter, registerAfter, agreeAfter, answer, after}
-use Rattle.book.specs.Plain.{Said, Measured, deliveries, reads, agreements, named, highest, slotVersion, slotContent, againstKept, bookOf}
+use Rattle.book.specs.Plain.{Said, Measured, DialRead, deliveries, reads, agreements, named, highest, slotVersion, slotContent, readVersion, readContent, againstKept, bookOf}
 use Rattle.book.proofs.Tables.{upTo-filed}
 use Rattle.book.proofs.Said.{latest, said-filed}
 
@@ -27,6 +27,7 @@ filedIn a b (delivery slot version value status) = record {
   readings = b .readings;
   readVersions = b .readVersions;
   agreed = b .agreed;
+  widths = b .widths;
 }
 filedIn a b (holiday day) = record {
   slots = b .slots;
@@ -34,13 +35,15 @@ filedIn a b (holiday day) = record {
   readings = b .readings;
   readVersions = b .readVersions;
   agreed = b .agreed;
+  widths = b .widths;
 }
-filedIn a b (register boundary version reading) = record {
+filedIn a b (register boundary version reading width) = record {
   slots = b .slots;
   holidays = b .holidays;
   readings = storedIn a (b .readings) boundary reading;
   readVersions = storedIn a (b .readVersions) boundary version;
   agreed = b .agreed;
+  widths = storedIn a (b .widths) boundary width;
 }
 filedIn a b (agreed slot version value) = record {
   slots = b .slots;
@@ -48,13 +51,14 @@ filedIn a b (agreed slot version value) = record {
   readings = b .readings;
   readVersions = b .readVersions;
   agreed = record { values = storedIn a (b .agreed .values) slot value; versions = storedIn a (b .agreed .versions) slot version };
+  widths = b .widths;
 }
 
 -- the counts after it
 unfoldable pub countedIn : Head → Answer → Book → Call → List ℕ
 countedIn h a b (delivery slot version value status) = countsWith a (b .cells .slots .versions) (b .counts) slot (slot / slotsPerDay h)
 countedIn h a b (holiday day) = b .counts
-countedIn h a b (register boundary version reading) = b .counts
+countedIn h a b (register boundary version reading width) = b .counts
 countedIn h a b (agreed slot version value) = b .counts
 
 abbrev pub booked : Head → Answer → Book → Call → Book
@@ -64,7 +68,7 @@ pub after-filed : (h : Head) (b : Book) (c : Call) → after h b c ≡ booked h 
 unfolding after answer deliverAfter countsAfter holidayAfter registerAfter agreeAfter filedIn countedIn
 after-filed h b (delivery slot version value status) = refl
 after-filed h b (holiday day) = refl
-after-filed h b (register boundary version reading) = refl
+after-filed h b (register boundary version reading width) = refl
 after-filed h b (agreed slot version value) = refl
 
 not-stored : (a : Answer) → isAccepted a ≡ false → isStored a ≡ false
@@ -79,7 +83,7 @@ pub filed-refused : (h : Head) (a : Answer) (b : Book) (c : Call) → isAccepted
 unfolding filedIn countedIn
 filed-refused h a b (delivery slot version value status) e = rw (not-stored a e)
 filed-refused h a b (holiday day) e = rw (not-stored a e)
-filed-refused h a b (register boundary version reading) e = rw (not-stored a e)
+filed-refused h a b (register boundary version reading width) e = rw (not-stored a e)
 filed-refused h a b (agreed slot version value) e = rw (not-stored a e)
 
 -- equal tests of the content mean equal content
@@ -88,6 +92,12 @@ pub same-measured : (m : Measured) (value status : ℕ) → (eqb (m .value) valu
 same-measured m value status e =
     let parts = and-parts (eqb (m .value) value) (eqb (m .status) status) e in
     λ t. record { value = sym (eqb-true (m .value) value (parts .0)) t; status = sym (eqb-true (m .status) status (parts .1)) t }
+
+pub same-read : (r : DialRead) (reading width : ℕ) → (eqb (r .reading) reading && eqb (r .width) width) ≡ true
+    → _≡_ {A = DialRead} (record { reading = reading; width = width }) r
+same-read r reading width e =
+    let parts = and-parts (eqb (r .reading) reading) (eqb (r .width) width) e in
+    λ t. record { reading = sym (eqb-true (r .reading) reading (parts .0)) t; width = sym (eqb-true (r .width) width (parts .1)) t }
 
 -- the lists of slots, when one accepted delivery more is kept
 module _ (h : Head) (kept : List Call) (slot version value status : ℕ) where
@@ -104,6 +114,21 @@ module _ (h : Head) (kept : List Call) (slot version value status : ℕ) where
       (record { version = version; content = record { value = value; status = status } }) sameSlot
       (same-measured (slotContent kept slot) value status) ok (rw (eq-eqb slot slot refl)) (λ i ne. rw (ne-eqb slot i ne)) m (slotCount h)
 
+-- the lists of boundaries, when one accepted register read more is kept
+module _ (h : Head) (kept : List Call) (boundary version reading width : ℕ) where
+  sameRead : Bool
+  sameRead = eqb (readContent kept boundary .reading) reading && eqb (readContent kept boundary .width) width
+
+  reads-next : isAccepted (byVersion (readVersion kept boundary) version sameRead) ≡ true → (m : ℕ → DialRead → ℕ)
+      → upTo (λ d. m (readVersion (register boundary version reading width ∷ kept) d) (readContent (register boundary version reading width ∷ kept) d)) 0 (suc (h .days))
+      ≡ storedIn (byVersion (readVersion kept boundary) version sameRead) (upTo (λ d. m (readVersion kept d) (readContent kept d)) 0 (suc (h .days)))
+      boundary (m version (record { reading = reading; width = width }))
+  unfolding reads sameRead
+  reads-next ok m =
+      said-filed (record { reading = 0; width = 0 }) (λ d. reads d kept) (λ d. reads d (register boundary version reading width ∷ kept)) boundary
+      (record { version = version; content = record { reading = reading; width = width } }) sameRead
+      (same-read (readContent kept boundary) reading width) ok (rw (eq-eqb boundary boundary refl)) (λ d ne. rw (ne-eqb boundary d ne)) m (suc (h .days))
+
 -- the list of holidays, when one holiday more is kept
 days-next : (h : Head) (kept : List Call) (day : ℕ)
     → upTo (λ d. cond (named d (holiday day ∷ kept)) 1 0) 0 (h .days)
@@ -117,7 +142,7 @@ days-next h kept day =
     here true = refl
     here false = refl
 
--- a table of readings or agreed values, when one accepted call more is for place j
+-- a table of agreed values, when one accepted call more is for place j
 numbers-next : (of next : ℕ → List (Said ℕ)) (j : ℕ) (s : Said ℕ) (n : ℕ)
     → isAccepted (byVersion (highest (of j)) (s .version) (eqb (latest 0 (of j)) (s .content))) ≡ true
     → next j ≡ s ∷ of j → ((i : ℕ) → (j ≡ i → ⊥) → next i ≡ of i) → (m : ℕ → ℕ → ℕ)
@@ -130,7 +155,7 @@ numbers-next of next j s n ok here there m =
 -- the book of one more accepted call is the book before with the call filed in it
 pub book-next : (h : Head) (kept : List Call) (c : Call) → isAccepted (againstKept kept c) ≡ true
     → bookOf h (c ∷ kept) ≡ filedIn (againstKept kept c) (bookOf h kept) c
-unfolding bookOf filedIn againstKept deliveries reads agreements named sameSlot
+unfolding bookOf filedIn againstKept deliveries reads agreements named sameSlot sameRead
 book-next h kept (delivery slot version value status) ok =
     let column = slots-next h kept slot version value status ok in
     λ t. record {
@@ -139,6 +164,7 @@ book-next h kept (delivery slot version value status) ok =
       readings = bookOf h kept .readings;
       readVersions = bookOf h kept .readVersions;
       agreed = bookOf h kept .agreed;
+      widths = bookOf h kept .widths;
     }
 book-next h kept (holiday day) ok = λ t. record {
   slots = bookOf h kept .slots;
@@ -146,17 +172,17 @@ book-next h kept (holiday day) ok = λ t. record {
   readings = bookOf h kept .readings;
   readVersions = bookOf h kept .readVersions;
   agreed = bookOf h kept .agreed;
+  widths = bookOf h kept .widths;
 }
-book-next h kept (register boundary version reading) ok =
-    let column =
-    numbers-next (λ d. reads d kept) (λ d. reads d (register boundary version reading ∷ kept)) boundary (record { version = version; content = reading })
-    (suc (h .days)) ok (rw (eq-eqb boundary boundary refl)) (λ d ne. rw (ne-eqb boundary d ne)) in
+book-next h kept (register boundary version reading width) ok =
+    let column = reads-next h kept boundary version reading width ok in
     λ t. record {
       slots = bookOf h kept .slots;
       holidays = bookOf h kept .holidays;
-      readings = column (λ v a. a) t;
+      readings = column (λ v a. a .reading) t;
       readVersions = column (λ v a. v) t;
       agreed = bookOf h kept .agreed;
+      widths = column (λ v a. a .width) t;
     }
 book-next h kept (agreed slot version value) ok =
     let column =
@@ -168,4 +194,5 @@ book-next h kept (agreed slot version value) ok =
       readings = bookOf h kept .readings;
       readVersions = bookOf h kept .readVersions;
       agreed = record { values = column (λ v a. a) t; versions = column (λ v a. v) t };
+      widths = bookOf h kept .widths;
     }

@@ -1,4 +1,4 @@
--- A register read and an agreed call, where head and lengths are right, are calls with one number.
+-- A register read and an agreed call, where head and lengths are right.
 use mathlib.Core.Path.{_≡_, sym, _∙_}
 use mathlib.Core.Bool.{true, false}
 use mathlib.Core.Logic.{⊎-elim}
@@ -12,16 +12,23 @@ use Rattle.rules.specs.Opening.{headOk, slotCount, Agreed}
 use Rattle.rules.proofs.Logic.{either}
 use Rattle.book.specs.Arguments.{argumentRules}
 use Rattle.book.specs.Cells.{Reads, readsFit, agreedFits}
-use Rattle.book.specs.Filling.{againstBoundary, registerAnswer, agreeAnswer}
-use Rattle.book.specs.Inner.Numbers.{numberAnswer}
+use Rattle.book.specs.Filling.{againstBoundary, againstAgreed, registerAnswer, agreeAnswer}
+use Rattle.book.specs.Inner.Numbers.{numberAnswer, readAnswer}
 use Rattle.book.proofs.Fits.{long}
 
 -- past its own rules it is what its cell says
-pub number-sound : (over : ℕ) (r : Reads) (place version number : ℕ) → place < length (r .readings) → (version ≡ 0 → ⊥) → number ≤ 99999999
-    → numberAnswer over r place version number
-    ≡ againstBoundary (getD (r .readVersions) place 0) (getD (r .readings) place 0) version number
+pub number-sound : (a : Agreed) (place version number : ℕ) → place < length (a .values) → (version ≡ 0 → ⊥) → number ≤ 99999999
+    → numberAnswer a place version number
+    ≡ againstAgreed (getD (a .versions) place 0) (getD (a .values) place 0) version number
 unfolding numberAnswer
-number-sound over r place version number inside some small = rw (lt-leb _ _ inside, ne-eqb _ _ some, le-ltb _ _ small)
+number-sound a place version number inside some small = rw (lt-leb _ _ inside, ne-eqb _ _ some, le-ltb _ _ small)
+
+pub read-sound : (r : Reads) (boundary version reading width : ℕ) → boundary < length (r .readings) → (version ≡ 0 → ⊥) → reading ≤ 99999999 → width ≤ 9999
+    → readAnswer r boundary version reading width
+    ≡ againstBoundary (getD (r .readVersions) boundary 0) (getD (r .readings) boundary 0) (getD (r .widths) boundary 0) version reading width
+unfolding readAnswer
+read-sound r boundary version reading width inside some small narrow =
+    rw (lt-leb _ _ inside, ne-eqb _ _ some, le-ltb _ _ small, le-ltb _ _ narrow)
 
 below : (m n : ℕ) → ltb m n ≡ leb (suc m) n
 below m n = ⊎-elim (λ e. e ∙ sym (over (ltb-true m n e))) (λ e. e ∙ sym (under (ltb-false m n e))) (either (ltb m n))
@@ -41,12 +48,12 @@ unfolding agreedFits
 agreed-long h a fit = long _ _ fit 0
 
 module _ (h : Head) (ok : headOk h ≡ true) where
-  pub register-number : (r : Reads) (boundary version reading : ℕ) → readsFit h r ≡ true
-      → registerAnswer h r boundary version reading ≡ numberAnswer 6 r boundary version reading
-  unfolding registerAnswer argumentRules numberAnswer
-  register-number r boundary version reading fit = rw (ok, fit, reads-long h r fit, below (h .days) boundary)
+  pub register-read : (r : Reads) (boundary version reading width : ℕ) → readsFit h r ≡ true
+      → registerAnswer h r boundary version reading width ≡ readAnswer r boundary version reading width
+  unfolding registerAnswer argumentRules readAnswer
+  register-read r boundary version reading width fit = rw (ok, fit, reads-long h r fit, below (h .days) boundary)
 
   pub agree-number : (a : Agreed) (slot version value : ℕ) → agreedFits h a ≡ true
-      → agreeAnswer h a slot version value ≡ numberAnswer 12 (record { readings = a .values; readVersions = a .versions }) slot version value
+      → agreeAnswer h a slot version value ≡ numberAnswer a slot version value
   unfolding agreeAnswer argumentRules numberAnswer
   agree-number a slot version value fit = rw (ok, fit, agreed-long h a fit)

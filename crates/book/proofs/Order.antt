@@ -10,12 +10,12 @@ use Rattle.rules.specs.Opening.{slotCount}
 use Rattle.book.specs.Answers.{isAccepted, byVersion}
 use Rattle.book.specs.Arguments.{Call}
 use Rattle.book.specs.Arguments.Call.{delivery, holiday, register, agreed}
-use Rattle.book.specs.Plain.{Said, Measured, deliveries, reads, agreements, named, highest, slotVersion, slotContent, readVersion, readContent, agreedVersion, agreedContent, againstKept, plainAnswer, keptOf, bookOf}
+use Rattle.book.specs.Plain.{Said, Measured, DialRead, deliveries, reads, agreements, named, highest, slotVersion, slotContent, readVersion, readContent, agreedVersion, agreedContent, againstKept, plainAnswer, keptOf, bookOf}
 use Rattle.book.proofs.Tables.{upTo-same}
 use Rattle.book.proofs.Said.{latest, AllFair, fair-next, ruled, ruled-same, same-said}
 use Rattle.book.proofs.Kept.{Kept, accepted, keptOf-kept}
 use Rattle.book.proofs.Members.{deliveries-from, deliveries-of, reads-from, reads-of, agreements-from, agreements-of, named-from, named-of}
-use Rattle.book.proofs.Next.{same-measured}
+use Rattle.book.proofs.Next.{same-measured, same-read}
 
 -- where an accepted call may be in front: with the content before, where it has the highest version before
 fair-if : {A : Type 0} (zeros : A) (t : Bool) (s : Said A) (ss : List (Said A))
@@ -33,16 +33,17 @@ delivery-fair h kept slot version value status ok =
     let test = eqb (slotContent kept slot .value) value && eqb (slotContent kept slot .status) status in
     (fine .1, λ e. same-measured (slotContent kept slot) value status (ruled-same (ruled (slotVersion kept slot) version test) (ap isAccepted (sym same) ∙ ok) e))
 
+read-fair : (h : Head) (kept : List Call) (boundary version reading width : ℕ) → isAccepted (plainAnswer h kept (register boundary version reading width)) ≡ true
+    → (0 < version) × (version ≡ readVersion kept boundary → _≡_ {A = DialRead} (record { reading = reading; width = width }) (readContent kept boundary))
+unfolding againstKept
+read-fair h kept boundary version reading width ok =
+    let (same, fine) = accepted h kept (register boundary version reading width) ok in
+    let test = eqb (readContent kept boundary .reading) reading && eqb (readContent kept boundary .width) width in
+    (fine .1, λ e. same-read (readContent kept boundary) reading width (ruled-same (ruled (readVersion kept boundary) version test) (ap isAccepted (sym same) ∙ ok) e))
+
 number-before : (before version content number : ℕ) → isAccepted (byVersion before version (eqb content number)) ≡ true
     → version ≡ before → number ≡ content
 number-before before version content number ok e = sym (eqb-true _ _ (ruled-same (ruled before version (eqb content number)) ok e))
-
-read-fair : (h : Head) (kept : List Call) (boundary version reading : ℕ) → isAccepted (plainAnswer h kept (register boundary version reading)) ≡ true
-    → (0 < version) × (version ≡ readVersion kept boundary → reading ≡ readContent kept boundary)
-unfolding againstKept
-read-fair h kept boundary version reading ok =
-    let (same, fine) = accepted h kept (register boundary version reading) ok in
-    (fine .1, number-before (readVersion kept boundary) version (readContent kept boundary) reading (ap isAccepted (sym same) ∙ ok))
 
 agreed-fair : (h : Head) (kept : List Call) (slot version value : ℕ) → isAccepted (plainAnswer h kept (agreed slot version value)) ≡ true
     → (0 < version) × (version ≡ agreedVersion kept slot → value ≡ agreedContent kept slot)
@@ -60,18 +61,18 @@ fair-deliveries h i (delivery slot version value status ∷ kept) ok =
     (deliveries i kept) (λ e. rw (sym (eqb-true slot i e)) (delivery-fair h kept slot version value status (ok .0)))
     (fair-deliveries h i kept (ok .1))
 fair-deliveries h i (holiday day ∷ kept) ok = fair-deliveries h i kept (ok .1)
-fair-deliveries h i (register boundary version reading ∷ kept) ok = fair-deliveries h i kept (ok .1)
+fair-deliveries h i (register boundary version reading width ∷ kept) ok = fair-deliveries h i kept (ok .1)
 fair-deliveries h i (agreed slot version value ∷ kept) ok = fair-deliveries h i kept (ok .1)
 
 -- and of a boundary
-fair-reads : (h : Head) (d : ℕ) (kept : List Call) → Kept h kept → AllFair 0 (reads d kept)
+fair-reads : (h : Head) (d : ℕ) (kept : List Call) → Kept h kept → AllFair (record { reading = 0; width = 0 }) (reads d kept)
 unfolding reads
 fair-reads h d [] ok = λ s m. absurd (List·Memᴰ·not-nil m)
 fair-reads h d (delivery slot version value status ∷ kept) ok = fair-reads h d kept (ok .1)
 fair-reads h d (holiday day ∷ kept) ok = fair-reads h d kept (ok .1)
-fair-reads h d (register boundary version reading ∷ kept) ok =
-    fair-if 0 (eqb boundary d) (record { version = version; content = reading })
-    (reads d kept) (λ e. rw (sym (eqb-true boundary d e)) (read-fair h kept boundary version reading (ok .0)))
+fair-reads h d (register boundary version reading width ∷ kept) ok =
+    fair-if (record { reading = 0; width = 0 }) (eqb boundary d) (record { version = version; content = record { reading = reading; width = width } })
+    (reads d kept) (λ e. rw (sym (eqb-true boundary d e)) (read-fair h kept boundary version reading width (ok .0)))
     (fair-reads h d kept (ok .1))
 fair-reads h d (agreed slot version value ∷ kept) ok = fair-reads h d kept (ok .1)
 
@@ -81,7 +82,7 @@ unfolding agreements
 fair-agreements h i [] ok = λ s m. absurd (List·Memᴰ·not-nil m)
 fair-agreements h i (delivery slot version value status ∷ kept) ok = fair-agreements h i kept (ok .1)
 fair-agreements h i (holiday day ∷ kept) ok = fair-agreements h i kept (ok .1)
-fair-agreements h i (register boundary version reading ∷ kept) ok = fair-agreements h i kept (ok .1)
+fair-agreements h i (register boundary version reading width ∷ kept) ok = fair-agreements h i kept (ok .1)
 fair-agreements h i (agreed slot version value ∷ kept) ok =
     fair-if 0 (eqb slot i) (record { version = version; content = value })
     (agreements i kept) (λ e. rw (sym (eqb-true slot i e)) (agreed-fair h kept slot version value (ok .0)))
@@ -105,9 +106,9 @@ module _ (h : Head) (kept other : List Call) (ok : Kept h kept) (ok′ : Kept h 
   same-day : (d : ℕ) → named d kept ≡ named d other
   same-day d = same-tests (named d kept) (named d other) (λ e. named-of d other (sub _ (named-from d kept e))) (λ e. named-of d kept (sup _ (named-from d other e)))
 
-  same-read : (d : ℕ) → (readVersion kept d ≡ readVersion other d) × (readContent kept d ≡ readContent other d)
-  same-read d =
-      same-said 0 (reads d kept) (reads d other) (fair-reads h d kept ok) (fair-reads h d other ok′)
+  same-boundary : (d : ℕ) → (readVersion kept d ≡ readVersion other d) × (readContent kept d ≡ readContent other d)
+  same-boundary d =
+      same-said (record { reading = 0; width = 0 }) (reads d kept) (reads d other) (fair-reads h d kept ok) (fair-reads h d other ok′)
       (λ s m. reads-of d other s (sub _ (reads-from d kept s m))) (λ s m. reads-of d kept s (sup _ (reads-from d other s m)))
 
   same-agreed : (i : ℕ) → (agreedVersion kept i ≡ agreedVersion other i) × (agreedContent kept i ≡ agreedContent other i)
@@ -125,12 +126,13 @@ module _ (h : Head) (kept other : List Call) (ok : Kept h kept) (ok′ : Kept h 
       statuses = upTo-same _ _ (slotCount h) (λ i. ap (λ (a : Measured). a .status) (same-slot i .1)) t;
     };
     holidays = upTo-same _ _ (h .days) (λ d. ap (λ (t : Bool). cond t 1 0) (same-day d)) t;
-    readings = upTo-same _ _ (suc (h .days)) (λ d. same-read d .1) t;
-    readVersions = upTo-same _ _ (suc (h .days)) (λ d. same-read d .0) t;
+    readings = upTo-same _ _ (suc (h .days)) (λ d. ap (λ (a : DialRead). a .reading) (same-boundary d .1)) t;
+    readVersions = upTo-same _ _ (suc (h .days)) (λ d. same-boundary d .0) t;
     agreed = record {
       values = upTo-same _ _ (slotCount h) (λ i. same-agreed i .1) t;
       versions = upTo-same _ _ (slotCount h) (λ i. same-agreed i .0) t;
     };
+    widths = upTo-same _ _ (suc (h .days)) (λ d. ap (λ (a : DialRead). a .width) (same-boundary d .1)) t;
   }
 
 -- two lists of calls with the same accepted calls amount to the same book, whatever their order and repetition

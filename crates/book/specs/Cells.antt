@@ -1,4 +1,4 @@
--- The lent lists: their lengths (01, Opening; 2), and the cells that no calls could leave (11; 02, W1 and W6).
+-- The lent lists: their lengths (01, Opening; 2), and the cells that no calls could leave (11; 02, W1, W6 and W10).
 use mathlib.Core.Bool.{Bool, true, cond, not, _&&_, _||_}
 use mathlib.Core.List.{List, [], _∷_}
 use Prim.Native.Nat.{ℕ, suc, _*_}
@@ -8,13 +8,14 @@ use Rattle.rules.specs.declared.Head.{Head}
 use Rattle.rules.specs.Lists.{every, sum, any}
 use Rattle.rules.specs.Opening.{slotsPerDay, slotCount, Slots, Agreed, Cells}
 
--- the two lent lists of boundaries
+-- the lent lists of boundaries, the widths last (02, W10)
 pub record Reads : Type 0 where
   pub readings : List ℕ
   pub readVersions : List ℕ
+  pub widths : List ℕ
 
 abbrev pub readsOf : Cells → Reads
-readsOf b = record { readings = b .readings; readVersions = b .readVersions }
+readsOf b = record { readings = b .readings; readVersions = b .readVersions; widths = b .widths }
 
 -- the lent lists of a book: the cells that the rules read, and the counts of delivered slots (02, W6)
 pub record Book : Type 0 where
@@ -34,7 +35,7 @@ unfoldable pub daysFit : Head → List ℕ → Bool
 daysFit h holidays = allLong (h .days) (length holidays ∷ [])
 
 unfoldable pub readsFit : Head → Reads → Bool
-readsFit h r = allLong (suc (h .days)) (length (r .readings) ∷ length (r .readVersions) ∷ [])
+readsFit h r = allLong (suc (h .days)) (length (r .readings) ∷ length (r .readVersions) ∷ length (r .widths) ∷ [])
 
 unfoldable pub agreedFits : Head → Agreed → Bool
 agreedFits h a = allLong (slotCount h) (length (a .values) ∷ length (a .versions) ∷ [])
@@ -60,13 +61,17 @@ slotFault version value status = ltb 7 status || (eqb version 0 && (not (eqb val
 unfoldable pub dayFault : ℕ → Bool
 dayFault cell = ltb 1 cell
 
--- reading over 99,999,999, or version 0 beside a non-zero reading
-unfoldable pub readFault : ℕ → ℕ → Bool
-readFault version reading = ltb 99999999 reading || (eqb version 0 && not (eqb reading 0))
+-- a number over its limit, or a non-zero one beside version 0
+unfoldable pub numberFault : ℕ → ℕ → ℕ → Bool
+numberFault limit version number = ltb limit number || (eqb version 0 && not (eqb number 0))
 
--- an agreed value over 99,999,999, or a non-zero one beside version 0 (02, W1): as of a reading
+-- of a reading 99,999,999 is the limit, of a width 9,999 (02, W10)
+unfoldable pub readFault : ℕ → ℕ → ℕ → Bool
+readFault version reading width = numberFault 99999999 version reading || numberFault 9999 version width
+
+-- of an agreed value 99,999,999 (02, W1)
 abbrev pub agreedFault : ℕ → ℕ → Bool
-agreedFault version value = readFault version value
+agreedFault version value = numberFault 99999999 version value
 
 -- the same of a place in the lists
 abbrev pub slotFaultAt : Slots → ℕ → Bool
@@ -76,7 +81,7 @@ abbrev pub dayFaultAt : List ℕ → ℕ → Bool
 dayFaultAt holidays day = dayFault (getD holidays day 0)
 
 abbrev pub readFaultAt : Reads → ℕ → Bool
-readFaultAt r boundary = readFault (getD (r .readVersions) boundary 0) (getD (r .readings) boundary 0)
+readFaultAt r boundary = readFault (getD (r .readVersions) boundary 0) (getD (r .readings) boundary 0) (getD (r .widths) boundary 0)
 
 abbrev pub agreedFaultAt : Agreed → ℕ → Bool
 agreedFaultAt a i = agreedFault (getD (a .versions) i 0) (getD (a .values) i 0)

@@ -1,4 +1,4 @@
--- What the filling calls answer, and what they leave in the lists they are lent (01, The three calls that fill it; 02, W1 and W6).
+-- What the filling calls answer, and what they leave in the lists they are lent (01, The three calls that fill it; 02, W1, W6 and W10).
 use mathlib.Core.Bool.{Bool, not, cond, _&&_}
 use mathlib.Core.List.{List, [], _∷_}
 use Prim.Native.Nat.{ℕ, _+_, _/_}
@@ -11,7 +11,7 @@ use Rattle.book.specs.Answers.Answer.{stored, repeat, refused}
 use Rattle.book.specs.Answers.Rule.{rule}
 use Rattle.book.specs.Arguments.{Call, argumentRules}
 use Rattle.book.specs.Arguments.Call.{delivery, holiday, register, agreed}
-use Rattle.book.specs.Cells.{Reads, Book, readsOf, slotsFit, daysFit, readsFit, agreedFits, countsFit, slotFault, dayFault, readFault}
+use Rattle.book.specs.Cells.{Reads, Book, readsOf, slotsFit, daysFit, readsFit, agreedFits, countsFit, slotFault, dayFault, readFault, agreedFault}
 
 -- the rules from the input, where the lists that the call is lent fit or do not
 abbrev pub inputRules : Head → Bool → Call → List Rule
@@ -27,13 +27,16 @@ againstSlot oldVersion oldValue oldStatus version value status =
 unfoldable pub againstDay : ℕ → Answer
 againstDay cell = cond (dayFault cell) (refused 11) (cond (eqb cell 0) stored repeat)
 
-unfoldable pub againstBoundary : ℕ → ℕ → ℕ → ℕ → Answer
-againstBoundary oldVersion oldReading version reading =
-    cond (readFault oldVersion oldReading) (refused 11) (byVersion oldVersion version (eqb oldReading reading))
+-- "a repeat compares" reading and width (02, W10)
+unfoldable pub againstBoundary : ℕ → ℕ → ℕ → ℕ → ℕ → ℕ → Answer
+againstBoundary oldVersion oldReading oldWidth version reading width =
+    cond (readFault oldVersion oldReading oldWidth) (refused 11)
+    (byVersion oldVersion version (eqb oldReading reading && eqb oldWidth width))
 
--- "by the version rule of a delivery" (02, W1), with a value for the reading
-abbrev pub againstAgreed : ℕ → ℕ → ℕ → ℕ → Answer
-againstAgreed oldVersion oldValue version value = againstBoundary oldVersion oldValue version value
+-- "by the version rule of a delivery" (02, W1)
+unfoldable pub againstAgreed : ℕ → ℕ → ℕ → ℕ → Answer
+againstAgreed oldVersion oldValue version value =
+    cond (agreedFault oldVersion oldValue) (refused 11) (byVersion oldVersion version (eqb oldValue value))
 
 -- a stored call writes one place of a list; with any other answer nothing changes
 abbrev pub storedIn : Answer → List ℕ → ℕ → ℕ → List ℕ
@@ -84,15 +87,16 @@ unfoldable pub holidayAfter : Head → List ℕ → ℕ → List ℕ
 holidayAfter h holidays day = storedIn (holidayAnswer h holidays day) holidays day 1
 
 -- a register read
-unfoldable pub registerAnswer : Head → Reads → ℕ → ℕ → ℕ → Answer
-registerAnswer h r boundary version reading =
-    unless (inputRules h (readsFit h r) (register boundary version reading))
-    (againstBoundary (getD (r .readVersions) boundary 0) (getD (r .readings) boundary 0) version reading)
+unfoldable pub registerAnswer : Head → Reads → ℕ → ℕ → ℕ → ℕ → Answer
+registerAnswer h r boundary version reading width =
+    unless (inputRules h (readsFit h r) (register boundary version reading width))
+    (againstBoundary (getD (r .readVersions) boundary 0) (getD (r .readings) boundary 0) (getD (r .widths) boundary 0) version reading width)
 
-unfoldable pub registerAfter : Head → Reads → ℕ → ℕ → ℕ → Reads
-registerAfter h r boundary version reading = record {
-  readings = storedIn (registerAnswer h r boundary version reading) (r .readings) boundary reading;
-  readVersions = storedIn (registerAnswer h r boundary version reading) (r .readVersions) boundary version;
+unfoldable pub registerAfter : Head → Reads → ℕ → ℕ → ℕ → ℕ → Reads
+registerAfter h r boundary version reading width = record {
+  readings = storedIn (registerAnswer h r boundary version reading width) (r .readings) boundary reading;
+  readVersions = storedIn (registerAnswer h r boundary version reading width) (r .readVersions) boundary version;
+  widths = storedIn (registerAnswer h r boundary version reading width) (r .widths) boundary width;
 }
 
 -- an agreed value
@@ -111,7 +115,7 @@ agreeAfter h a slot version value = record {
 unfoldable pub answer : Head → Book → Call → Answer
 answer h b (delivery slot version value status) = deliverAnswer h (b .cells .slots) (b .counts) slot version value status
 answer h b (holiday day) = holidayAnswer h (b .cells .holidays) day
-answer h b (register boundary version reading) = registerAnswer h (readsOf (b .cells)) boundary version reading
+answer h b (register boundary version reading width) = registerAnswer h (readsOf (b .cells)) boundary version reading width
 answer h b (agreed slot version value) = agreeAnswer h (b .cells .agreed) slot version value
 
 unfoldable pub after : Head → Book → Call → Book
@@ -122,6 +126,7 @@ after h b (delivery slot version value status) = record {
     readings = b .cells .readings;
     readVersions = b .cells .readVersions;
     agreed = b .cells .agreed;
+    widths = b .cells .widths;
   };
   counts = countsAfter h (b .cells .slots) (b .counts) slot version value status;
 }
@@ -132,16 +137,18 @@ after h b (holiday day) = record {
     readings = b .cells .readings;
     readVersions = b .cells .readVersions;
     agreed = b .cells .agreed;
+    widths = b .cells .widths;
   };
   counts = b .counts;
 }
-after h b (register boundary version reading) = record {
+after h b (register boundary version reading width) = record {
   cells = record {
     slots = b .cells .slots;
     holidays = b .cells .holidays;
-    readings = registerAfter h (readsOf (b .cells)) boundary version reading .readings;
-    readVersions = registerAfter h (readsOf (b .cells)) boundary version reading .readVersions;
+    readings = registerAfter h (readsOf (b .cells)) boundary version reading width .readings;
+    readVersions = registerAfter h (readsOf (b .cells)) boundary version reading width .readVersions;
     agreed = b .cells .agreed;
+    widths = registerAfter h (readsOf (b .cells)) boundary version reading width .widths;
   };
   counts = b .counts;
 }
@@ -152,6 +159,7 @@ after h b (agreed slot version value) = record {
     readings = b .cells .readings;
     readVersions = b .cells .readVersions;
     agreed = agreeAfter h (b .cells .agreed) slot version value;
+    widths = b .cells .widths;
   };
   counts = b .counts;
 }

@@ -1,4 +1,4 @@
--- Opening a book (01, Opening; 02, W1 and W6).
+-- Opening a book (01, Opening; 02, W1, W6 and W10).
 use mathlib.Core.Bool.{not}
 use mathlib.Core.List.{[], _∷_}
 use Prim.Native.Nat.{suc}
@@ -10,7 +10,7 @@ use Rattle.book.specs.Answers.Answer.{done, stored, late, repeat, refuse
 use Rattle.book.specs.Answers.Rule.{rule}
 use Rattle.book.specs.Cells.{Book, bookFits}
 
--- "Opening sets all cells to 0", "clears the two lists" (02, W1) and the counts (02, W6)
+-- "Opening sets all cells to 0", "clears the two lists" (02, W1) the counts (02, W6) and the widths (02, W10)
 unfoldable pub opened : Head → Book
 opened h = record {
   cells = record {
@@ -19,6 +19,7 @@ opened h = record {
     readings = replicate (suc (h .days)) 0;
     readVersions = replicate (suc (h .days)) 0;
     agreed = record { values = replicate (slotCount h) 0; versions = replicate (slotCount h) 0 };
+    widths = replicate (suc (h .days)) 0;
   };
   counts = replicate (h .days) 0;
 }

@@ -1,4 +1,4 @@
--- What a list of calls amounts to, from the head and the calls' arguments alone (01, The plain book; 02, W1 and W6).
+-- What a list of calls amounts to, from the head and the calls' arguments alone (01, The plain book; 02, W1, W6 and W10).
 use mathlib.Core.Bool.{Bool, false, not, cond, _&&_, _||_}
 use mathlib.Core.List.{List, [], _∷_}
 use Prim.Native.Nat.{ℕ, suc, max, _*_}
@@ -19,10 +19,15 @@ pub record Said (A : Type 0) : Type 0 where
   pub version : ℕ
   pub content : A
 
--- a delivery's content; a register read's is the reading, an agreed call's the value
+-- a delivery's content; an agreed call's is the value
 pub record Measured : Type 0 where
   pub value : ℕ
   pub status : ℕ
+
+-- a register read's content (02, W10)
+pub record DialRead : Type 0 where
+  pub reading : ℕ
+  pub width : ℕ
 
 -- the kept deliveries for a slot
 unfoldable pub deliveries : ℕ → List Call → List (Said Measured)
@@ -31,16 +36,17 @@ deliveries i (delivery slot version value status ∷ kept) =
     cond (eqb slot i) (record { version = version; content = record { value = value; status = status } } ∷ deliveries i kept)
     (deliveries i kept)
 deliveries i (holiday day ∷ kept) = deliveries i kept
-deliveries i (register boundary version reading ∷ kept) = deliveries i kept
+deliveries i (register boundary version reading width ∷ kept) = deliveries i kept
 deliveries i (agreed slot version value ∷ kept) = deliveries i kept
 
 -- the kept register reads for a boundary
-unfoldable pub reads : ℕ → List Call → List (Said ℕ)
+unfoldable pub reads : ℕ → List Call → List (Said DialRead)
 reads d [] = []
 reads d (delivery slot version value status ∷ kept) = reads d kept
 reads d (holiday day ∷ kept) = reads d kept
-reads d (register boundary version reading ∷ kept) =
-    cond (eqb boundary d) (record { version = version; content = reading } ∷ reads d kept) (reads d kept)
+reads d (register boundary version reading width ∷ kept) =
+    cond (eqb boundary d) (record { version = version; content = record { reading = reading; width = width } } ∷ reads d kept)
+    (reads d kept)
 reads d (agreed slot version value ∷ kept) = reads d kept
 
 -- the kept agreed calls for a slot
@@ -48,7 +54,7 @@ unfoldable pub agreements : ℕ → List Call → List (Said ℕ)
 agreements i [] = []
 agreements i (delivery slot version value status ∷ kept) = agreements i kept
 agreements i (holiday day ∷ kept) = agreements i kept
-agreements i (register boundary version reading ∷ kept) = agreements i kept
+agreements i (register boundary version reading width ∷ kept) = agreements i kept
 agreements i (agreed slot version value ∷ kept) =
     cond (eqb slot i) (record { version = version; content = value } ∷ agreements i kept) (agreements i kept)
 
@@ -57,7 +63,7 @@ unfoldable pub named : ℕ → List Call → Bool
 named d [] = false
 named d (delivery slot version value status ∷ kept) = named d kept
 named d (holiday day ∷ kept) = eqb day d || named d kept
-named d (register boundary version reading ∷ kept) = named d kept
+named d (register boundary version reading width ∷ kept) = named d kept
 named d (agreed slot version value ∷ kept) = named d kept
 
 -- h: the highest version among them, 0 if there are none
@@ -80,8 +86,8 @@ slotContent kept i = contentWith (record { value = 0; status = 0 }) (slotVersion
 abbrev pub readVersion : List Call → ℕ → ℕ
 readVersion kept d = highest (reads d kept)
 
-abbrev pub readContent : List Call → ℕ → ℕ
-readContent kept d = contentWith 0 (readVersion kept d) (reads d kept)
+abbrev pub readContent : List Call → ℕ → DialRead
+readContent kept d = contentWith (record { reading = 0; width = 0 }) (readVersion kept d) (reads d kept)
 
 -- "with a highest version of their own" (02, W1)
 abbrev pub agreedVersion : List Call → ℕ → ℕ
@@ -96,8 +102,9 @@ againstKept kept (delivery slot version value status) =
     byVersion (slotVersion kept slot) version
     (eqb (slotContent kept slot .value) value && eqb (slotContent kept slot .status) status)
 againstKept kept (holiday day) = cond (named day kept) repeat stored
-againstKept kept (register boundary version reading) =
-    byVersion (readVersion kept boundary) version (eqb (readContent kept boundary) reading)
+againstKept kept (register boundary version reading width) =
+    byVersion (readVersion kept boundary) version
+    (eqb (readContent kept boundary .reading) reading && eqb (readContent kept boundary .width) width)
 againstKept kept (agreed slot version value) =
     byVersion (agreedVersion kept slot) version (eqb (agreedContent kept slot) value)
 
@@ -126,12 +133,13 @@ bookOf h kept = record {
     statuses = upTo (λ i. slotContent kept i .status) 0 (slotCount h);
   };
   holidays = upTo (λ d. cond (named d kept) 1 0) 0 (h .days);
-  readings = upTo (readContent kept) 0 (suc (h .days));
+  readings = upTo (λ d. readContent kept d .reading) 0 (suc (h .days));
   readVersions = upTo (readVersion kept) 0 (suc (h .days));
   agreed = record {
     values = upTo (agreedContent kept) 0 (slotCount h);
     versions = upTo (agreedVersion kept) 0 (slotCount h);
   };
+  widths = upTo (λ d. readContent kept d .width) 0 (suc (h .days));
 }
 
 -- how many slots of day d have a kept delivery (02, W6)
@@ -141,6 +149,6 @@ deliveredOn h kept d = sum (λ i. cond (ltb 0 (slotVersion kept i)) 1 0) (d * sl
 unfoldable pub countsOf : Head → List Call → List ℕ
 countsOf h kept = upTo (deliveredOn h kept) 0 (h .days)
 
--- what the nine lent lists hold then
+-- what the ten lent lists hold then
 unfoldable pub listsOf : Head → List Call → Book
 listsOf h kept = record { cells = bookOf h kept; counts = countsOf h kept }

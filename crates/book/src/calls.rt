@@ -19,6 +19,7 @@ pub enum Call {
         boundary: u32,
         version: u32,
         reading: u32,
+        width: u32,
     },
     Agreed {
         slot: u32,
@@ -38,13 +39,14 @@ pub fn fill(
     agreed: &mut [u32],
     agreed_versions: &mut [u32],
     counts: &mut [u16],
+    widths: &mut [u16],
     call: Call,
 ) -> Filed
     ensures { λ r. ⌜
         (let book =
-        lentBook (values .entry) (versions .entry) (statuses .entry) (holidays .entry) (readings .entry) (reads .entry) (agreed .entry) («agreed_versions» .entry) (counts .entry) in
+        lentBook (values .entry) (versions .entry) (statuses .entry) (holidays .entry) (readings .entry) (reads .entry) (agreed .entry) («agreed_versions» .entry) (counts .entry) (widths .entry) in
         (filedMeant r ≡ answer head book (callMeant call))
-        × (lentBook (values .exit) (versions .exit) (statuses .exit) (holidays .exit) (readings .exit) (reads .exit) (agreed .exit) («agreed_versions» .exit) (counts .exit)
+        × (lentBook (values .exit) (versions .exit) (statuses .exit) (holidays .exit) (readings .exit) (reads .exit) (agreed .exit) («agreed_versions» .exit) (counts .exit) (widths .exit)
         ≡ after head book (callMeant call)))
         ⌝ }
 {
@@ -70,7 +72,17 @@ pub fn fill(
             boundary,
             version,
             reading,
-        } => crate::register(head, readings, reads, boundary, version, reading),
+            width,
+        } => crate::register(
+            head,
+            readings,
+            reads,
+            widths,
+            boundary,
+            version,
+            reading,
+            width,
+        ),
         Call::Agreed {
             slot,
             version,

@@ -1,6 +1,6 @@
-// The cells that no calls could leave (01, Numbers of a refusal, 11; 02, W1).
+// The cells that no calls could leave (01, Numbers of a refusal, 11; 02, W1 and W10).
 ghost use mathlib.Core.Path.{_≡_};
-ghost use Rattle.book.specs.Cells.{slotFault, dayFault, readFault};
+ghost use Rattle.book.specs.Cells.{slotFault, dayFault, numberFault, readFault};
 
 pub fn slot_fault(version: u32, value: u32, status: u8) -> bool
     ensures { λ r. ⌜ r ≡ slotFault version value status ⌝ }
@@ -23,15 +23,24 @@ pub fn day_fault(cell: u8) -> bool
     1 < cell
 }
 
-// a reading, or an agreed value
-pub fn number_fault(version: u32, number: u32) -> bool
-    ensures { λ r. ⌜ r ≡ readFault version number ⌝ }
+// a reading, a width or an agreed value
+pub fn number_fault(limit: u32, version: u32, number: u32) -> bool
+    ensures { λ r. ⌜ r ≡ numberFault limit version number ⌝ }
 {
-    if 99999999 < number {
+    if limit < number {
         return true;
     }
     if version != 0 {
         return false;
     }
     number != 0
+}
+
+pub fn read_fault(version: u32, reading: u32, width: u16) -> bool
+    ensures { λ r. ⌜ r ≡ readFault version reading width ⌝ }
+{
+    if number_fault(99999999, version, reading) {
+        return true;
+    }
+    number_fault(9999, version, width as u32)
 }

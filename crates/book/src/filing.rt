@@ -6,7 +6,7 @@ ghost use mathlib.Core.Bool.{_&&_};
 ghost use mathlib.Core.Path.{_≡_};
 ghost use lib.Dec.{eqb};
 ghost use Rattle.book.specs.Answers.{filedMeant, isStored};
-ghost use Rattle.book.specs.Filling.{againstSlot, againstDay, againstBoundary};
+ghost use Rattle.book.specs.Filling.{againstSlot, againstDay, againstBoundary, againstAgreed};
 
 pub fn is_stored(found: Filed) -> bool
     ensures { λ r. ⌜ r ≡ isStored (filedMeant found) ⌝ }
@@ -57,12 +57,37 @@ pub fn against_day(cell: u8) -> Filed
     Filed::Repeat
 }
 
-// a reading, or an agreed value
-pub fn against_number(old_version: u32, old_number: u32, version: u32, number: u32) -> Filed
-    ensures { λ r. ⌜ filedMeant r ≡ againstBoundary «old_version» «old_number» version number ⌝ }
+fn is_same_read(old_reading: u32, old_width: u16, reading: u32, width: u32) -> bool
+    ensures { λ r. ⌜ r ≡ (eqb «old_reading» reading && eqb «old_width» width) ⌝ }
 {
-    if cells::number_fault(old_version, old_number) {
+    if old_reading != reading {
+        return false;
+    }
+    old_width as u32 == width
+}
+
+pub fn against_boundary(
+    old_version: u32,
+    old_reading: u32,
+    old_width: u16,
+    version: u32,
+    reading: u32,
+    width: u32,
+) -> Filed
+    ensures { λ r. ⌜ filedMeant r ≡ againstBoundary «old_version» «old_reading» «old_width» version reading width ⌝ }
+{
+    if cells::read_fault(old_version, old_reading, old_width) {
         return Filed::Refused(11);
     }
-    versions::by_version(old_version, version, old_number == number)
+    let same_read = is_same_read(old_reading, old_width, reading, width);
+    versions::by_version(old_version, version, same_read)
+}
+
+pub fn against_agreed(old_version: u32, old_value: u32, version: u32, value: u32) -> Filed
+    ensures { λ r. ⌜ filedMeant r ≡ againstAgreed «old_version» «old_value» version value ⌝ }
+{
+    if cells::number_fault(99999999, old_version, old_value) {
+        return Filed::Refused(11);
+    }
+    versions::by_version(old_version, version, old_value == value)
 }

@@ -47,14 +47,18 @@ pub fn delivery_fits(
     days_fit(head, counts)
 }
 
-pub fn reads_fit(head: Head, readings: usize, read_versions: usize) -> bool
-    ensures { λ r. ⌜ r ≡ allLong (suc (head .days)) (readings ∷ «read_versions» ∷ []) ⌝ }
+// The lists of a register read (02, W10).
+pub fn reads_fit(head: Head, readings: usize, read_versions: usize, widths: usize) -> bool
+    ensures { λ r. ⌜ r ≡ allLong (suc (head .days)) (readings ∷ «read_versions» ∷ widths ∷ []) ⌝ }
 {
     let n = head.days as usize + 1;
     if readings != n {
         return false;
     }
-    read_versions == n
+    if read_versions != n {
+        return false;
+    }
+    widths == n
 }
 
 pub fn agreed_fit(head: Head, agreed: usize, agreed_versions: usize) -> bool
@@ -68,7 +72,7 @@ pub fn agreed_fit(head: Head, agreed: usize, agreed_versions: usize) -> bool
     agreed_versions == n
 }
 
-// The cells' eight lists, in the order of an opening's arguments.
+// The cells' nine lists, in the order of an opening's arguments.
 fn cells_fit(
     head: Head,
     values: usize,
@@ -79,13 +83,14 @@ fn cells_fit(
     read_versions: usize,
     agreed: usize,
     agreed_versions: usize,
+    widths: usize,
 ) -> bool
     requires { ⌜ headOk head ≡ true ⌝ }
     ensures { λ r. ⌜
         r ≡ every
         (allLong (slotCount head) (values ∷ versions ∷ statuses ∷ [])
         ∷ allLong (head .days) (holidays ∷ [])
-        ∷ allLong (suc (head .days)) (readings ∷ «read_versions» ∷ [])
+        ∷ allLong (suc (head .days)) (readings ∷ «read_versions» ∷ widths ∷ [])
         ∷ allLong (slotCount head) (agreed ∷ «agreed_versions» ∷ [])
         ∷ [])
         ⌝ }
@@ -96,13 +101,13 @@ fn cells_fit(
     if !days_fit(head, holidays) {
         return false;
     }
-    if !reads_fit(head, readings, read_versions) {
+    if !reads_fit(head, readings, read_versions, widths) {
         return false;
     }
     agreed_fit(head, agreed, agreed_versions)
 }
 
-// All nine lists, the counts last (02, W6).
+// All ten lists: the counts (02, W6) and the widths (02, W10) last.
 pub fn book_fits(
     head: Head,
     values: usize,
@@ -114,13 +119,14 @@ pub fn book_fits(
     agreed: usize,
     agreed_versions: usize,
     counts: usize,
+    widths: usize,
 ) -> bool
     requires { ⌜ headOk head ≡ true ⌝ }
     ensures { λ r. ⌜
         r ≡ (every
         (allLong (slotCount head) (values ∷ versions ∷ statuses ∷ [])
         ∷ allLong (head .days) (holidays ∷ [])
-        ∷ allLong (suc (head .days)) (readings ∷ «read_versions» ∷ [])
+        ∷ allLong (suc (head .days)) (readings ∷ «read_versions» ∷ widths ∷ [])
         ∷ allLong (slotCount head) (agreed ∷ «agreed_versions» ∷ [])
         ∷ [])
         && allLong (head .days) (counts ∷ []))
@@ -136,6 +142,7 @@ pub fn book_fits(
         read_versions,
         agreed,
         agreed_versions,
+        widths,
     ) {
         return false;
     }

@@ -1,10 +1,11 @@
-// The calls that open and fill a book (01, Opening; The three calls that fill it; 02, W1 and W6).
+// The calls that open and fill a book (01, Opening; The three calls that fill it; 02, W1, W6 and W10).
 pub mod calls;
 pub mod cells;
 mod deliveries;
 mod filing;
 pub mod lengths;
 mod numbers;
+mod registers;
 pub mod sound;
 mod versions;
 mod zeros;
@@ -16,7 +17,7 @@ ghost use Rattle.rules.specs.Inner.Lent.{lentSlots, lentAgreed};
 ghost use Rattle.book.specs.Answers.{openedMeant, filedMeant};
 ghost use Rattle.book.specs.Opening.{openAnswer, openAfter};
 ghost use Rattle.book.specs.Filling.{deliverAnswer, deliverAfter, countsAfter, holidayAnswer, holidayAfter, registerAnswer, registerAfter, agreeAnswer, agreeAfter};
-ghost use Rattle.book.specs.Inner.Lent.{lentReads, lentBook, HoldSlots, HoldAgreed, HoldBook};
+ghost use Rattle.book.specs.Inner.Lent.{lentReads, lentBook, HoldSlots, HoldReads, HoldAgreed, HoldBook};
 
 // What opening answers.
 pub enum Opened {
@@ -43,12 +44,13 @@ pub fn open(
     agreed: &mut [u32],
     agreed_versions: &mut [u32],
     counts: &mut [u16],
+    widths: &mut [u16],
 ) -> Opened
     ensures { λ r. ⌜
         (let book =
-        lentBook (values .entry) (versions .entry) (statuses .entry) (holidays .entry) (readings .entry) («read_versions» .entry) (agreed .entry) («agreed_versions» .entry) (counts .entry) in
+        lentBook (values .entry) (versions .entry) (statuses .entry) (holidays .entry) (readings .entry) («read_versions» .entry) (agreed .entry) («agreed_versions» .entry) (counts .entry) (widths .entry) in
         (openedMeant r ≡ openAnswer head book)
-        × HoldBook (values .exit) (versions .exit) (statuses .exit) (holidays .exit) (readings .exit) («read_versions» .exit) (agreed .exit) («agreed_versions» .exit) (counts .exit)
+        × HoldBook (values .exit) (versions .exit) (statuses .exit) (holidays .exit) (readings .exit) («read_versions» .exit) (agreed .exit) («agreed_versions» .exit) (counts .exit) (widths .exit)
         (openAfter head book))
         ⌝ }
 {
@@ -66,6 +68,7 @@ pub fn open(
         agreed.len(),
         agreed_versions.len(),
         counts.len(),
+        widths.len(),
     );
     if !fit {
         return Opened::Refused(2);
@@ -79,6 +82,7 @@ pub fn open(
     zeros::clear_words(agreed);
     zeros::clear_words(agreed_versions);
     zeros::clear_counts(counts);
+    zeros::clear_counts(widths);
     Opened::Done
 }
 
@@ -162,24 +166,33 @@ pub fn register(
     head: Head,
     readings: &mut [u32],
     read_versions: &mut [u32],
+    widths: &mut [u16],
     boundary: u32,
     version: u32,
     reading: u32,
+    width: u32,
 ) -> Filed
     ensures { λ r. ⌜
-        (let reads = lentReads (readings .entry) («read_versions» .entry) in
-        (filedMeant r ≡ registerAnswer head reads boundary version reading)
-        × (now (readings .exit) ≡ registerAfter head reads boundary version reading .readings)
-        × (now («read_versions» .exit) ≡ registerAfter head reads boundary version reading .readVersions))
+        (let reads = lentReads (readings .entry) («read_versions» .entry) (widths .entry) in
+        (filedMeant r ≡ registerAnswer head reads boundary version reading width)
+        × HoldReads (readings .exit) («read_versions» .exit) (widths .exit) (registerAfter head reads boundary version reading width))
         ⌝ }
 {
     if !opening::head_ok(head) {
         return Filed::Refused(1);
     }
-    if !lengths::reads_fit(head, readings.len(), read_versions.len()) {
+    if !lengths::reads_fit(head, readings.len(), read_versions.len(), widths.len()) {
         return Filed::Refused(2);
     }
-    numbers::file_number(readings, read_versions, boundary, version, reading, 6)
+    registers::file_register(
+        readings,
+        read_versions,
+        widths,
+        boundary,
+        version,
+        reading,
+        width,
+    )
 }
 
 pub fn agree(
@@ -202,5 +215,5 @@ pub fn agree(
     if !lengths::agreed_fit(head, agreed.len(), agreed_versions.len()) {
         return Filed::Refused(2);
     }
-    numbers::file_number(agreed, agreed_versions, slot, version, value, 12)
+    numbers::file_number(agreed, agreed_versions, slot, version, value)
 }

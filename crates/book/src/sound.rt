@@ -1,4 +1,4 @@
-// All cells of a book looked at for one that no calls could leave, and its counts (01, Numbers of a refusal, 11; 02, W1 and W6).
+// All cells of a book looked at for one that no calls could leave, and its counts (01, Numbers of a refusal, 11; 02, W1, W6 and W10).
 use crate::cells;
 use rules::Head;
 use rules::opening;
@@ -9,8 +9,8 @@ ghost use lib.Dec.{ltb};
 ghost use lib.ListN.{length, getD};
 ghost use Rattle.rules.specs.Lists.{sum, any};
 ghost use Rattle.rules.specs.Opening.{headOk, slotCount};
-ghost use Rattle.rules.specs.Inner.Lent.{lentSlots, lentCells};
-ghost use Rattle.book.specs.Cells.{slotFaultAt, dayFaultAt, readFaultAt, countFaultAt, cellsFit, cellsOk, bookFits, bookOk};
+ghost use Rattle.rules.specs.Inner.Lent.{lentSlots, lentAgreed, lentCells};
+ghost use Rattle.book.specs.Cells.{slotFaultAt, dayFaultAt, readFaultAt, agreedFaultAt, countFaultAt, cellsFit, cellsOk, bookFits, bookOk};
 ghost use Rattle.book.specs.Inner.Lent.{lentReads, lentBook};
 
 fn bad_slot(values: &[u32], versions: &[u32], statuses: &[u8]) -> bool
@@ -40,14 +40,27 @@ fn bad_day(holidays: &[u8]) -> bool
     false
 }
 
-// readings, or agreed values
-fn bad_number(numbers: &[u32], versions: &[u32]) -> bool
-    requires { ⌜ length (now versions) ≡ length (now numbers) ⌝ }
-    ensures { λ r. ⌜ r ≡ any (readFaultAt (lentReads (numbers .entry) (versions .entry))) 0 (length (now (numbers .entry))) ⌝ }
+fn bad_read(readings: &[u32], versions: &[u32], widths: &[u16]) -> bool
+    requires { ⌜ (length (now versions) ≡ length (now readings)) × (length (now widths) ≡ length (now readings)) ⌝ }
+    ensures { λ r. ⌜ r ≡ any (readFaultAt (lentReads (readings .entry) (versions .entry) (widths .entry))) 0 (length (now (readings .entry))) ⌝ }
 {
     let mut i = 0;
-    while i < numbers.len() {
-        if cells::number_fault(versions[i], numbers[i]) {
+    while i < readings.len() {
+        if cells::read_fault(versions[i], readings[i], widths[i]) {
+            return true;
+        }
+        i += 1;
+    }
+    false
+}
+
+fn bad_agreed(values: &[u32], versions: &[u32]) -> bool
+    requires { ⌜ length (now versions) ≡ length (now values) ⌝ }
+    ensures { λ r. ⌜ r ≡ any (agreedFaultAt (lentAgreed (values .entry) (versions .entry))) 0 (length (now (values .entry))) ⌝ }
+{
+    let mut i = 0;
+    while i < values.len() {
+        if cells::number_fault(99999999, versions[i], values[i]) {
             return true;
         }
         i += 1;
@@ -65,11 +78,12 @@ fn cells_ok(
     reads: &[u32],
     agreed: &[u32],
     agreed_versions: &[u32],
+    widths: &[u16],
 ) -> bool
-    requires { ⌜ cellsFit head (lentCells values versions statuses holidays readings reads agreed «agreed_versions») ≡ true ⌝ }
+    requires { ⌜ cellsFit head (lentCells values versions statuses holidays readings reads agreed «agreed_versions» widths) ≡ true ⌝ }
     ensures { λ r. ⌜
         r ≡ cellsOk head
-        (lentCells (values .entry) (versions .entry) (statuses .entry) (holidays .entry) (readings .entry) (reads .entry) (agreed .entry) («agreed_versions» .entry))
+        (lentCells (values .entry) (versions .entry) (statuses .entry) (holidays .entry) (readings .entry) (reads .entry) (agreed .entry) («agreed_versions» .entry) (widths .entry))
         ⌝ }
 {
     if bad_slot(values, versions, statuses) {
@@ -78,10 +92,10 @@ fn cells_ok(
     if bad_day(holidays) {
         return false;
     }
-    if bad_number(readings, reads) {
+    if bad_read(readings, reads, widths) {
         return false;
     }
-    !bad_number(agreed, agreed_versions)
+    !bad_agreed(agreed, agreed_versions)
 }
 
 // How many of the `count` slots from slot `first` are delivered.
@@ -128,11 +142,12 @@ pub fn book_ok(
     agreed: &[u32],
     agreed_versions: &[u32],
     counts: &[u16],
+    widths: &[u16],
 ) -> bool
-    requires { ⌜ (headOk head ≡ true) × (bookFits head (lentBook values versions statuses holidays readings reads agreed «agreed_versions» counts) ≡ true) ⌝ }
+    requires { ⌜ (headOk head ≡ true) × (bookFits head (lentBook values versions statuses holidays readings reads agreed «agreed_versions» counts widths) ≡ true) ⌝ }
     ensures { λ r. ⌜
         r ≡ bookOk head
-        (lentBook (values .entry) (versions .entry) (statuses .entry) (holidays .entry) (readings .entry) (reads .entry) (agreed .entry) («agreed_versions» .entry) (counts .entry))
+        (lentBook (values .entry) (versions .entry) (statuses .entry) (holidays .entry) (readings .entry) (reads .entry) (agreed .entry) («agreed_versions» .entry) (counts .entry) (widths .entry))
         ⌝ }
 {
     if !cells_ok(
@@ -145,6 +160,7 @@ pub fn book_ok(
         reads,
         agreed,
         agreed_versions,
+        widths,
     ) {
         return false;
     }

@@ -50,7 +50,7 @@ returns-3 c =
     let ok : headOk (a .head) ≡ true = sym (b .before .before .before .head-ok .ensures) ∙ not-false _ (b .before .before .if1 .left) in
     let fit : agreedFits (a .head) (lentAgreed (a .agreed) (a .agreed-versions)) ≡ true = sym (b .before .agreed-fit .ensures) ∙ not-false _ (b .if2 .left) in
     let e = c .before .before .before .before .file-number .ensures in
-    rw (agree-number (a .head) ok (lentAgreed (a .agreed) (a .agreed-versions)) (a .slot) (a .version) (a .value) fit) (e .0, (e .1, e .2))
+    rw (agree-number (a .head) ok (lentAgreed (a .agreed) (a .agreed-versions)) (a .slot) (a .version) (a .value) fit) e
 
 pub agree-spec : {M : Type 1} → statement M
 agree-spec =

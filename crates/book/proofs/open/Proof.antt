@@ -18,18 +18,18 @@ head-ok-requires c κs = search needs
 
 returns : tie.Need-returns
 unfolding openAnswer openAfter
-returns c = rw (sym (c .before .head-ok .ensures) ∙ not-true _ (c .if1 .taken)) (refl, (refl, refl, refl, refl, refl, refl, refl, refl, refl))
+returns c = rw (sym (c .before .head-ok .ensures) ∙ not-true _ (c .if1 .taken)) (refl, (refl, refl, refl, refl, refl, refl, refl, refl, refl, refl))
 
 book-fits-requires : tie.Need-book-fits-requires
 book-fits-requires c κs = sym (c .before .head-ok .ensures) ∙ not-false _ (c .if1 .left)
 
 returns-2 : tie.Need-returns-2
 unfolding openAnswer openAfter cellsFit slotsFit daysFit readsFit agreedFits countsFit bookFits
-returns-2 c = let a = c .before .before .before .before .before .before .before .before .before .before .before .before .before .args in
-    let broken : bookFits (a .head) (lentBook (a .values) (a .versions) (a .statuses) (a .holidays) (a .readings) (a .read-versions) (a .agreed) (a .agreed-versions) (a .counts)) ≡ false =
+returns-2 c = let a = c .before .before .before .before .before .before .before .before .before .before .before .before .before .before .args in
+    let broken : bookFits (a .head) (lentBook (a .values) (a .versions) (a .statuses) (a .holidays) (a .readings) (a .read-versions) (a .agreed) (a .agreed-versions) (a .counts) (a .widths)) ≡ false =
     sym (c .before .book-fits .ensures) ∙ not-true _ (c .if2 .taken) in
     rw (sym (c .before .before .before .head-ok .ensures) ∙ not-false _ (c .before .before .if1 .left), broken)
-    (refl, (refl, refl, refl, refl, refl, refl, refl, refl, refl))
+    (refl, (refl, refl, refl, refl, refl, refl, refl, refl, refl, refl))
 
 clear-words-requires : tie.Need-clear-words-requires
 clear-words-requires c κs = search needs
@@ -58,6 +58,9 @@ clear-words-requires-6 c κs = search needs
 clear-counts-requires : tie.Need-clear-counts-requires
 clear-counts-requires c κs = search needs
 
+clear-counts-requires-2 : tie.Need-clear-counts-requires-2
+clear-counts-requires-2 c κs = search needs
+
 same-length : tie.Need-same-length
 same-length c = search needs
 
@@ -85,26 +88,30 @@ same-length-8 c = search needs
 same-length-9 : tie.Need-same-length-9
 same-length-9 c = search needs
 
+same-length-10 : tie.Need-same-length-10
+same-length-10 c = search needs
+
 returns-3 : tie.Need-returns-3
 unfolding openAnswer openAfter cellsFit slotsFit daysFit readsFit agreedFits countsFit bookFits opened
-returns-3 c = let a = c .before .before .before .before .before .before .before .before .before .before .before .before .before .before .before .before .before .before .before .before .before .before .before .before .before .before .before .before .before .before .before .before .before .before .before .before .before .before .before .before .before .before .before .before .before .before .before .before .before .args in
-    let lent = lentBook (a .values) (a .versions) (a .statuses) (a .holidays) (a .readings) (a .read-versions) (a .agreed) (a .agreed-versions) (a .counts) in
-    let fit : bookFits (a .head) lent ≡ true = sym (c .before .before .before .before .before .before .before .before .before .before .before .before .before .before .before .before .before .before .before .before .before .before .before .before .before .before .before .before .before .before .before .before .before .before .before .before .before .book-fits .ensures) ∙ not-false _ (c .before .before .before .before .before .before .before .before .before .before .before .before .before .before .before .before .before .before .before .before .before .before .before .before .before .before .before .before .before .before .before .before .before .before .before .before .if2 .left) in
+returns-3 c = let a = c .before .before .before .before .before .before .before .before .before .before .before .before .before .before .before .before .before .before .before .before .before .before .before .before .before .before .before .before .before .before .before .before .before .before .before .before .before .before .before .before .before .before .before .before .before .before .before .before .before .before .before .before .before .before .args in
+    let lent = lentBook (a .values) (a .versions) (a .statuses) (a .holidays) (a .readings) (a .read-versions) (a .agreed) (a .agreed-versions) (a .counts) (a .widths) in
+    let fit : bookFits (a .head) lent ≡ true = sym (c .before .before .before .before .before .before .before .before .before .before .before .before .before .before .before .before .before .before .before .before .before .before .before .before .before .before .before .before .before .before .before .before .before .before .before .before .before .before .before .before .before .book-fits .ensures) ∙ not-false _ (c .before .before .before .before .before .before .before .before .before .before .before .before .before .before .before .before .before .before .before .before .before .before .before .before .before .before .before .before .before .before .before .before .before .before .before .before .before .before .before .before .if2 .left) in
     let fits = fits-of (a .head) lent fit in
     let long = lengths-of (a .head) (lent .cells) (fits .0) in
     let zeros : ℕ → List ℕ = λ n. replicate n 0 in
-    rw (sym (c .before .before .before .before .before .before .before .before .before .before .before .before .before .before .before .before .before .before .before .before .before .before .before .before .before .before .before .before .before .before .before .before .before .before .before .before .before .before .before .head-ok .ensures) ∙ not-false _ (c .before .before .before .before .before .before .before .before .before .before .before .before .before .before .before .before .before .before .before .before .before .before .before .before .before .before .before .before .before .before .before .before .before .before .before .before .before .before .if1 .left), fit) (
+    rw (sym (c .before .before .before .before .before .before .before .before .before .before .before .before .before .before .before .before .before .before .before .before .before .before .before .before .before .before .before .before .before .before .before .before .before .before .before .before .before .before .before .before .before .before .before .head-ok .ensures) ∙ not-false _ (c .before .before .before .before .before .before .before .before .before .before .before .before .before .before .before .before .before .before .before .before .before .before .before .before .before .before .before .before .before .before .before .before .before .before .before .before .before .before .before .before .before .before .if1 .left), fit) (
       refl,
       (
-        c .before .before .before .before .before .before .before .before .before .before .before .before .before .before .before .before .before .before .before .before .before .before .before .before .before .before .before .before .before .before .before .before .before .before .clear-words .ensures ∙ ap zeros (long .values),
-        c .before .before .before .before .before .before .before .before .before .before .before .before .before .before .before .before .before .before .before .before .before .before .before .before .before .before .before .before .before .before .clear-words2 .ensures ∙ ap zeros (long .versions),
-        c .before .before .before .before .before .before .before .before .before .before .before .before .before .before .before .before .before .before .before .before .before .before .before .before .before .before .clear-bytes .ensures ∙ ap zeros (long .statuses),
-        c .before .before .before .before .before .before .before .before .before .before .before .before .before .before .before .before .before .before .before .before .before .before .clear-bytes2 .ensures ∙ ap zeros (long .holidays),
-        c .before .before .before .before .before .before .before .before .before .before .before .before .before .before .before .before .before .before .clear-words3 .ensures ∙ ap zeros (long .readings),
-        c .before .before .before .before .before .before .before .before .before .before .before .before .before .before .clear-words4 .ensures ∙ ap zeros (long .readVersions),
-        c .before .before .before .before .before .before .before .before .before .before .clear-words5 .ensures ∙ ap zeros (long .agreed),
-        c .before .before .before .before .before .before .clear-words6 .ensures ∙ ap zeros (long .agreedVersions),
-        c .before .before .clear-counts .ensures ∙ ap zeros (fits .1),
+        c .before .before .before .before .before .before .before .before .before .before .before .before .before .before .before .before .before .before .before .before .before .before .before .before .before .before .before .before .before .before .before .before .before .before .before .before .before .before .clear-words .ensures ∙ ap zeros (long .values),
+        c .before .before .before .before .before .before .before .before .before .before .before .before .before .before .before .before .before .before .before .before .before .before .before .before .before .before .before .before .before .before .before .before .before .before .clear-words2 .ensures ∙ ap zeros (long .versions),
+        c .before .before .before .before .before .before .before .before .before .before .before .before .before .before .before .before .before .before .before .before .before .before .before .before .before .before .before .before .before .before .clear-bytes .ensures ∙ ap zeros (long .statuses),
+        c .before .before .before .before .before .before .before .before .before .before .before .before .before .before .before .before .before .before .before .before .before .before .before .before .before .before .clear-bytes2 .ensures ∙ ap zeros (long .holidays),
+        c .before .before .before .before .before .before .before .before .before .before .before .before .before .before .before .before .before .before .before .before .before .before .clear-words3 .ensures ∙ ap zeros (long .readings),
+        c .before .before .before .before .before .before .before .before .before .before .before .before .before .before .before .before .before .before .clear-words4 .ensures ∙ ap zeros (long .readVersions),
+        c .before .before .before .before .before .before .before .before .before .before .before .before .before .before .clear-words5 .ensures ∙ ap zeros (long .agreed),
+        c .before .before .before .before .before .before .before .before .before .before .clear-words6 .ensures ∙ ap zeros (long .agreedVersions),
+        c .before .before .before .before .before .before .clear-counts .ensures ∙ ap zeros (fits .1),
+        c .before .before .clear-counts2 .ensures ∙ ap zeros (long .widths),
       ),
     )
 
@@ -125,6 +132,7 @@ open-spec =
     clear-words-requires-5
     clear-words-requires-6
     clear-counts-requires
+    clear-counts-requires-2
     same-length
     same-length-2
     same-length-3
@@ -134,4 +142,5 @@ open-spec =
     same-length-7
     same-length-8
     same-length-9
+    same-length-10
     returns-3)

@@ -1,4 +1,4 @@
--- `register`: 1 and 2 are looked for, and the rest is that of a reading, 6.
+-- `register`: 1 and 2 are looked for, and the rest is that of `file_register`.
 use mathlib.Core.Bool.{true, false}
 use mathlib.Core.Path.{_≡_, refl, sym, _∙_}
 use borrow.Author.Tests.{not-true, not-false}
@@ -7,9 +7,9 @@ use Rattle.rules.specs.Opening.{headOk}
 use Rattle.book.specs.Inner.Lent.{lentReads}
 use Rattle.book.specs.Cells.{readsFit}
 use Rattle.book.specs.Filling.{registerAnswer, registerAfter}
-use Rattle.book.specs.Inner.Numbers.{numberAfter}
+use Rattle.book.specs.Inner.Numbers.{readAfter}
 use Rattle.book.proofs.Fits.{long}
-use Rattle.book.proofs.OneNumber.{register-number}
+use Rattle.book.proofs.OneNumber.{register-read}
 use Rattle.book.proofs.register.Statement.{statement}
 use Rattle.book.proofs.register.Tie as tie
 
@@ -18,7 +18,7 @@ head-ok-requires c κs = search needs
 
 returns : tie.Need-returns
 unfolding registerAnswer registerAfter
-returns c = rw (sym (c .before .head-ok .ensures) ∙ not-true _ (c .if1 .taken)) (refl, refl, refl)
+returns c = rw (sym (c .before .head-ok .ensures) ∙ not-true _ (c .if1 .taken)) (refl, (refl, refl, refl))
 
 reads-fit-requires : tie.Need-reads-fit-requires
 reads-fit-requires c κs = search needs
@@ -26,15 +26,15 @@ reads-fit-requires c κs = search needs
 returns-2 : tie.Need-returns-2
 unfolding registerAnswer registerAfter readsFit
 returns-2 c =
-    let a = c .before .before .before .before .before .before .args in
+    let a = c .before .before .before .before .before .before .before .args in
     let ok : headOk (a .head) ≡ true = sym (c .before .before .before .head-ok .ensures) ∙ not-false _ (c .before .before .if1 .left) in
-    let unfit : readsFit (a .head) (lentReads (a .readings) (a .read-versions)) ≡ false = sym (c .before .reads-fit .ensures) ∙ not-true _ (c .if2 .taken) in
-    rw (ok, unfit) (refl, refl, refl)
+    let unfit : readsFit (a .head) (lentReads (a .readings) (a .read-versions) (a .widths)) ≡ false = sym (c .before .reads-fit .ensures) ∙ not-true _ (c .if2 .taken) in
+    rw (ok, unfit) (refl, (refl, refl, refl))
 
-file-number-requires : tie.Need-file-number-requires
-file-number-requires c κs =
-    let fits = long _ _ (sym (c .before .before .before .reads-fit .ensures) ∙ not-false _ (c .before .before .if2 .left)) in
-    fits 1 ∙ sym (fits 0)
+file-register-requires : tie.Need-file-register-requires
+file-register-requires c κs =
+    let fits = long _ _ (sym (c .before .before .before .before .reads-fit .ensures) ∙ not-false _ (c .before .before .before .if2 .left)) in
+    (fits 1 ∙ sym (fits 0), fits 2 ∙ sym (fits 0))
 
 same-length : tie.Need-same-length
 same-length c = search needs
@@ -42,15 +42,18 @@ same-length c = search needs
 same-length-2 : tie.Need-same-length-2
 same-length-2 c = search needs
 
+same-length-3 : tie.Need-same-length-3
+same-length-3 c = search needs
+
 returns-3 : tie.Need-returns-3
-unfolding registerAfter numberAfter readsFit
+unfolding registerAfter readAfter readsFit
 returns-3 c =
-    let b = c .before .before .before .before .before .before .before in
-    let a = b .before .before .before .before .before .before .args in
+    let b = c .before .before .before .before .before .before .before .before .before .before in
+    let a = b .before .before .before .before .before .before .before .args in
     let ok : headOk (a .head) ≡ true = sym (b .before .before .before .head-ok .ensures) ∙ not-false _ (b .before .before .if1 .left) in
-    let fit : readsFit (a .head) (lentReads (a .readings) (a .read-versions)) ≡ true = sym (b .before .reads-fit .ensures) ∙ not-false _ (b .if2 .left) in
-    let e = c .before .before .before .before .file-number .ensures in
-    rw (register-number (a .head) ok (lentReads (a .readings) (a .read-versions)) (a .boundary) (a .version) (a .reading) fit) e
+    let fit : readsFit (a .head) (lentReads (a .readings) (a .read-versions) (a .widths)) ≡ true = sym (b .before .reads-fit .ensures) ∙ not-false _ (b .if2 .left) in
+    let e = c .before .before .before .before .before .before .file-register .ensures in
+    rw (register-read (a .head) ok (lentReads (a .readings) (a .read-versions) (a .widths)) (a .boundary) (a .version) (a .reading) (a .width) fit) e
 
 pub register-spec : {M : Type 1} → statement M
 register-spec =
@@ -60,7 +63,8 @@ register-spec =
     returns
     reads-fit-requires
     returns-2
-    file-number-requires
+    file-register-requires
     same-length
     same-length-2
+    same-length-3
     returns-3)

@@ -1,21 +1,39 @@
--- A call with one number, a reading or an agreed value, in the two lists of its places: the rules from its own arguments, then its cell.
+-- An agreed call and a register read in the lists of their places: the rules from their own arguments, then the cell.
 use mathlib.Core.List.{[], _∷_}
 use Prim.Native.Nat.{ℕ}
 use lib.Dec.{leb, ltb, eqb}
 use lib.ListN.{length, getD}
+use Rattle.rules.specs.Opening.{Agreed}
 use Rattle.book.specs.Answers.{Answer, unless}
 use Rattle.book.specs.Answers.Rule.{rule}
 use Rattle.book.specs.Cells.{Reads}
-use Rattle.book.specs.Filling.{againstBoundary, storedIn}
+use Rattle.book.specs.Filling.{againstBoundary, againstAgreed, storedIn}
 
--- a number over 99,999,999 breaks the rule that is given first
-unfoldable pub numberAnswer : ℕ → Reads → ℕ → ℕ → ℕ → Answer
-numberAnswer over r place version number =
-    unless (rule 3 (leb (length (r .readings)) place) ∷ rule 4 (eqb version 0) ∷ rule over (ltb 99999999 number) ∷ [])
-    (againstBoundary (getD (r .readVersions) place 0) (getD (r .readings) place 0) version number)
+unfoldable pub numberAnswer : Agreed → ℕ → ℕ → ℕ → Answer
+numberAnswer a place version number =
+    unless (rule 3 (leb (length (a .values)) place) ∷ rule 4 (eqb version 0) ∷ rule 12 (ltb 99999999 number) ∷ [])
+    (againstAgreed (getD (a .versions) place 0) (getD (a .values) place 0) version number)
 
-unfoldable pub numberAfter : ℕ → Reads → ℕ → ℕ → ℕ → Reads
-numberAfter over r place version number = record {
-  readings = storedIn (numberAnswer over r place version number) (r .readings) place number;
-  readVersions = storedIn (numberAnswer over r place version number) (r .readVersions) place version;
+unfoldable pub numberAfter : Agreed → ℕ → ℕ → ℕ → Agreed
+numberAfter a place version number = record {
+  values = storedIn (numberAnswer a place version number) (a .values) place number;
+  versions = storedIn (numberAnswer a place version number) (a .versions) place version;
+}
+
+-- a register read, with its width (02, W10)
+unfoldable pub readAnswer : Reads → ℕ → ℕ → ℕ → ℕ → Answer
+readAnswer r boundary version reading width =
+    unless
+    (rule 3 (leb (length (r .readings)) boundary)
+    ∷ rule 4 (eqb version 0)
+    ∷ rule 6 (ltb 99999999 reading)
+    ∷ rule 17 (ltb 9999 width)
+    ∷ [])
+    (againstBoundary (getD (r .readVersions) boundary 0) (getD (r .readings) boundary 0) (getD (r .widths) boundary 0) version reading width)
+
+unfoldable pub readAfter : Reads → ℕ → ℕ → ℕ → ℕ → Reads
+readAfter r boundary version reading width = record {
+  readings = storedIn (readAnswer r boundary version reading width) (r .readings) boundary reading;
+  readVersions = storedIn (readAnswer r boundary version reading width) (r .readVersions) boundary version;
+  widths = storedIn (readAnswer r boundary version reading width) (r .widths) boundary width;
 }

@@ -56,15 +56,18 @@ same-length-6 c = search needs
 same-length-7 : tie.Need-same-length-7
 same-length-7 c = search needs
 
-returns-3 : tie.Need-returns-3
-returns-3 c = let e = c .before .before .before .before .register .ensures in
-    registered _ _ _ _ _ _ _ _ _ _ (c .before .before .before .before .before .before .before .before .call3 .given .1) (e .0) (e .1) (e .2)
-
 same-length-8 : tie.Need-same-length-8
 same-length-8 c = search needs
 
+returns-3 : tie.Need-returns-3
+returns-3 c = let e = c .before .before .before .before .before .before .register .ensures in
+    registered _ _ _ _ _ _ _ _ _ _ _ _ (c .before .before .before .before .before .before .before .before .before .before .before .call3 .given .1) (e .0) (e .1 .0) (e .1 .1) (e .1 .2)
+
 same-length-9 : tie.Need-same-length-9
 same-length-9 c = search needs
+
+same-length-10 : tie.Need-same-length-10
+same-length-10 c = search needs
 
 returns-4 : tie.Need-returns-4
 returns-4 c = let e = c .before .before .before .before .agree .ensures in
@@ -91,7 +94,8 @@ fill-spec =
     returns-2
     same-length-6
     same-length-7
-    returns-3
     same-length-8
+    returns-3
     same-length-9
+    same-length-10
     returns-4)

@@ -19,7 +19,11 @@ returns c = simp (ne-eqb _ _ (rw add-one at (c .if1 .taken)))
 
 returns-2 : tie.Need-returns-2
 unfolding allLong
-returns-2 c = rw (eq-eqb _ _ (rw add-one at (c .if1 .left)), add-one, and-true)
+returns-2 c = simp (eq-eqb _ _ (rw add-one at (c .before .if1 .left)), ne-eqb _ _ (rw add-one at (c .if2 .taken)))
+
+returns-3 : tie.Need-returns-3
+unfolding allLong
+returns-3 c = rw (eq-eqb _ _ (rw add-one at (c .before .if1 .left)), eq-eqb _ _ (rw add-one at (c .if2 .left)), add-one, and-true)
 
 pub reads-fit-spec : {M : Type 1} → statement M
-reads-fit-spec = tie.close (tie.spec cast-n add-n returns returns-2)
+reads-fit-spec = tie.close (tie.spec cast-n add-n returns returns-2 returns-3)

@@ -1,4 +1,4 @@
--- `numbers::file_number`: the first broken rule is given; else the answer is that of `against_number`, and a stored number writes its two cells.
+-- `numbers::file_number`: the first broken rule is given; else the answer is that of `against_agreed`, and a stored number writes its two cells.
 use mathlib.Core.Path.{_≡_, refl, sym, _∙_}
 use Prim.Native.Nat.{_<_, _≤_}
 use native.Mathlib.Omega.{arith}
@@ -6,10 +6,10 @@ use lib.ListN.{length}
 use borrow.Author.Tests.{le-leb, lt-leb, lt-ltb, eq-eqb, ne-eqb}
 use borrow.Author.Needs.{needs}
 use Rattle.book.specs.Answers.{Answer, filedMeant}
-use Rattle.book.specs.Inner.Lent.{lentReads}
+use Rattle.rules.specs.Inner.Lent.{lentAgreed}
 use Rattle.book.specs.Inner.Numbers.{numberAnswer, numberAfter}
 use Rattle.book.proofs.OneNumber.{number-sound}
-use Rattle.book.proofs.filing.against_number.Reads as against-number-reads
+use Rattle.book.proofs.filing.against_agreed.Reads as against-agreed-reads
 use Rattle.book.proofs.filing.is_stored.Reads as is-stored-reads
 use Rattle.book.proofs.numbers.file_number.Reads as reads
 use Rattle.book.proofs.numbers.file_number.Lts as lts
@@ -17,10 +17,10 @@ use Rattle.book.proofs.numbers.file_number.Statement.{statement}
 use Rattle.book.proofs.numbers.file_number.Tie as tie
 
 abbrev claims : lts.Claims
-claims = (against-number-reads.Asked, against-number-reads.Learnt, is-stored-reads.Asked, is-stored-reads.Learnt)
+claims = (against-agreed-reads.Asked, against-agreed-reads.Learnt, is-stored-reads.Asked, is-stored-reads.Learnt)
 
 abbrev whole : lts.Start claims reads.Pre reads.Post → Answer
-whole c = numberAnswer (c .args .over) (lentReads (c .args .numbers) (c .args .versions)) (c .args .place) (c .args .version) (c .args .number)
+whole c = numberAnswer (lentAgreed (c .args .numbers) (c .args .versions)) (c .args .place) (c .args .version) (c .args .number)
 
 -- the place lies in the list
 inside : (c : lts.Else1 claims reads.Pre reads.Post) → c .before .before .before .args .place < length (c .before .before .before .args .numbers .now)
@@ -30,32 +30,32 @@ returns : tie.Need-returns
 unfolding numberAnswer numberAfter
 returns c =
     let beyond : length (c .before .before .before .args .numbers .now) ≤ c .before .before .before .args .place = omega (arith, c .if1 .taken) in
-    rw (le-leb _ _ beyond) (refl, refl, refl)
+    rw (le-leb _ _ beyond) (refl, (refl, refl))
 
 returns-2 : tie.Need-returns-2
 unfolding numberAnswer numberAfter
-returns-2 c = rw (lt-leb _ _ (inside (c .before)), eq-eqb _ _ (c .if2 .taken)) (refl, refl, refl)
+returns-2 c = rw (lt-leb _ _ (inside (c .before)), eq-eqb _ _ (c .if2 .taken)) (refl, (refl, refl))
 
 returns-3 : tie.Need-returns-3
 unfolding numberAnswer numberAfter
 returns-3 c =
     let large : 99999999 < c .before .before .before .before .before .args .number = omega (arith, c .if3 .taken) in
-    rw (lt-leb _ _ (inside (c .before .before)), ne-eqb _ _ (c .before .if2 .left), lt-ltb _ _ large) (refl, refl, refl)
+    rw (lt-leb _ _ (inside (c .before .before)), ne-eqb _ _ (c .before .if2 .left), lt-ltb _ _ large) (refl, (refl, refl))
 
-mul-against-number : tie.Need-mul-against-number
-mul-against-number c = search needs
+mul-against-agreed : tie.Need-mul-against-agreed
+mul-against-agreed c = search needs
 
-slice-read-against-number : tie.Need-slice-read-against-number
-slice-read-against-number c = omega (arith, inside (c .before .before .before))
+slice-read-against-agreed : tie.Need-slice-read-against-agreed
+slice-read-against-agreed c = omega (arith, inside (c .before .before .before))
 
-mul-against-number-2 : tie.Need-mul-against-number-2
-mul-against-number-2 c = search needs
+mul-against-agreed-2 : tie.Need-mul-against-agreed-2
+mul-against-agreed-2 c = search needs
 
-slice-read-against-number-2 : tie.Need-slice-read-against-number-2
-slice-read-against-number-2 c = omega (arith, inside (c .before .before .before .before))
+slice-read-against-agreed-2 : tie.Need-slice-read-against-agreed-2
+slice-read-against-agreed-2 c = omega (arith, inside (c .before .before .before .before))
 
-against-number-requires : tie.Need-against-number-requires
-against-number-requires c κs = search needs
+against-agreed-requires : tie.Need-against-agreed-requires
+against-agreed-requires c κs = search needs
 
 is-stored-requires : tie.Need-is-stored-requires
 is-stored-requires c κs = search needs
@@ -78,19 +78,19 @@ same-length c = search needs
 same-length-2 : tie.Need-same-length-2
 same-length-2 c = search needs
 
--- what `against_number` found is the answer
-found : (c : lts.After-against-number claims reads.Pre reads.Post) → whole (c .before .before .before .before .before .before .before .before) ≡ filedMeant (c .against-number .result)
+-- what `against_agreed` found is the answer
+found : (c : lts.After-against-agreed claims reads.Pre reads.Post) → whole (c .before .before .before .before .before .before .before .before) ≡ filedMeant (c .against-agreed .result)
 found c =
     let small : c .before .before .before .before .before .before .before .before .args .number ≤ 99999999 = omega (arith, c .before .before .before .if3 .left) in
-    number-sound _ _ _ _ _ (inside (c .before .before .before .before .before)) (c .before .before .before .before .if2 .left) small ∙ sym (c .against-number .ensures)
+    number-sound _ _ _ _ (inside (c .before .before .before .before .before)) (c .before .before .before .before .if2 .left) small ∙ sym (c .against-agreed .ensures)
 
 returns-4 : tie.Need-returns-4
 unfolding numberAfter
-returns-4 c = rw (found (c .before .before), sym (c .before .is-stored .ensures) ∙ c .if4 .taken) (refl, refl, refl)
+returns-4 c = rw (found (c .before .before), sym (c .before .is-stored .ensures) ∙ c .if4 .taken) (refl, (refl, refl))
 
 returns-5 : tie.Need-returns-5
 unfolding numberAfter
-returns-5 c = rw (found (c .before .before), sym (c .before .is-stored .ensures) ∙ c .if4 .left) (refl, refl, refl)
+returns-5 c = rw (found (c .before .before), sym (c .before .is-stored .ensures) ∙ c .if4 .left) (refl, (refl, refl))
 
 pub file-number-spec : {M : Type 1} → statement M
 file-number-spec =
@@ -99,11 +99,11 @@ file-number-spec =
     returns
     returns-2
     returns-3
-    mul-against-number
-    slice-read-against-number
-    mul-against-number-2
-    slice-read-against-number-2
-    against-number-requires
+    mul-against-agreed
+    slice-read-against-agreed
+    mul-against-agreed-2
+    slice-read-against-agreed-2
+    against-agreed-requires
     is-stored-requires
     mul-numbers
     slice-write-numbers

@@ -12,16 +12,16 @@ use Rattle.book.proofs.sound.cells_ok.Statement.{statement}
 use Rattle.book.proofs.sound.cells_ok.Tie as tie
 
 bad-slot-requires : tie.Need-bad-slot-requires
-bad-slot-requires c κs = let a = c .before .before .before .before .before .before .before .before .args in
-    let b = cells (slots (a .values .now) (a .versions .now) (a .statuses .now)) (a .holidays .now) (a .readings .now) (a .reads .now) (agreedLists (a .agreed .now) (a .agreed-versions .now)) in
-    let l = lengths-of (a .head) b (c .before .before .before .before .before .before .before .before .pre) in
+bad-slot-requires c κs = let a = c .before .before .before .before .before .before .before .before .before .args in
+    let b = cells (slots (a .values .now) (a .versions .now) (a .statuses .now)) (a .holidays .now) (a .readings .now) (a .reads .now) (agreedLists (a .agreed .now) (a .agreed-versions .now)) (a .widths .now) in
+    let l = lengths-of (a .head) b (c .before .before .before .before .before .before .before .before .before .pre) in
     (l .versions ∙ sym (l .values), l .statuses ∙ sym (l .values))
 
 returns : tie.Need-returns
 unfolding cellsOk
-returns c = let a = c .before .before .before .before .before .before .before .before .before .before .args in
-    let b = cells (slots (a .values .now) (a .versions .now) (a .statuses .now)) (a .holidays .now) (a .readings .now) (a .reads .now) (agreedLists (a .agreed .now) (a .agreed-versions .now)) in
-    let l = lengths-of (a .head) b (c .before .before .before .before .before .before .before .before .before .before .pre) in
+returns c = let a = c .before .before .before .before .before .before .before .before .before .before .before .args in
+    let b = cells (slots (a .values .now) (a .versions .now) (a .statuses .now)) (a .holidays .now) (a .readings .now) (a .reads .now) (agreedLists (a .agreed .now) (a .agreed-versions .now)) (a .widths .now) in
+    let l = lengths-of (a .head) b (c .before .before .before .before .before .before .before .before .before .before .before .pre) in
     let s : any (slotFaultAt (b .slots)) 0 (slotCount (a .head)) ≡ true = rw (l .values) at (sym (c .before .bad-slot .ensures) ∙ c .if1 .taken) in
     rw s
 
@@ -30,44 +30,44 @@ bad-day-requires c κs = search needs
 
 returns-2 : tie.Need-returns-2
 unfolding cellsOk
-returns-2 c = let a = c .before .before .before .before .before .before .before .before .before .before .before .before .args in
-    let b = cells (slots (a .values .now) (a .versions .now) (a .statuses .now)) (a .holidays .now) (a .readings .now) (a .reads .now) (agreedLists (a .agreed .now) (a .agreed-versions .now)) in
-    let l = lengths-of (a .head) b (c .before .before .before .before .before .before .before .before .before .before .before .before .pre) in
+returns-2 c = let a = c .before .before .before .before .before .before .before .before .before .before .before .before .before .args in
+    let b = cells (slots (a .values .now) (a .versions .now) (a .statuses .now)) (a .holidays .now) (a .readings .now) (a .reads .now) (agreedLists (a .agreed .now) (a .agreed-versions .now)) (a .widths .now) in
+    let l = lengths-of (a .head) b (c .before .before .before .before .before .before .before .before .before .before .before .before .before .pre) in
     let s : any (slotFaultAt (b .slots)) 0 (slotCount (a .head)) ≡ false = rw (l .values) at (sym (c .before .before .before .bad-slot .ensures) ∙ c .before .before .if1 .left) in
     let d : any (dayFaultAt (b .holidays)) 0 (a .head .days) ≡ true = rw (l .holidays) at (sym (c .before .bad-day .ensures) ∙ c .if2 .taken) in
     rw (s, d)
 
-bad-number-requires : tie.Need-bad-number-requires
-bad-number-requires c κs = let a = c .before .before .before .before .before .before .before .before .before .before .before .before .args in
-    let b = cells (slots (a .values .now) (a .versions .now) (a .statuses .now)) (a .holidays .now) (a .readings .now) (a .reads .now) (agreedLists (a .agreed .now) (a .agreed-versions .now)) in
-    let l = lengths-of (a .head) b (c .before .before .before .before .before .before .before .before .before .before .before .before .pre) in
-    l .readVersions ∙ sym (l .readings)
+bad-read-requires : tie.Need-bad-read-requires
+bad-read-requires c κs = let a = c .before .before .before .before .before .before .before .before .before .before .before .before .before .args in
+    let b = cells (slots (a .values .now) (a .versions .now) (a .statuses .now)) (a .holidays .now) (a .readings .now) (a .reads .now) (agreedLists (a .agreed .now) (a .agreed-versions .now)) (a .widths .now) in
+    let l = lengths-of (a .head) b (c .before .before .before .before .before .before .before .before .before .before .before .before .before .pre) in
+    (l .readVersions ∙ sym (l .readings), l .widths ∙ sym (l .readings))
 
 returns-3 : tie.Need-returns-3
 unfolding cellsOk
-returns-3 c = let a = c .before .before .before .before .before .before .before .before .before .before .before .before .before .before .args in
-    let b = cells (slots (a .values .now) (a .versions .now) (a .statuses .now)) (a .holidays .now) (a .readings .now) (a .reads .now) (agreedLists (a .agreed .now) (a .agreed-versions .now)) in
-    let l = lengths-of (a .head) b (c .before .before .before .before .before .before .before .before .before .before .before .before .before .before .pre) in
+returns-3 c = let a = c .before .before .before .before .before .before .before .before .before .before .before .before .before .before .before .args in
+    let b = cells (slots (a .values .now) (a .versions .now) (a .statuses .now)) (a .holidays .now) (a .readings .now) (a .reads .now) (agreedLists (a .agreed .now) (a .agreed-versions .now)) (a .widths .now) in
+    let l = lengths-of (a .head) b (c .before .before .before .before .before .before .before .before .before .before .before .before .before .before .before .pre) in
     let s : any (slotFaultAt (b .slots)) 0 (slotCount (a .head)) ≡ false = rw (l .values) at (sym (c .before .before .before .before .before .bad-slot .ensures) ∙ c .before .before .before .before .if1 .left) in
     let d : any (dayFaultAt (b .holidays)) 0 (a .head .days) ≡ false = rw (l .holidays) at (sym (c .before .before .before .bad-day .ensures) ∙ c .before .before .if2 .left) in
-    let r : any (readFaultAt (readsOf b)) 0 (suc (a .head .days)) ≡ true = rw (l .readings) at (sym (c .before .bad-number .ensures) ∙ c .if3 .taken) in
+    let r : any (readFaultAt (readsOf b)) 0 (suc (a .head .days)) ≡ true = rw (l .readings) at (sym (c .before .bad-read .ensures) ∙ c .if3 .taken) in
     rw (s, d, r)
 
-bad-number-requires-2 : tie.Need-bad-number-requires-2
-bad-number-requires-2 c κs = let a = c .before .before .before .before .before .before .before .before .before .before .before .before .before .before .args in
-    let b = cells (slots (a .values .now) (a .versions .now) (a .statuses .now)) (a .holidays .now) (a .readings .now) (a .reads .now) (agreedLists (a .agreed .now) (a .agreed-versions .now)) in
-    let l = lengths-of (a .head) b (c .before .before .before .before .before .before .before .before .before .before .before .before .before .before .pre) in
+bad-agreed-requires : tie.Need-bad-agreed-requires
+bad-agreed-requires c κs = let a = c .before .before .before .before .before .before .before .before .before .before .before .before .before .before .before .args in
+    let b = cells (slots (a .values .now) (a .versions .now) (a .statuses .now)) (a .holidays .now) (a .readings .now) (a .reads .now) (agreedLists (a .agreed .now) (a .agreed-versions .now)) (a .widths .now) in
+    let l = lengths-of (a .head) b (c .before .before .before .before .before .before .before .before .before .before .before .before .before .before .before .pre) in
     l .agreedVersions ∙ sym (l .agreed)
 
 returns-4 : tie.Need-returns-4
 unfolding cellsOk
-returns-4 c = let a = c .before .before .before .before .before .before .before .before .before .before .before .before .before .before .before .args in
-    let b = cells (slots (a .values .now) (a .versions .now) (a .statuses .now)) (a .holidays .now) (a .readings .now) (a .reads .now) (agreedLists (a .agreed .now) (a .agreed-versions .now)) in
-    let l = lengths-of (a .head) b (c .before .before .before .before .before .before .before .before .before .before .before .before .before .before .before .pre) in
+returns-4 c = let a = c .before .before .before .before .before .before .before .before .before .before .before .before .before .before .before .before .args in
+    let b = cells (slots (a .values .now) (a .versions .now) (a .statuses .now)) (a .holidays .now) (a .readings .now) (a .reads .now) (agreedLists (a .agreed .now) (a .agreed-versions .now)) (a .widths .now) in
+    let l = lengths-of (a .head) b (c .before .before .before .before .before .before .before .before .before .before .before .before .before .before .before .before .pre) in
     let s : any (slotFaultAt (b .slots)) 0 (slotCount (a .head)) ≡ false = rw (l .values) at (sym (c .before .before .before .before .before .before .bad-slot .ensures) ∙ c .before .before .before .before .before .if1 .left) in
     let d : any (dayFaultAt (b .holidays)) 0 (a .head .days) ≡ false = rw (l .holidays) at (sym (c .before .before .before .before .bad-day .ensures) ∙ c .before .before .before .if2 .left) in
-    let r : any (readFaultAt (readsOf b)) 0 (suc (a .head .days)) ≡ false = rw (l .readings) at (sym (c .before .before .bad-number .ensures) ∙ c .before .if3 .left) in
-    let g : any (agreedFaultAt (b .agreed)) 0 (slotCount (a .head)) ≡ c .bad-number2 .result = rw (l .agreed) at (sym (c .bad-number2 .ensures)) in
+    let r : any (readFaultAt (readsOf b)) 0 (suc (a .head .days)) ≡ false = rw (l .readings) at (sym (c .before .before .bad-read .ensures) ∙ c .before .if3 .left) in
+    let g : any (agreedFaultAt (b .agreed)) 0 (slotCount (a .head)) ≡ c .bad-agreed .result = rw (l .agreed) at (sym (c .bad-agreed .ensures)) in
     rw (s, d, r, g, and-true)
 
 pub cells-ok-spec : {M : Type 1} → statement M
@@ -78,7 +78,7 @@ cells-ok-spec =
     returns
     bad-day-requires
     returns-2
-    bad-number-requires
+    bad-read-requires
     returns-3
-    bad-number-requires-2
+    bad-agreed-requires
     returns-4)

@@ -1,0 +1,70 @@
+-- `sound::bad_agreed`. No agreed slot passed has a cell that no calls could leave.
+use borrow.Author.Needs.{needs}
+use mathlib.Core.Bool.{false}
+use mathlib.Core.Path.{_≡_, sym, _∙_}
+use Prim.Native.Nat.{_≤_, _-_, zero-le}
+use native.Mathlib.Omega.{arith}
+use lib.ListN.{length}
+use Rattle.rules.specs.Lists.{any}
+use Rattle.book.specs.Cells.{agreedFaultAt}
+use Rattle.rules.proofs.Looked.{none-yet, none-on, one-found}
+use Rattle.book.proofs.sound.bad_agreed.Statement.{statement}
+use Rattle.book.proofs.sound.bad_agreed.Tie as tie
+
+abbrev Inv-loop : tie.InvT-loop
+Inv-loop values versions i₀ i = (i ≤ length values) × (any (agreedFaultAt (record { values = values; versions = versions })) 0 i ≡ false)
+
+abbrev μ-loop : tie.MeasureT-loop
+μ-loop values versions i₀ i = length values - i
+
+loop-holds : tie.Need-loop-holds Inv-loop μ-loop
+loop-holds c = (zero-le, none-yet (agreedFaultAt (record { values = c .before .before .args .values .now; versions = c .before .before .args .versions .now })))
+
+mul-number-fault : tie.Need-mul-number-fault Inv-loop μ-loop
+mul-number-fault c = search needs
+
+shared-slice-read-number-fault : tie.Need-shared-slice-read-number-fault Inv-loop μ-loop
+shared-slice-read-number-fault c = omega arith
+
+mul-number-fault-2 : tie.Need-mul-number-fault-2 Inv-loop μ-loop
+mul-number-fault-2 c = search needs
+
+shared-slice-read-number-fault-2 : tie.Need-shared-slice-read-number-fault-2 Inv-loop μ-loop
+shared-slice-read-number-fault-2 c = omega arith
+
+number-fault-requires : tie.Need-number-fault-requires Inv-loop μ-loop
+number-fault-requires c κs = search needs
+
+returns : tie.Need-returns Inv-loop μ-loop
+returns c = sym (one-found (agreedFaultAt (record { values = c .before .before .before .before .before .before .before .before .args .values .now; versions = c .before .before .before .before .before .before .before .before .args .versions .now })) (c .before .before .before .before .before .loop .i) (length (c .before .before .before .before .before .before .before .before .args .values .now)) (c .before .before .before .before .loop-test .taken) (sym (c .before .number-fault .ensures) ∙ c .if1 .taken))
+
+add-i : tie.Need-add-i Inv-loop μ-loop
+add-i c = omega arith
+
+loop-less : tie.Need-loop-less Inv-loop μ-loop
+loop-less c = omega arith
+
+loop-again : tie.Need-loop-again Inv-loop μ-loop
+loop-again c = (omega arith, none-on (agreedFaultAt (record { values = c .before .before .before .before .before .before .before .before .args .values .now; versions = c .before .before .before .before .before .before .before .before .args .versions .now })) (c .before .before .before .before .before .loop .i) (c .before .before .before .before .before .loop .inv .1) (sym (c .before .number-fault .ensures) ∙ c .if1 .left))
+
+returns-2 : tie.Need-returns-2 Inv-loop μ-loop
+returns-2 c = let e : c .before .loop .i ≡ length (c .before .before .before .before .args .values .now) = omega arith in
+    sym (rw e at (c .before .loop .inv .1))
+
+pub bad-agreed-spec : {M : Type 1} → statement M
+bad-agreed-spec =
+    tie.close
+    (tie.spec
+    Inv-loop
+    μ-loop
+    loop-holds
+    mul-number-fault
+    shared-slice-read-number-fault
+    mul-number-fault-2
+    shared-slice-read-number-fault-2
+    number-fault-requires
+    returns
+    add-i
+    loop-less
+    loop-again
+    returns-2)
