@@ -14,7 +14,7 @@ use Rattle.rules.specs.declared.Span.{Span}
 use Rattle.rules.specs.Lists.{sum, any, every}
 use Rattle.rules.specs.Opening.{Cells, slotsPerDay}
 use Rattle.rules.specs.Spans.{isS, isN, isScaled, start, slotsIn, spanOf, noSpan, outcomeAt, spans}
-use Rattle.rules.specs.Inner.Lent.{AgreedLow}
+use Rattle.rules.specs.Inner.Lent.{AgreedLow, WidthsLow}
 use Rattle.rules.proofs.Bounds.{Bounded}
 use Rattle.rules.proofs.Forms.{Form}
 use Rattle.rules.proofs.Forms.Filled.{delivered, agreed, outage, linear, sameDay, nothing}
@@ -76,7 +76,7 @@ bookTables h b = record {
   span = λ j. spanRecord (getD (spans h b) j noSpan);
 }
 
-module _ (h : Head) (bounds : Bounded h) (b : Cells) where
+module _ (h : Head) (bounds : Bounded h) (b : Cells) (narrow : WidthsLow (b .widths)) where
   abbrev t : Tables
   t = bookTables h b
 
@@ -99,7 +99,7 @@ module _ (h : Head) (bounds : Bounded h) (b : Cells) where
           le-leb _ _ (here .within),
           follows j l,
           le-leb _ _ (range-ordered h bounds b s here),
-          le-leb _ _ (range-low h bounds b s here),
+          le-leb _ _ (range-low h bounds b s here narrow),
           le-leb _ _ state-fits,
         )
       where

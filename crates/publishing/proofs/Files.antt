@@ -25,7 +25,7 @@ use Rattle.file.proofs.Agree.{Agree, tables-agree}
 use Rattle.file.proofs.Fitting.{fitting}
 use Rattle.file.proofs.Accepted.{accepted, tables-back}
 use Rattle.publishing.proofs.Booked.{bookTables, book-ok}
-use Rattle.publishing.proofs.Publishing.{agreed-low}
+use Rattle.publishing.proofs.Publishing.{agreed-low, widths-low}
 
 module _ (h : Head) (b : Cells) where
   slots-own : length (published h b .slots) ≡ slotCount h
@@ -55,8 +55,8 @@ module _ (h : Head) (b : Cells) where
     well-formed = record {
       head = head-own;
       slots = slots-own;
-      values = λ i l. rw (slot-own i (rw slots-own at l)) (omega (arith, outcome-fits h (bounded h ok) b (agreed-low h b s) i));
-      tables = tables-agree (recordsOf (published h b)) (bookTables h b) agree (book-ok h (bounded h ok) b (agreed-low h b s));
+      values = λ i l. rw (slot-own i (rw slots-own at l)) (omega (arith, outcome-fits h (bounded h ok) b (agreed-low h b s) i (widths-low h b s)));
+      tables = tables-agree (recordsOf (published h b)) (bookTables h b) agree (book-ok h (bounded h ok) b (widths-low h b s) (agreed-low h b s));
       known = unfold layoutOk in refl;
       fits = unfold layoutFits in refl;
       exact = λ e. absurd (false≢true (sym e));

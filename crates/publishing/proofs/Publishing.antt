@@ -1,5 +1,5 @@
 -- What publishing knows once it refuses nothing.
-use mathlib.Core.Bool.{Bool, true, false, not, false≢true}
+use mathlib.Core.Bool.{Bool, true, false, not, _||_, false≢true}
 use mathlib.Core.Logic.{⊎-elim}
 use mathlib.Core.List.{List, [], _∷_, _++_}
 use mathlib.Core.Path.{_≡_, refl, sym, _∙_}
@@ -13,14 +13,14 @@ use Rattle.rules.specs.declared.Head.{Head}
 use Rattle.rules.specs.Lists.{any}
 use Rattle.rules.specs.Opening.{Cells, headOk, slotCount}
 use Rattle.rules.specs.Spans.{outcomeAt, outcomes, spans}
-use Rattle.rules.specs.Inner.Lent.{AgreedLow, Whole}
+use Rattle.rules.specs.Inner.Lent.{AgreedLow, WidthsLow, Whole}
 use Rattle.rules.specs.Inner.Stretches.{readCount}
 use Rattle.rules.proofs.Bounds.{bounded}
 use Rattle.rules.proofs.Counts.{span-count}
 use Rattle.rules.proofs.Logic.{passed, either}
 use Rattle.rules.proofs.Neighbours.{spans-few}
 use Rattle.rules.proofs.Sums.{any-some}
-use Rattle.book.specs.Cells.{slotFaultAt, dayFaultAt, readFault, readFaultAt, agreedFaultAt, readsOf, cellsOk, Book, bookFits, bookOk}
+use Rattle.book.specs.Cells.{slotFaultAt, dayFaultAt, numberFault, readFault, readFaultAt, agreedFaultAt, readsOf, cellsOk, Book, bookFits, bookOk}
 use Rattle.book.proofs.Fits.{lengths-of}
 use Rattle.publishing.specs.Publishing.{published, fileLength, publishAnswer, publishAfter}
 use Rattle.publishing.specs.declared.Published.{Published}
@@ -29,27 +29,29 @@ use Rattle.file.specs.Layout.{fileOf}
 use Rattle.publishing.specs.Inner.Publishing.{Sound, Put, Left}
 use Rattle.rules.proofs.Lists.{length-upTo}
 
-module _ (version number : ℕ) where
-  -- a reading or an agreed value that is no fault has eight digits
-  number-low : readFault version number ≡ false → number < 100000000
-  unfolding readFault
-  number-low e = ⊎-elim (λ t. absurd (false≢true (sym e ∙ (rw t)))) (λ t. omega (arith, ltb-false 99999999 number t)) (either (ltb 99999999 number))
+-- a number that is no fault is within its limit
+number-low : (limit version number : ℕ) → numberFault limit version number ≡ false → number ≤ limit
+unfolding numberFault
+number-low limit version number e =
+    ⊎-elim (λ t. absurd (false≢true (sym e ∙ (rw t)))) (λ t. ltb-false limit number t) (either (ltb limit number))
 
--- such numbers at the first n places of a list are such at every place, where it is n long
-module _ (versions numbers : List ℕ) (n : ℕ) (long : length numbers ≡ n) where
-  abbrev faultAt : ℕ → Bool
-  faultAt i = readFault (getD versions i 0) (getD numbers i 0)
+-- a read that is no fault has neither
+neither : (a b : Bool) → (a || b) ≡ false → (a ≡ false) × (b ≡ false)
+neither true b e = absurd (false≢true (sym e))
+neither false b e = (refl, e)
 
-  all-low : any faultAt 0 n ≡ false → (i : ℕ) → getD numbers i 0 < 100000000
+-- numbers within a limit at the first n places of a list are so at every place, where it is n long
+module _ (numbers : List ℕ) (n limit : ℕ) (long : length numbers ≡ n) (faultAt : ℕ → Bool) (low : (i : ℕ) → faultAt i ≡ false → getD numbers i 0 ≤ limit) where
+  all-low : any faultAt 0 n ≡ false → (i : ℕ) → getD numbers i 0 ≤ limit
   all-low none i =
       ⊎-elim inside
-      (λ t. rw (List·getD-eq-default numbers 0 {n = i} (omega (arith, long, ltb-false i n t))) (omega arith))
+      (λ t. rw (List·getD-eq-default numbers 0 {n = i} (omega (arith, long, ltb-false i n t))) zero-le)
       (either (ltb i n))
     where
-      inside : ltb i n ≡ true → getD numbers i 0 < 100000000
+      inside : ltb i n ≡ true → getD numbers i 0 ≤ limit
       inside t =
           ⊎-elim (λ bad. absurd (false≢true (sym none ∙ any-some faultAt 0 n i zero-le (rw zero-add (ltb-true i n t)) bad)))
-          (number-low (getD versions i 0) (getD numbers i 0)) (either (faultAt i))
+          (low i) (either (faultAt i))
 
 module _ (h : Head) (b : Cells) (s : Sound h b) where
   abbrev cellTests : List Bool
@@ -57,15 +59,33 @@ module _ (h : Head) (b : Cells) (s : Sound h b) where
       not (any (slotFaultAt (b .slots)) 0 (slotCount h)) ∷ not (any (dayFaultAt (b .holidays)) 0 (h .days))
       ∷ not (any (readFaultAt (readsOf b)) 0 (suc (h .days))) ∷ not (any (agreedFaultAt (b .agreed)) 0 (slotCount h)) ∷ []
 
+  read-clean : (i : ℕ) → readFaultAt (readsOf b) i ≡ false
+      → (numberFault 99999999 (getD (b .readVersions) i 0) (getD (b .readings) i 0) ≡ false)
+      × (numberFault 9999 (getD (b .readVersions) i 0) (getD (b .widths) i 0) ≡ false)
+  unfolding readFault
+  read-clean i e = neither _ _ e
+
   readings-low : (d : ℕ) → getD (b .readings) d 0 < 100000000
   unfolding cellsOk
-  readings-low =
-      all-low (b .readVersions) (b .readings) (suc (h .days)) (lengths-of h b (s .fit) .readings) (not-true _ (passed cellTests (s .cells) 2))
+  readings-low d =
+      let le =
+      all-low (b .readings) (suc (h .days)) 99999999 (lengths-of h b (s .fit) .readings) (readFaultAt (readsOf b))
+      (λ i e. number-low 99999999 (getD (b .readVersions) i 0) (getD (b .readings) i 0) (read-clean i e .0)) (not-true _ (passed cellTests (s .cells) 2)) d in
+      omega arith
+
+  pub widths-low : WidthsLow (b .widths)
+  unfolding cellsOk
+  widths-low =
+      all-low (b .widths) (suc (h .days)) 9999 (lengths-of h b (s .fit) .widths) (readFaultAt (readsOf b))
+      (λ i e. number-low 9999 (getD (b .readVersions) i 0) (getD (b .widths) i 0) (read-clean i e .1)) (not-true _ (passed cellTests (s .cells) 2))
 
   pub agreed-low : AgreedLow (b .agreed)
   unfolding cellsOk
-  agreed-low =
-      all-low (b .agreed .versions) (b .agreed .values) (slotCount h) (lengths-of h b (s .fit) .agreed) (not-true _ (passed cellTests (s .cells) 3))
+  agreed-low i =
+      let le =
+      all-low (b .agreed .values) (slotCount h) 99999999 (lengths-of h b (s .fit) .agreed) (agreedFaultAt (b .agreed))
+      (λ j e. number-low 99999999 (getD (b .agreed .versions) j 0) (getD (b .agreed .values) j 0) e) (not-true _ (passed cellTests (s .cells) 3)) i in
+      omega arith
 
   pub whole-of : Whole h b
   whole-of =
@@ -75,6 +95,7 @@ module _ (h : Head) (b : Cells) (s : Sound h b) where
         dialled = record { length = l .readings; low = readings-low };
         readVersions = l .readVersions;
         settled = record { values = l .agreed; versions = l .agreedVersions; low = agreed-low };
+        widths = record { length = l .widths; low = widths-low };
       }
 
   -- the spans and the length as publishing computes them

@@ -16,7 +16,7 @@ use Rattle.rules.specs.declared.stretch.Begins.{Begins}
 use Rattle.rules.specs.Lists.{sum}
 use Rattle.rules.specs.Opening.{Cells, firstDay, slotCount}
 use Rattle.rules.specs.Spans.{isA, isS, isF, isN, outcomeAt, upTo, outcomes, spans}
-use Rattle.rules.specs.Inner.Lent.{AgreedLow}
+use Rattle.rules.specs.Inner.Lent.{AgreedLow, WidthsLow}
 use Rattle.rules.specs.Inner.Fills.{fillsAt}
 use Rattle.rules.specs.Inner.Stretches.{beginsAt}
 use Rattle.rules.specs.Inner.Passes.{passAt, listOf, begunBefore}
@@ -68,10 +68,10 @@ module _ (h : Head) (b : Cells) (i : ℕ) where
   pub count-low : (q : Quality → Bool) → total (one q) (firstSlots h b i) ≤ i * 1
   count-low q = rw (total-sum (one q) (outcomeAt h b) 0 i) (sum-small (λ j. one q (outcomeAt h b j)) 1 (λ j. one-low q (outcomeAt h b j)) 0 i)
 
-  pub sum-low : Bounded h → AgreedLow (b .agreed) → total (λ o. o .value) (firstSlots h b i) ≤ i * 100000000
-  sum-low w low =
+  pub sum-low : Bounded h → AgreedLow (b .agreed) → WidthsLow (b .widths) → total (λ o. o .value) (firstSlots h b i) ≤ i * 100000000
+  sum-low w low narrow =
       rw (total-sum (λ o. o .value) (outcomeAt h b) 0 i)
-      (sum-small (λ j. outcomeAt h b j .value) 100000000 (λ j. omega (arith, outcome-fits h w b low j)) 0 i)
+      (sum-small (λ j. outcomeAt h b j .value) 100000000 (λ j. omega (arith, outcome-fits h w b low j narrow)) 0 i)
 
 -- `publish::add` goes by the slot's quality
 module _ (t : Totals) (o : Outcome) where

@@ -39,11 +39,12 @@ fn put_file(
     reads: &[u32],
     agreed: &[u32],
     agreed_versions: &[u32],
+    widths: &[u16],
     out: &mut [u8],
     spans: usize,
 )
-    requires { ⌜ Roomy head (lentCells values versions statuses holidays readings reads agreed «agreed_versions») (now out) × (spans ≡ length (spansOf head (lentCells values versions statuses holidays readings reads agreed «agreed_versions»))) ⌝ }
-    ensures { λ _. ⌜ now (out .exit) ≡ fileOf (published head (lentCells (values .entry) (versions .entry) (statuses .entry) (holidays .entry) (readings .entry) (reads .entry) (agreed .entry) («agreed_versions» .entry))) ++ drop (fileLength head (lentCells (values .entry) (versions .entry) (statuses .entry) (holidays .entry) (readings .entry) (reads .entry) (agreed .entry) («agreed_versions» .entry))) (now (out .entry)) ⌝ }
+    requires { ⌜ Roomy head (lentCells values versions statuses holidays readings reads agreed «agreed_versions» widths) (now out) × (spans ≡ length (spansOf head (lentCells values versions statuses holidays readings reads agreed «agreed_versions» widths))) ⌝ }
+    ensures { λ _. ⌜ now (out .exit) ≡ fileOf (published head (lentCells (values .entry) (versions .entry) (statuses .entry) (holidays .entry) (readings .entry) (reads .entry) (agreed .entry) («agreed_versions» .entry) (widths .entry))) ++ drop (fileLength head (lentCells (values .entry) (versions .entry) (statuses .entry) (holidays .entry) (readings .entry) (reads .entry) (agreed .entry) («agreed_versions» .entry) (widths .entry))) (now (out .entry)) ⌝ }
 {
     let table = 6 * opening::slot_count(head);
     let found = tables::put_tables(
@@ -56,6 +57,7 @@ fn put_file(
         reads,
         agreed,
         agreed_versions,
+        widths,
         out,
         table,
     );
@@ -92,10 +94,11 @@ fn put_sound(
     reads: &[u32],
     agreed: &[u32],
     agreed_versions: &[u32],
+    widths: &[u16],
     out: &mut [u8],
 ) -> Published
-    requires { ⌜ Sound head (lentCells values versions statuses holidays readings reads agreed «agreed_versions») ⌝ }
-    ensures { λ r. ⌜ Put head (lentCells (values .entry) (versions .entry) (statuses .entry) (holidays .entry) (readings .entry) (reads .entry) (agreed .entry) («agreed_versions» .entry)) (now (out .entry)) r (now (out .exit)) ⌝ }
+    requires { ⌜ Sound head (lentCells values versions statuses holidays readings reads agreed «agreed_versions» widths) ⌝ }
+    ensures { λ r. ⌜ Put head (lentCells (values .entry) (versions .entry) (statuses .entry) (holidays .entry) (readings .entry) (reads .entry) (agreed .entry) («agreed_versions» .entry) (widths .entry)) (now (out .entry)) r (now (out .exit)) ⌝ }
 {
     let spans = readings::span_count(reads);
     let length = length_of(head, spans);
@@ -112,13 +115,14 @@ fn put_sound(
         reads,
         agreed,
         agreed_versions,
+        widths,
         out,
         spans,
     );
     Published::Length(length)
 }
 
-// The nine lists have the lengths that the head asks.
+// The ten lists have the lengths that the head asks.
 fn lists_fit(
     head: Head,
     values: &[u32],
@@ -130,9 +134,10 @@ fn lists_fit(
     agreed: &[u32],
     agreed_versions: &[u32],
     counts: &[u16],
+    widths: &[u16],
 ) -> bool
     requires { ⌜ headOk head ≡ true ⌝ }
-    ensures { λ r. ⌜ r ≡ bookFits head (lentBook (values .entry) (versions .entry) (statuses .entry) (holidays .entry) (readings .entry) (reads .entry) (agreed .entry) («agreed_versions» .entry) (counts .entry)) ⌝ }
+    ensures { λ r. ⌜ r ≡ bookFits head (lentBook (values .entry) (versions .entry) (statuses .entry) (holidays .entry) (readings .entry) (reads .entry) (agreed .entry) («agreed_versions» .entry) (counts .entry) (widths .entry)) ⌝ }
 {
     lengths::book_fits(
         head,
@@ -145,6 +150,7 @@ fn lists_fit(
         agreed.len(),
         agreed_versions.len(),
         counts.len(),
+        widths.len(),
     )
 }
 
@@ -160,10 +166,11 @@ fn put_fitted(
     agreed: &[u32],
     agreed_versions: &[u32],
     counts: &[u16],
+    widths: &[u16],
     out: &mut [u8],
 ) -> Published
-    requires { ⌜ (headOk head ≡ true) × (bookFits head (lentBook values versions statuses holidays readings reads agreed «agreed_versions» counts) ≡ true) ⌝ }
-    ensures { λ r. ⌜ Left head (lentBook (values .entry) (versions .entry) (statuses .entry) (holidays .entry) (readings .entry) (reads .entry) (agreed .entry) («agreed_versions» .entry) (counts .entry)) (now (out .entry)) r (now (out .exit)) ⌝ }
+    requires { ⌜ (headOk head ≡ true) × (bookFits head (lentBook values versions statuses holidays readings reads agreed «agreed_versions» counts widths) ≡ true) ⌝ }
+    ensures { λ r. ⌜ Left head (lentBook (values .entry) (versions .entry) (statuses .entry) (holidays .entry) (readings .entry) (reads .entry) (agreed .entry) («agreed_versions» .entry) (counts .entry) (widths .entry)) (now (out .entry)) r (now (out .exit)) ⌝ }
 {
     if !sound::book_ok(
         head,
@@ -176,6 +183,7 @@ fn put_fitted(
         agreed,
         agreed_versions,
         counts,
+        widths,
     ) {
         return Published::Refused(11);
     }
@@ -189,6 +197,7 @@ fn put_fitted(
         reads,
         agreed,
         agreed_versions,
+        widths,
         out,
     )
 }
@@ -205,11 +214,12 @@ pub fn publish(
     agreed: &[u32],
     agreed_versions: &[u32],
     counts: &[u16],
+    widths: &[u16],
     out: &mut [u8],
 ) -> Published
     ensures { λ r. ⌜
         (let book =
-        lentBook (values .entry) (versions .entry) (statuses .entry) (holidays .entry) (readings .entry) (reads .entry) (agreed .entry) («agreed_versions» .entry) (counts .entry) in
+        lentBook (values .entry) (versions .entry) (statuses .entry) (holidays .entry) (readings .entry) (reads .entry) (agreed .entry) («agreed_versions» .entry) (counts .entry) (widths .entry) in
         (r ≡ publishAnswer head book (now (out .entry)))
         × (now (out .exit) ≡ publishAfter head book (now (out .entry))))
         ⌝ }
@@ -228,6 +238,7 @@ pub fn publish(
         agreed,
         agreed_versions,
         counts,
+        widths,
     ) {
         return Published::Refused(2);
     }
@@ -242,6 +253,7 @@ pub fn publish(
         agreed,
         agreed_versions,
         counts,
+        widths,
         out,
     )
 }

@@ -117,12 +117,13 @@ fn put_next(
     reads: &[u32],
     agreed: &[u32],
     agreed_versions: &[u32],
+    widths: &[u16],
     out: &mut [u8],
     table: usize,
     here: Progress,
 ) -> Progress
-    requires { ⌜ Next head (lentCells values versions statuses holidays readings reads agreed «agreed_versions») (now out) table here ⌝ }
-    ensures { λ r. ⌜ PutNext head (lentCells (values .entry) (versions .entry) (statuses .entry) (holidays .entry) (readings .entry) (reads .entry) (agreed .entry) («agreed_versions» .entry)) (now (out .entry)) (now (out .exit)) here r ⌝ }
+    requires { ⌜ Next head (lentCells values versions statuses holidays readings reads agreed «agreed_versions» widths) (now out) table here ⌝ }
+    ensures { λ r. ⌜ PutNext head (lentCells (values .entry) (versions .entry) (statuses .entry) (holidays .entry) (readings .entry) (reads .entry) (agreed .entry) («agreed_versions» .entry) (widths .entry)) (now (out .entry)) (now (out .exit)) here r ⌝ }
 {
     let pass = here.pass;
     let at = pass.fills.at;
@@ -136,6 +137,7 @@ fn put_next(
         reads,
         agreed,
         agreed_versions,
+        widths,
         pass,
     );
     let slot = stepped.outcome;
@@ -162,11 +164,12 @@ pub fn put_tables(
     reads: &[u32],
     agreed: &[u32],
     agreed_versions: &[u32],
+    widths: &[u16],
     out: &mut [u8],
     table: usize,
 ) -> Totals
-    requires { ⌜ Roomy head (lentCells values versions statuses holidays readings reads agreed «agreed_versions») (now out) × (table ≡ 6 * slotCount head) ⌝ }
-    ensures { λ r. ⌜ (r ≡ totalsOf (outcomes head (lentCells (values .entry) (versions .entry) (statuses .entry) (holidays .entry) (readings .entry) (reads .entry) (agreed .entry) («agreed_versions» .entry)))) × (now (out .exit) ≡ bufferAt head (lentCells (values .entry) (versions .entry) (statuses .entry) (holidays .entry) (readings .entry) (reads .entry) (agreed .entry) («agreed_versions» .entry)) (now (out .entry)) (slotCount head)) ⌝ }
+    requires { ⌜ Roomy head (lentCells values versions statuses holidays readings reads agreed «agreed_versions» widths) (now out) × (table ≡ 6 * slotCount head) ⌝ }
+    ensures { λ r. ⌜ (r ≡ totalsOf (outcomes head (lentCells (values .entry) (versions .entry) (statuses .entry) (holidays .entry) (readings .entry) (reads .entry) (agreed .entry) («agreed_versions» .entry) (widths .entry)))) × (now (out .exit) ≡ bufferAt head (lentCells (values .entry) (versions .entry) (statuses .entry) (holidays .entry) (readings .entry) (reads .entry) (agreed .entry) («agreed_versions» .entry) (widths .entry)) (now (out .entry)) (slotCount head)) ⌝ }
 {
     let n = opening::slot_count(head);
     let mut here = begin();
@@ -182,6 +185,7 @@ pub fn put_tables(
             reads,
             agreed,
             agreed_versions,
+            widths,
             out,
             table,
             here,

@@ -29,7 +29,7 @@ abbrev Start : Type 0
 Start = lts.Start claims reads.Pre reads.Post
 
 abbrev lent : Start → Book
-lent c = lentBook (c .args .values) (c .args .versions) (c .args .statuses) (c .args .holidays) (c .args .readings) (c .args .reads) (c .args .agreed) (c .args .agreed-versions) (c .args .counts)
+lent c = lentBook (c .args .values) (c .args .versions) (c .args .statuses) (c .args .holidays) (c .args .readings) (c .args .reads) (c .args .agreed) (c .args .agreed-versions) (c .args .counts) (c .args .widths)
 
 -- ---- The tests that were passed
 
@@ -40,7 +40,7 @@ abbrev Past2 : Type 0
 Past2 = lts.Else2 claims reads.Pre reads.Post
 
 abbrev from1 : Past1 → Start
-from1 c = c .before .before .before .before .before .before .before .before .before .before .before .before
+from1 c = c .before .before .before .before .before .before .before .before .before .before .before .before .before
 
 abbrev from2 : Past2 → Start
 from2 c = from1 (c .before .before)
@@ -58,7 +58,7 @@ head-ok-requires c κs = search needs
 
 returns : tie.Need-returns
 returns c =
-    let start = c .before .before .before .before .before .before .before .before .before .before .before .before in
+    let start = c .before .before .before .before .before .before .before .before .before .before .before .before .before in
     refused-1 (start .args .head) (lent start) (start .args .out .now) (sym (c .before .head-ok .ensures) ∙ not-true _ (c .if1 .taken))
 
 lists-fit-requires : tie.Need-lists-fit-requires

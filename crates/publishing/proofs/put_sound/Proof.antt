@@ -14,29 +14,29 @@ span-count-requires : tie.Need-span-count-requires
 span-count-requires c κs = search needs
 
 length-of-requires : tie.Need-length-of-requires
-length-of-requires c κs = let a = c .before .before .before .before .before .before .before .before .before .before .args in
-    let b = cells (slots (a .values .now) (a .versions .now) (a .statuses .now)) (a .holidays .now) (a .readings .now) (a .reads .now) (agreedLists (a .agreed .now) (a .agreed-versions .now)) in
-    (c .before .before .before .before .before .before .before .before .before .before .pre .head, spans-low (a .head) b (c .before .before .before .before .before .before .before .before .before .before .pre) _ (c .span-count .ensures))
+length-of-requires c κs = let a = c .before .before .before .before .before .before .before .before .before .before .before .args in
+    let b = cells (slots (a .values .now) (a .versions .now) (a .statuses .now)) (a .holidays .now) (a .readings .now) (a .reads .now) (agreedLists (a .agreed .now) (a .agreed-versions .now)) (a .widths .now) in
+    (c .before .before .before .before .before .before .before .before .before .before .before .pre .head, spans-low (a .head) b (c .before .before .before .before .before .before .before .before .before .before .before .pre) _ (c .span-count .ensures))
 
 returns : tie.Need-returns
-returns c = let a = c .before .before .before .before .before .before .before .before .before .before .before .before .args in
-    let b = cells (slots (a .values .now) (a .versions .now) (a .statuses .now)) (a .holidays .now) (a .readings .now) (a .reads .now) (agreedLists (a .agreed .now) (a .agreed-versions .now)) in
-    refused-7 (a .head) b (a .out .now) _ (length-found (a .head) b (c .before .before .before .before .before .before .before .before .before .before .before .before .pre) _ (c .before .before .span-count .ensures) _ (c .before .length-of .ensures)) (c .if1 .taken)
+returns c = let a = c .before .before .before .before .before .before .before .before .before .before .before .before .before .args in
+    let b = cells (slots (a .values .now) (a .versions .now) (a .statuses .now)) (a .holidays .now) (a .readings .now) (a .reads .now) (agreedLists (a .agreed .now) (a .agreed-versions .now)) (a .widths .now) in
+    refused-7 (a .head) b (a .out .now) _ (length-found (a .head) b (c .before .before .before .before .before .before .before .before .before .before .before .before .before .pre) _ (c .before .before .span-count .ensures) _ (c .before .length-of .ensures)) (c .if1 .taken)
 
 put-file-requires : tie.Need-put-file-requires
-put-file-requires c κs = let a = c .before .before .before .before .before .before .before .before .before .before .before .before .before .args in
-    let b = cells (slots (a .values .now) (a .versions .now) (a .statuses .now)) (a .holidays .now) (a .readings .now) (a .reads .now) (agreedLists (a .agreed .now) (a .agreed-versions .now)) in
-    let m = spans-found (a .head) b (c .before .before .before .before .before .before .before .before .before .before .before .before .before .pre) _ (c .before .before .before .span-count .ensures) in
+put-file-requires c κs = let a = c .before .before .before .before .before .before .before .before .before .before .before .before .before .before .args in
+    let b = cells (slots (a .values .now) (a .versions .now) (a .statuses .now)) (a .holidays .now) (a .readings .now) (a .reads .now) (agreedLists (a .agreed .now) (a .agreed-versions .now)) (a .widths .now) in
+    let m = spans-found (a .head) b (c .before .before .before .before .before .before .before .before .before .before .before .before .before .before .pre) _ (c .before .before .before .span-count .ensures) in
     let room : 6 * slotCount (a .head) + 14 * length (spans (a .head) b) + 32 ≤ length (a .out .now) = omega (arith, m, c .before .if1 .left, c .before .before .length-of .ensures) in
-    (record { whole = whole-of (a .head) b (c .before .before .before .before .before .before .before .before .before .before .before .before .before .pre); room = room }, m)
+    (record { whole = whole-of (a .head) b (c .before .before .before .before .before .before .before .before .before .before .before .before .before .before .pre); room = room }, m)
 
 same-length : tie.Need-same-length
 same-length c = search needs
 
 returns-2 : tie.Need-returns-2
-returns-2 c = let a = c .before .before .before .before .before .before .before .before .before .before .before .before .before .before .before .before .args in
-    let b = cells (slots (a .values .now) (a .versions .now) (a .statuses .now)) (a .holidays .now) (a .readings .now) (a .reads .now) (agreedLists (a .agreed .now) (a .agreed-versions .now)) in
-    long-enough (a .head) b (a .out .now) _ (length-found (a .head) b (c .before .before .before .before .before .before .before .before .before .before .before .before .before .before .before .before .pre) _ (c .before .before .before .before .before .before .span-count .ensures) _ (c .before .before .before .before .before .length-of .ensures)) (c .before .before .before .before .if1 .left) _ (c .before .before .put-file .ensures)
+returns-2 c = let a = c .before .before .before .before .before .before .before .before .before .before .before .before .before .before .before .before .before .args in
+    let b = cells (slots (a .values .now) (a .versions .now) (a .statuses .now)) (a .holidays .now) (a .readings .now) (a .reads .now) (agreedLists (a .agreed .now) (a .agreed-versions .now)) (a .widths .now) in
+    long-enough (a .head) b (a .out .now) _ (length-found (a .head) b (c .before .before .before .before .before .before .before .before .before .before .before .before .before .before .before .before .before .pre) _ (c .before .before .before .before .before .before .span-count .ensures) _ (c .before .before .before .before .before .length-of .ensures)) (c .before .before .before .before .if1 .left) _ (c .before .before .put-file .ensures)
 
 pub put-sound-spec : {M : Type 1} → statement M
 put-sound-spec =

@@ -21,48 +21,49 @@ use Rattle.publishing.proofs.tables.put_next.Tie as tie
 
 step-requires : tie.Need-step-requires
 unfolding progressAt
-step-requires c κs = (c .before .before .before .before .before .before .before .before .before .before .pre .roomy .whole, c .before .before .before .before .before .before .before .before .before .before .pre .inside, ap (λ (p : Progress). p .pass) (c .before .before .before .before .before .before .before .before .before .before .pre .known))
+step-requires c κs = (c .before .before .before .before .before .before .before .before .before .before .before .pre .roomy .whole, c .before .before .before .before .before .before .before .before .before .before .before .pre .inside, ap (λ (p : Progress). p .pass) (c .before .before .before .before .before .before .before .before .before .before .before .pre .known))
 
 mul-put-slot : tie.Need-mul-put-slot
-mul-put-slot c = search needs
+mul-put-slot c = let w = bounded (c .before .before .before .before .before .before .before .before .before .before .before .before .before .before .args .head) (c .before .before .before .before .before .before .before .before .before .before .before .before .before .before .pre .roomy .whole .lent .fitted .head) in
+    omega (arith, count-high (c .before .before .before .before .before .before .before .before .before .before .before .before .before .before .args .head) w, c .before .before .before .before .before .before .before .before .before .before .before .before .before .before .pre .inside)
 
 put-slot-requires : tie.Need-put-slot-requires
-put-slot-requires c κs = search needs
+put-slot-requires c κs = omega (arith, c .before .before .before .before .before .before .before .before .before .before .before .before .before .before .pre .inside, c .before .before .before .before .before .before .before .before .before .before .before .before .before .before .pre .roomy .room)
 
 put-begun-requires : tie.Need-put-begun-requires
 unfolding progressAt
-put-begun-requires c κs = let a = c .before .before .before .before .before .before .before .before .before .before .before .before .before .before .before .before .before .args in
-    let w = bounded (a .head) (c .before .before .before .before .before .before .before .before .before .before .before .before .before .before .before .before .before .pre .roomy .whole .lent .fitted .head) in
-    let b = cells (slots (a .values .now) (a .versions .now) (a .statuses .now)) (a .holidays .now) (a .readings .now) (a .reads .now) (agreedLists (a .agreed .now) (a .agreed-versions .now)) in
+put-begun-requires c κs = let a = c .before .before .before .before .before .before .before .before .before .before .before .before .before .before .before .before .before .before .args in
+    let w = bounded (a .head) (c .before .before .before .before .before .before .before .before .before .before .before .before .before .before .before .before .before .before .pre .roomy .whole .lent .fitted .head) in
+    let b = cells (slots (a .values .now) (a .versions .now) (a .statuses .now)) (a .holidays .now) (a .readings .now) (a .reads .now) (agreedLists (a .agreed .now) (a .agreed-versions .now)) (a .widths .now) in
     let i = a .here .pass .fills .at in
-    let k : a .here .spans ≡ length (begunBefore (a .head) b i) = ap (λ (p : Progress). p .spans) (c .before .before .before .before .before .before .before .before .before .before .before .before .before .before .before .before .before .pre .known) in
+    let k : a .here .spans ≡ length (begunBefore (a .head) b i) = ap (λ (p : Progress). p .spans) (c .before .before .before .before .before .before .before .before .before .before .before .before .before .before .before .before .before .before .pre .known) in
     let g : length (listOf (c .before .before .before .before .before .before .step .result .begins)) ≡ length (listOf (beginsAt (a .head) b i)) = ap (λ (x : Begins). length (listOf x)) (c .before .before .before .before .before .before .step .ensures .begins) in
-    omega (arith, k, g, begun-room (a .head) b w i (c .before .before .before .before .before .before .before .before .before .before .before .before .before .before .before .before .before .pre .inside), c .before .before .before .before .before .before .before .before .before .before .before .before .before .before .before .before .before .pre .roomy .room, c .before .before .before .before .before .before .before .before .before .before .before .before .before .before .before .before .before .pre .place)
+    omega (arith, k, g, begun-room (a .head) b w i (c .before .before .before .before .before .before .before .before .before .before .before .before .before .before .before .before .before .before .pre .inside), c .before .before .before .before .before .before .before .before .before .before .before .before .before .before .before .before .before .before .pre .roomy .room, c .before .before .before .before .before .before .before .before .before .before .before .before .before .before .before .before .before .before .pre .place)
 
 add-requires : tie.Need-add-requires
 unfolding progressAt totalsOf
-add-requires c κs = let a = c .before .before .before .before .before .before .before .before .before .before .before .before .before .before .before .before .before .before .before .before .before .before .args in
-    let w = bounded (a .head) (c .before .before .before .before .before .before .before .before .before .before .before .before .before .before .before .before .before .before .before .before .before .before .pre .roomy .whole .lent .fitted .head) in
-    let b = cells (slots (a .values .now) (a .versions .now) (a .statuses .now)) (a .holidays .now) (a .readings .now) (a .reads .now) (agreedLists (a .agreed .now) (a .agreed-versions .now)) in
+add-requires c κs = let a = c .before .before .before .before .before .before .before .before .before .before .before .before .before .before .before .before .before .before .before .before .before .before .before .args in
+    let w = bounded (a .head) (c .before .before .before .before .before .before .before .before .before .before .before .before .before .before .before .before .before .before .before .before .before .before .before .pre .roomy .whole .lent .fitted .head) in
+    let b = cells (slots (a .values .now) (a .versions .now) (a .statuses .now)) (a .holidays .now) (a .readings .now) (a .reads .now) (agreedLists (a .agreed .now) (a .agreed-versions .now)) (a .widths .now) in
     let i = a .here .pass .fills .at in
-    let l : i ≤ 115200 = omega (arith, count-high (a .head) w, c .before .before .before .before .before .before .before .before .before .before .before .before .before .before .before .before .before .before .before .before .before .before .pre .inside) in
-    let x : a .here .totals .actual ≡ total (one isA) (firstSlots (a .head) b i) = ap (λ (p : Progress). p .totals .actual) (c .before .before .before .before .before .before .before .before .before .before .before .before .before .before .before .before .before .before .before .before .before .before .pre .known) in
-    let y : a .here .totals .substituted ≡ total (one isS) (firstSlots (a .head) b i) = ap (λ (p : Progress). p .totals .substituted) (c .before .before .before .before .before .before .before .before .before .before .before .before .before .before .before .before .before .before .before .before .before .before .pre .known) in
-    let f : a .here .totals .agreed ≡ total (one isF) (firstSlots (a .head) b i) = ap (λ (p : Progress). p .totals .agreed) (c .before .before .before .before .before .before .before .before .before .before .before .before .before .before .before .before .before .before .before .before .before .before .pre .known) in
-    let z : a .here .totals .none ≡ total (one isN) (firstSlots (a .head) b i) = ap (λ (p : Progress). p .totals .none) (c .before .before .before .before .before .before .before .before .before .before .before .before .before .before .before .before .before .before .before .before .before .before .pre .known) in
-    let s : a .here .totals .sum ≡ total (λ o. o .value) (firstSlots (a .head) b i) = ap (λ (p : Progress). p .totals .sum) (c .before .before .before .before .before .before .before .before .before .before .before .before .before .before .before .before .before .before .before .before .before .before .pre .known) in
-    (omega (arith, count-low (a .head) b i isA), omega (arith, count-low (a .head) b i isS), omega (arith, count-low (a .head) b i isF), omega (arith, count-low (a .head) b i isN), omega (arith, sum-low (a .head) b i w (c .before .before .before .before .before .before .before .before .before .before .before .before .before .before .before .before .before .before .before .before .before .before .pre .roomy .whole .settled .low)))
+    let l : i ≤ 115200 = omega (arith, count-high (a .head) w, c .before .before .before .before .before .before .before .before .before .before .before .before .before .before .before .before .before .before .before .before .before .before .before .pre .inside) in
+    let x : a .here .totals .actual ≡ total (one isA) (firstSlots (a .head) b i) = ap (λ (p : Progress). p .totals .actual) (c .before .before .before .before .before .before .before .before .before .before .before .before .before .before .before .before .before .before .before .before .before .before .before .pre .known) in
+    let y : a .here .totals .substituted ≡ total (one isS) (firstSlots (a .head) b i) = ap (λ (p : Progress). p .totals .substituted) (c .before .before .before .before .before .before .before .before .before .before .before .before .before .before .before .before .before .before .before .before .before .before .before .pre .known) in
+    let f : a .here .totals .agreed ≡ total (one isF) (firstSlots (a .head) b i) = ap (λ (p : Progress). p .totals .agreed) (c .before .before .before .before .before .before .before .before .before .before .before .before .before .before .before .before .before .before .before .before .before .before .before .pre .known) in
+    let z : a .here .totals .none ≡ total (one isN) (firstSlots (a .head) b i) = ap (λ (p : Progress). p .totals .none) (c .before .before .before .before .before .before .before .before .before .before .before .before .before .before .before .before .before .before .before .before .before .before .before .pre .known) in
+    let s : a .here .totals .sum ≡ total (λ o. o .value) (firstSlots (a .head) b i) = ap (λ (p : Progress). p .totals .sum) (c .before .before .before .before .before .before .before .before .before .before .before .before .before .before .before .before .before .before .before .before .before .before .before .pre .known) in
+    (omega (arith, count-low (a .head) b i isA), omega (arith, count-low (a .head) b i isS), omega (arith, count-low (a .head) b i isF), omega (arith, count-low (a .head) b i isN), omega (arith, sum-low (a .head) b i w (c .before .before .before .before .before .before .before .before .before .before .before .before .before .before .before .before .before .before .before .before .before .before .before .pre .roomy .whole .settled .low) (c .before .before .before .before .before .before .before .before .before .before .before .before .before .before .before .before .before .before .before .before .before .before .before .pre .roomy .whole .widths .low)))
 
 same-length : tie.Need-same-length
 same-length c = search needs
 
 returns : tie.Need-returns
-returns c = let a = c .before .before .before .before .before .before .before .before .before .before .before .before .before .before .before .before .before .before .before .before .before .before .before .args in
-    let b = cells (slots (a .values .now) (a .versions .now) (a .statuses .now)) (a .holidays .now) (a .readings .now) (a .reads .now) (agreedLists (a .agreed .now) (a .agreed-versions .now)) in
+returns c = let a = c .before .before .before .before .before .before .before .before .before .before .before .before .before .before .before .before .before .before .before .before .before .before .before .before .args in
+    let b = cells (slots (a .values .now) (a .versions .now) (a .statuses .now)) (a .holidays .now) (a .readings .now) (a .reads .now) (agreedLists (a .agreed .now) (a .agreed-versions .now)) (a .widths .now) in
     let i = a .here .pass .fills .at in
     record {
-      bytes = bytes-next (a .head) b i (a .out .now) _ _ (a .here) (a .table) (c .before .before .before .before .before .before .before .before .before .before .before .before .step .result .outcome) (c .before .before .before .before .before .before .before .before .before .before .before .before .step .result .begins) (c .before .before .before .before .before .before .before .before .before .before .before .before .before .before .before .before .before .before .before .before .before .before .before .pre .known) (c .before .before .before .before .before .before .before .before .before .before .before .before .step .ensures .outcome) (c .before .before .before .before .before .before .before .before .before .before .before .before .step .ensures .begins) (c .before .before .before .before .before .before .before .before .before .before .before .before .before .before .before .before .before .before .before .before .before .before .before .pre .place) (c .before .before .before .before .before .before .before .before .before .put-slot .ensures) (c .before .before .before .before .before .put-begun .ensures .1);
-      known = progress-next (a .head) b i (a .here) (c .before .before .before .before .before .before .before .before .before .before .before .before .step .result .next) (c .before .before .before .before .before .put-begun .result) (c .add .result) (c .before .before .before .before .before .before .before .before .before .before .before .before .step .result .outcome) (c .before .before .before .before .before .before .before .before .before .before .before .before .step .result .begins) (c .before .before .before .before .before .before .before .before .before .before .before .before .before .before .before .before .before .before .before .before .before .before .before .pre .known) (c .before .before .before .before .before .before .before .before .before .before .before .before .step .ensures .outcome) (c .before .before .before .before .before .before .before .before .before .before .before .before .step .ensures .begins) (c .before .before .before .before .before .before .before .before .before .before .before .before .step .ensures .next) (c .before .before .before .before .before .put-begun .ensures .0) (c .add .ensures);
+      bytes = bytes-next (a .head) b i (a .out .now) _ _ (a .here) (a .table) (c .before .before .before .before .before .before .before .before .before .before .before .before .step .result .outcome) (c .before .before .before .before .before .before .before .before .before .before .before .before .step .result .begins) (c .before .before .before .before .before .before .before .before .before .before .before .before .before .before .before .before .before .before .before .before .before .before .before .before .pre .known) (c .before .before .before .before .before .before .before .before .before .before .before .before .step .ensures .outcome) (c .before .before .before .before .before .before .before .before .before .before .before .before .step .ensures .begins) (c .before .before .before .before .before .before .before .before .before .before .before .before .before .before .before .before .before .before .before .before .before .before .before .before .pre .place) (c .before .before .before .before .before .before .before .before .before .put-slot .ensures) (c .before .before .before .before .before .put-begun .ensures .1);
+      known = progress-next (a .head) b i (a .here) (c .before .before .before .before .before .before .before .before .before .before .before .before .step .result .next) (c .before .before .before .before .before .put-begun .result) (c .add .result) (c .before .before .before .before .before .before .before .before .before .before .before .before .step .result .outcome) (c .before .before .before .before .before .before .before .before .before .before .before .before .step .result .begins) (c .before .before .before .before .before .before .before .before .before .before .before .before .before .before .before .before .before .before .before .before .before .before .before .before .pre .known) (c .before .before .before .before .before .before .before .before .before .before .before .before .step .ensures .outcome) (c .before .before .before .before .before .before .before .before .before .before .before .before .step .ensures .begins) (c .before .before .before .before .before .before .before .before .before .before .before .before .step .ensures .next) (c .before .before .before .before .before .put-begun .ensures .0) (c .add .ensures);
     }
 
 pub put-next-spec : {M : Type 1} → statement M
