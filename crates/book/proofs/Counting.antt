@@ -21,7 +21,7 @@ use Rattle.book.specs.Answers.{Answer, isAccepted, isStored, byVersion}
 use Rattle.book.specs.Arguments.{Call}
 use Rattle.book.specs.Arguments.Call.{delivery}
 use Rattle.book.specs.Cells.{deliveredIn}
-use Rattle.book.specs.Filling.{countsWith, isFull}
+use Rattle.book.specs.Filling.{storedIn, countsWith, isFull}
 use Rattle.book.specs.Plain.{deliveries, highest, slotVersion, slotContent, bookOf, deliveredOn, countsOf}
 use Rattle.book.proofs.Tables.{getD-upTo, upTo-zero, upTo-same, upTo-filed}
 use Rattle.book.proofs.Said.{ruled, step}

@@ -27,7 +27,7 @@ againstSlot oldVersion oldValue oldStatus version value status =
 unfoldable pub againstDay : ℕ → Answer
 againstDay cell = cond (dayFault cell) (refused 11) (cond (eqb cell 0) stored repeat)
 
--- "a repeat compares" reading and width (02, W10)
+-- "The width is part of the content that a repeat compares" (02, W10)
 unfoldable pub againstBoundary : ℕ → ℕ → ℕ → ℕ → ℕ → ℕ → Answer
 againstBoundary oldVersion oldReading oldWidth version reading width =
     cond (readFault oldVersion oldReading oldWidth) (refused 11)

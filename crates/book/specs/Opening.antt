@@ -10,7 +10,7 @@ use Rattle.book.specs.Answers.Answer.{done, stored, late, repeat, refuse
 use Rattle.book.specs.Answers.Rule.{rule}
 use Rattle.book.specs.Cells.{Book, bookFits}
 
--- "Opening sets all cells to 0", "clears the two lists" (02, W1) the counts (02, W6) and the widths (02, W10)
+-- "Opening sets all cells to 0", "clears the two lists" (02, W1), the counts (02, W6) and the widths (02, W10)
 unfoldable pub opened : Head → Book
 opened h = record {
   cells = record {

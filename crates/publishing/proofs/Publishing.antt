@@ -35,7 +35,7 @@ unfolding numberFault
 number-low limit version number e =
     ⊎-elim (λ t. absurd (false≢true (sym e ∙ (rw t)))) (λ t. ltb-false limit number t) (either (ltb limit number))
 
--- a read that is no fault has neither
+-- a read that is no fault is none by its reading and none by its width
 neither : (a b : Bool) → (a || b) ≡ false → (a ≡ false) × (b ≡ false)
 neither true b e = absurd (false≢true (sym e))
 neither false b e = (refl, e)
