@@ -13,7 +13,7 @@ use Rattle.log.specs.declared.limits.Limits.{Limits}
 use Rattle.book.specs.declared.calls.Call.the-variants.{Delivery, Agreed, Holiday, Register}
 use Rattle.log.specs.Numbers.{valueAfter, valueOf, isDate, dateOf, yearPart, monthPart, dayPart}
 use Rattle.log.specs.Words.{words, same, areNumbers}
-use Rattle.log.specs.Line.{openWord, deliveryWord, holidayWord, registerWord, agreedWord, openOf, deliveryOf, holidayOf, registerOf, agreedOf, callOf, withoutCr, isPassed, areLimits, limitsOf, bare, limitsEntry, wordsEntry, entryOf, limitsWord}
+use Rattle.log.specs.Line.{openWord, deliveryWord, holidayWord, registerWord, agreedWord, openOf, deliveryOf, holidayOf, sharpOf, registerOf, agreedOf, callOf, withoutCr, isPassed, areLimits, limitsOf, bare, limitsEntry, wordsEntry, entryOf, limitsWord}
 use Rattle.log.proofs.Tables.{some-limits}
 
 -- ---- Fields
@@ -31,9 +31,13 @@ pub no-holiday : (fields : List (List ℕ)) → areNumbers 1 fields ≡ false �
 unfolding holidayOf
 no-holiday fields n = rw n
 
-pub no-register : (fields : List (List ℕ)) → areNumbers 3 fields ≡ false → NoCall ≡ registerOf fields
+pub no-sharp : (fields : List (List ℕ)) → areNumbers 3 fields ≡ false → NoCall ≡ sharpOf fields
+unfolding sharpOf
+no-sharp fields n = rw n
+
+pub no-width : (fields : List (List ℕ)) → areNumbers 4 fields ≡ false → sharpOf fields ≡ registerOf fields
 unfolding registerOf
-no-register fields n = rw n
+no-width fields n = rw n
 
 pub no-agreed : (fields : List (List ℕ)) → areNumbers 3 fields ≡ false → NoCall ≡ agreedOf fields
 unfolding agreedOf
@@ -51,11 +55,18 @@ module _ (fields : List (List ℕ)) (vs : List ℕ) where
   unfolding holidayOf
   is-holiday n e = rw (n, value-at fields 1 vs e 0 (omega arith))
 
-  pub is-register : areNumbers 3 fields ≡ true → take 3 vs ≡ map valueOf fields
-      → Fill (Register (getD vs 0 0) (getD vs 1 0) (getD vs 2 0)) ≡ registerOf fields
+  pub is-sharp : areNumbers 3 fields ≡ true → take 3 vs ≡ map valueOf fields
+      → Fill (Register (getD vs 0 0) (getD vs 1 0) (getD vs 2 0) 0) ≡ sharpOf fields
+  unfolding sharpOf
+  is-sharp n e =
+      let at = value-at fields 3 vs e in rw (n, at 0 (omega arith), at 1 (omega arith), at 2 (omega arith))
+
+  pub is-register : areNumbers 4 fields ≡ true → take 4 vs ≡ map valueOf fields
+      → Fill (Register (getD vs 0 0) (getD vs 1 0) (getD vs 2 0) (getD vs 3 0)) ≡ registerOf fields
   unfolding registerOf
   is-register n e =
-      let at = value-at fields 3 vs e in rw (n, at 0 (omega arith), at 1 (omega arith), at 2 (omega arith))
+      let at = value-at fields 4 vs e in
+      rw (n, at 0 (omega arith), at 1 (omega arith), at 2 (omega arith), at 3 (omega arith))
 
   pub is-agreed : areNumbers 3 fields ≡ true → take 3 vs ≡ map valueOf fields
       → Fill (Agreed (getD vs 0 0) (getD vs 1 0) (getD vs 2 0)) ≡ agreedOf fields

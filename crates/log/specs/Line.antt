@@ -58,9 +58,13 @@ deliveryOf fields =
 unfoldable pub holidayOf : List (List ℕ) → Line
 holidayOf fields = cond (areNumbers 1 fields) (Fill (Holiday (value fields 0))) NoCall
 
--- boundary, version, reading
+-- boundary, version, reading, and a width where there is one; without it the width is 0 (02, W10)
+unfoldable pub sharpOf : List (List ℕ) → Line
+sharpOf fields = cond (areNumbers 3 fields) (Fill (Register (value fields 0) (value fields 1) (value fields 2) 0)) NoCall
+
 unfoldable pub registerOf : List (List ℕ) → Line
-registerOf fields = cond (areNumbers 3 fields) (Fill (Register (value fields 0) (value fields 1) (value fields 2))) NoCall
+registerOf fields =
+    cond (areNumbers 4 fields) (Fill (Register (value fields 0) (value fields 1) (value fields 2) (value fields 3))) (sharpOf fields)
 
 -- slot, version, value in Wh (02, W1)
 unfoldable pub agreedOf : List (List ℕ) → Line

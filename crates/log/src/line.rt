@@ -10,7 +10,7 @@ ghost use mathlib.Core.Path.{_≡_};
 ghost use Prim.Native.Nat.{_≤_, min};
 ghost use lib.ListN.{length};
 ghost use Rattle.log.specs.Words.{words as wordsOf};
-ghost use Rattle.log.specs.Line.{openOf, deliveryOf, holidayOf, registerOf, agreedOf, callOf, bare as bareOf, limitsEntry, wordsEntry, entryOf};
+ghost use Rattle.log.specs.Line.{openOf, deliveryOf, holidayOf, sharpOf, registerOf, agreedOf, callOf, bare as bareOf, limitsEntry, wordsEntry, entryOf};
 ghost use Rattle.log.specs.Inner.Parsing.{piecesAfter, cutAt};
 
 // The figures of an opening. Its kind is a place in a table of demand limits.
@@ -100,9 +100,10 @@ fn holiday_after(line: &[u8], end: usize) -> Line
     Line::Fill(Call::Holiday(fields.values[0]))
 }
 
-fn register_after(line: &[u8], end: usize) -> Line
+// A register read without a width.
+fn sharp_after(line: &[u8], end: usize) -> Line
     requires { ⌜ end ≤ length (now line) ⌝ }
-    ensures { λ r. ⌜ r ≡ registerOf (piecesAfter 32 (now (line .entry)) end) ⌝ }
+    ensures { λ r. ⌜ r ≡ sharpOf (piecesAfter 32 (now (line .entry)) end) ⌝ }
 {
     let fields = words::values_after(line, end, 3);
     if !fields.good {
@@ -112,6 +113,23 @@ fn register_after(line: &[u8], end: usize) -> Line
         boundary: fields.values[0],
         version: fields.values[1],
         reading: fields.values[2],
+        width: 0,
+    })
+}
+
+fn register_after(line: &[u8], end: usize) -> Line
+    requires { ⌜ end ≤ length (now line) ⌝ }
+    ensures { λ r. ⌜ r ≡ registerOf (piecesAfter 32 (now (line .entry)) end) ⌝ }
+{
+    let fields = words::values_after(line, end, 4);
+    if !fields.good {
+        return sharp_after(line, end);
+    }
+    Line::Fill(Call::Register {
+        boundary: fields.values[0],
+        version: fields.values[1],
+        reading: fields.values[2],
+        width: fields.values[3],
     })
 }
 

@@ -1,7 +1,7 @@
--- `log::line::register_after` meets its contract.
+-- `log::line::register_after`: four numbers, or three.
 use mathlib.Core.Path.{sym, _∙_}
 use borrow.Author.Tests.{not-true, not-false}
-use Rattle.log.proofs.Calls.{no-register, is-register}
+use Rattle.log.proofs.Calls.{no-width, is-register}
 use borrow.Author.Needs.{needs}
 use Rattle.log.proofs.line.register_after.Statement.{statement}
 use Rattle.log.proofs.line.register_after.Tie as tie
@@ -9,8 +9,11 @@ use Rattle.log.proofs.line.register_after.Tie as tie
 values-after-requires : tie.Need-values-after-requires
 values-after-requires c κs = search needs
 
+sharp-after-requires : tie.Need-sharp-after-requires
+sharp-after-requires c κs = search needs
+
 returns : tie.Need-returns
-returns c = no-register _ (sym (c .before .values-after .ensures .0) ∙ not-true _ (c .if1 .taken))
+returns c = c .sharp-after .ensures ∙ no-width _ (sym (c .before .before .values-after .ensures .0) ∙ not-true _ (c .before .if1 .taken))
 
 element-copy-out-t9 : tie.Need-element-copy-out-t9
 element-copy-out-t9 c = search needs
@@ -21,16 +24,21 @@ element-copy-out-t12 c = search needs
 element-copy-out-t15 : tie.Need-element-copy-out-t15
 element-copy-out-t15 c = search needs
 
+element-copy-out-t18 : tie.Need-element-copy-out-t18
+element-copy-out-t18 c = search needs
+
 returns-2 : tie.Need-returns-2
-returns-2 c = is-register _ (c .before .before .before .before .values-after .result .values) (sym (c .before .before .before .before .values-after .ensures .0) ∙ not-false _ (c .before .before .before .if1 .left)) (c .before .before .before .before .values-after .ensures .1 (not-false _ (c .before .before .before .if1 .left)))
+returns-2 c = is-register _ (c .before .before .before .before .before .values-after .result .values) (sym (c .before .before .before .before .before .values-after .ensures .0) ∙ not-false _ (c .before .before .before .before .if1 .left)) (c .before .before .before .before .before .values-after .ensures .1 (not-false _ (c .before .before .before .before .if1 .left)))
 
 pub register-after-spec : {M : Type 1} → statement M
 register-after-spec =
     tie.close
     (tie.spec
     values-after-requires
+    sharp-after-requires
     returns
     element-copy-out-t9
     element-copy-out-t12
     element-copy-out-t15
+    element-copy-out-t18
     returns-2)

@@ -1,0 +1,36 @@
+-- `log::line::sharp_after` meets its contract.
+use mathlib.Core.Path.{sym, _∙_}
+use borrow.Author.Tests.{not-true, not-false}
+use Rattle.log.proofs.Calls.{no-sharp, is-sharp}
+use borrow.Author.Needs.{needs}
+use Rattle.log.proofs.line.sharp_after.Statement.{statement}
+use Rattle.log.proofs.line.sharp_after.Tie as tie
+
+values-after-requires : tie.Need-values-after-requires
+values-after-requires c κs = search needs
+
+returns : tie.Need-returns
+returns c = no-sharp _ (sym (c .before .values-after .ensures .0) ∙ not-true _ (c .if1 .taken))
+
+element-copy-out-t9 : tie.Need-element-copy-out-t9
+element-copy-out-t9 c = search needs
+
+element-copy-out-t12 : tie.Need-element-copy-out-t12
+element-copy-out-t12 c = search needs
+
+element-copy-out-t15 : tie.Need-element-copy-out-t15
+element-copy-out-t15 c = search needs
+
+returns-2 : tie.Need-returns-2
+returns-2 c = is-sharp _ (c .before .before .before .before .values-after .result .values) (sym (c .before .before .before .before .values-after .ensures .0) ∙ not-false _ (c .before .before .before .if1 .left)) (c .before .before .before .before .values-after .ensures .1 (not-false _ (c .before .before .before .if1 .left)))
+
+pub sharp-after-spec : {M : Type 1} → statement M
+sharp-after-spec =
+    tie.close
+    (tie.spec
+    values-after-requires
+    returns
+    element-copy-out-t9
+    element-copy-out-t12
+    element-copy-out-t15
+    returns-2)
