@@ -12,7 +12,7 @@
 #define LENGTH (6 * SLOTS + 32)
 
 static uint32_t values[SLOTS], versions[SLOTS], readings[DAYS + 1], reads[DAYS + 1], agreed[SLOTS], agreed_versions[SLOTS];
-static uint16_t counts[DAYS];
+static uint16_t counts[DAYS], widths[DAYS + 1];
 static uint8_t statuses[SLOTS], holidays[DAYS], out[LENGTH + 1];
 static uint64_t figures[SAWMAUVE_FIGURES];
 
@@ -30,7 +30,7 @@ static uint64_t publish(size_t room)
 {
     return sawmauve_publish(
         HEAD, values, SLOTS, versions, SLOTS, statuses, SLOTS, holidays, DAYS, readings, DAYS + 1, reads, DAYS + 1, agreed, SLOTS,
-        agreed_versions, SLOTS, counts, DAYS, out, room);
+        agreed_versions, SLOTS, counts, DAYS, widths, DAYS + 1, out, room);
 }
 
 int main(void)
@@ -51,10 +51,11 @@ int main(void)
     memset(statuses, 0xFF, sizeof statuses);
     memset(agreed, 0xFF, sizeof agreed);
     memset(counts, 0xFF, sizeof counts);
+    memset(widths, 0xFF, sizeof widths);
     EXPECT(
         sawmauve_open(
             HEAD, values, SLOTS, versions, SLOTS, statuses, SLOTS, holidays, DAYS, readings, DAYS + 1, reads, DAYS + 1, agreed,
-            SLOTS, agreed_versions, SLOTS, counts, DAYS)
+            SLOTS, agreed_versions, SLOTS, counts, DAYS, widths, DAYS + 1)
         == SAWMAUVE_DONE);
     for (uint32_t slot = 0; slot < SLOTS; slot++)
         if (slot != 10)
@@ -65,7 +66,8 @@ int main(void)
     EXPECT(deliver(0, 2, 100) == SAWMAUVE_REPEAT);
     EXPECT(deliver(0, 2, 7) == 10);
     EXPECT(sawmauve_holiday(HEAD, holidays, DAYS, DAYS) == 3);
-    EXPECT(sawmauve_register(HEAD, readings, DAYS + 1, reads, DAYS + 1, 0, 1, 100000000) == 6);
+    EXPECT(sawmauve_register(HEAD, readings, DAYS + 1, reads, DAYS + 1, widths, DAYS + 1, 0, 1, 100000000, 0) == 6);
+    EXPECT(sawmauve_register(HEAD, readings, DAYS + 1, reads, DAYS + 1, widths, DAYS + 1, 0, 1, 99999999, 10000) == 17);
 
     /* The day's count, for a screen; with another one nothing is published. */
     EXPECT(counts[0] == SLOTS - 1);

@@ -20,6 +20,7 @@
  *   14  identifier that is not ten characters of A to Z without I and O, 0 to 9
  *   15  header text with a comma or a byte outside 0x20 to 0x7E, creation time that is not 14 digits, or method code over 99
  *   16  a half byte above 9
+ *   17  width over 9,999
  *   18  more than 64 pairs, a pair list of odd length, or another number of totals than of pairs
  *   19  a pair whose first day is not below its second, or whose second exceeds D
  *   22  a table or its strips of another length than 6 N for 1 to 400 days, or an output of another length
@@ -69,7 +70,7 @@ extern "C" {
 uint32_t sawmauve_limit(const uint32_t *table, size_t table_len, uint32_t kind);
 
 /* Opens a book: sets all cells and counts to 0. values, versions, statuses, agreed and agreed_versions are N = 1440 / L * D long,
- * holidays and counts D, readings and reads (the register versions) D + 1. 0, or 1 or 2. A day's count is how many of its slots
+ * holidays and counts D, readings, reads (the register versions) and widths D + 1. 0, or 1 or 2. A day's count is how many of its slots
  * have come, 1440 / L where all have: a screen may read it at any time between two calls. */
 uint32_t sawmauve_open(
     SAWMAUVE_HEAD,
@@ -81,7 +82,8 @@ uint32_t sawmauve_open(
     uint32_t *reads, size_t reads_len,
     uint32_t *agreed, size_t agreed_len,
     uint32_t *agreed_versions, size_t agreed_versions_len,
-    uint16_t *counts, size_t counts_len);
+    uint16_t *counts, size_t counts_len,
+    uint16_t *widths, size_t widths_len);
 
 /* A delivery for a slot; the first that is stored raises its day's count. Status bits: 0 time change, 1 power outage, 2 partial interval.
  * 0, 100 or 101, or 1 to 5, 10, 11. */
@@ -107,12 +109,14 @@ uint32_t sawmauve_holiday(
     uint8_t *holidays, size_t holidays_len,
     uint32_t at);
 
-/* A register read at a boundary, 0 to D. 0, 100 or 101, or 1 to 4, 6, 10, 11. */
+/* A register read at a boundary, 0 to D: the dial stood anywhere from the reading to the reading plus the width, 0 to 9,999.
+ * 0, 100 or 101, or 1 to 4, 6, 10, 11, 17. */
 uint32_t sawmauve_register(
     SAWMAUVE_HEAD,
     uint32_t *readings, size_t readings_len,
     uint32_t *reads, size_t reads_len,
-    uint32_t boundary, uint32_t version, uint32_t reading);
+    uint16_t *widths, size_t widths_len,
+    uint32_t boundary, uint32_t version, uint32_t reading, uint32_t width);
 
 /* Writes the file into the first bytes of out: its length, 6 N + 14 M + 32, or 1, 2, 7, 11. */
 uint64_t sawmauve_publish(
@@ -126,6 +130,7 @@ uint64_t sawmauve_publish(
     const uint32_t *agreed, size_t agreed_len,
     const uint32_t *agreed_versions, size_t agreed_versions_len,
     const uint16_t *counts, size_t counts_len,
+    const uint16_t *widths, size_t widths_len,
     uint8_t *out, size_t out_len);
 
 /* Reads a file: 0 and the figures; or 8 or 9, or 2 where figures_len is not 9, and the figures stay as they were. */

@@ -81,6 +81,7 @@ fn answer_log(
     agreed: &mut [u32],
     agreed_versions: &mut [u32],
     counts: &mut [u16],
+    widths: &mut [u16],
 )
     requires { ⌜ Held (lead .first .source) (length (now block)) (length (now part)) ⌝ }
 {
@@ -102,6 +103,7 @@ fn answer_log(
         agreed,
         agreed_versions,
         counts,
+        widths,
     );
     if !program::is_done(end) {
         return;
@@ -123,6 +125,7 @@ fn main() {
     let mut agreed = [0u32; 115200];
     let mut agreed_versions = [0u32; 115200];
     let mut counts = [0u16; 400];
+    let mut widths = [0u16; 401];
     let mut block = io::large_buffer();
     let mut part = [0u8; 257];
     // Standard input is read before the temporary file is made, which would take its place where it is closed.
@@ -151,5 +154,6 @@ fn main() {
         &mut agreed[..slots],
         &mut agreed_versions[..slots],
         &mut counts[..days],
+        &mut widths[..boundaries],
     );
 }

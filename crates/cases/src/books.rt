@@ -70,6 +70,7 @@ fn deliver_run(
             versions,
             statuses,
             counts,
+            widths,
             slot,
             1,
             value,
@@ -79,7 +80,7 @@ fn deliver_run(
     }
 }
 
-// One row of five numbers: 1 first end value status | 2 day 0 0 0 | 3 boundary version reading 0 | 4 slot version value 0.
+// One row of five numbers: 1 first end value status | 2 day 0 0 0 | 3 boundary version reading width | 4 slot version value 0.
 fn fill_row(
     head: Head,
     values: &mut [u32],
@@ -91,6 +92,7 @@ fn fill_row(
     agreed: &mut [u32],
     agreed_versions: &mut [u32],
     counts: &mut [u16],
+    widths: &mut [u16],
     row: [u32; 5],
 ) {
     if row[0] == 1 {
@@ -115,7 +117,7 @@ fn fill_row(
         book::agree(head, agreed, agreed_versions, row[1], row[2], row[3]);
         return;
     }
-    book::register(head, readings, reads, row[1], row[2], row[3]);
+    book::register(head, readings, reads, widths, row[1], row[2], row[3], row[4]);
 }
 
 fn fill(
@@ -129,6 +131,7 @@ fn fill(
     agreed: &mut [u32],
     agreed_versions: &mut [u32],
     counts: &mut [u16],
+    widths: &mut [u16],
     rows: &[[u32; 5]],
 ) {
     let mut i = 0;
@@ -145,6 +148,7 @@ fn fill(
             agreed,
             agreed_versions,
             counts,
+            widths,
             row,
         );
         i += 1;
@@ -162,6 +166,7 @@ fn fill_and_publish(
     agreed: &mut [u32],
     agreed_versions: &mut [u32],
     counts: &mut [u16],
+    widths: &mut [u16],
     rows: &[[u32; 5]],
     file: &mut [u8],
 ) -> Published {
@@ -176,6 +181,7 @@ fn fill_and_publish(
         agreed,
         agreed_versions,
         counts,
+        widths,
         rows,
     );
     publishing::publish(
@@ -189,6 +195,7 @@ fn fill_and_publish(
         agreed,
         agreed_versions,
         counts,
+        widths,
         file,
     )
 }
@@ -205,6 +212,7 @@ fn publish_lent(
     agreed: &mut [u32],
     agreed_versions: &mut [u32],
     counts: &mut [u16],
+    widths: &mut [u16],
     rows: &[[u32; 5]],
     file: &mut [u8],
 ) -> Published {
@@ -219,6 +227,7 @@ fn publish_lent(
         agreed,
         agreed_versions,
         counts,
+        widths,
     );
     if let Opened::Refused(n) = opened {
         return Published::Refused(n);
@@ -234,6 +243,7 @@ fn publish_lent(
         agreed,
         agreed_versions,
         counts,
+        widths,
         rows,
         file,
     )
@@ -250,6 +260,7 @@ pub fn publish_rows(head: Head, rows: &[[u32; 5]], file: &mut [u8]) -> Published
     let mut agreed = [0u32; 1392];
     let mut agreed_versions = [0u32; 1392];
     let mut counts = [0u16; 29];
+    let mut widths = [0u16; 30];
     let n = slots_of(head);
     let d = days_of(head);
     publish_lent(
@@ -263,6 +274,7 @@ pub fn publish_rows(head: Head, rows: &[[u32; 5]], file: &mut [u8]) -> Published
         &mut agreed[..n],
         &mut agreed_versions[..n],
         &mut counts[..d],
+        &mut widths[..d + 1],
         rows,
         file,
     )

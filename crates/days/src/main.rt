@@ -54,6 +54,7 @@ fn count_log(
     agreed: &mut [u32],
     agreed_versions: &mut [u32],
     counts: &mut [u16],
+    widths: &mut [u16],
 )
     requires { ⌜ Held (lead .first .source) (length (now block)) (length (now part)) ⌝ }
 {
@@ -71,6 +72,7 @@ fn count_log(
         agreed,
         agreed_versions,
         counts,
+        widths,
     );
     if !program::is_done(end) {
         return;
@@ -89,6 +91,7 @@ fn main() {
     let mut agreed = [0u32; 115200];
     let mut agreed_versions = [0u32; 115200];
     let mut counts = [0u16; 400];
+    let mut widths = [0u16; 401];
     let mut block = io::large_buffer();
     let mut part = [0u8; 257];
     let lead = program::read_lead(&mut block, &mut part);
@@ -113,5 +116,6 @@ fn main() {
         &mut agreed[..slots],
         &mut agreed_versions[..slots],
         &mut counts[..days],
+        &mut widths[..boundaries],
     );
 }

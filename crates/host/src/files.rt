@@ -37,11 +37,12 @@ pub extern "C" fn sawmauve_publish(
     agreed: &[u32],
     agreed_versions: &[u32],
     counts: &[u16],
+    widths: &[u16],
     out: &mut [u8],
 ) -> u64
     ensures { λ r. ⌜
         (let head = headOf year month day days interval limit tolerance in
-        let book = lentBook (values .entry) (versions .entry) (statuses .entry) (holidays .entry) (readings .entry) (reads .entry) (agreed .entry) («agreed_versions» .entry) (counts .entry) in
+        let book = lentBook (values .entry) (versions .entry) (statuses .entry) (holidays .entry) (readings .entry) (reads .entry) (agreed .entry) («agreed_versions» .entry) (counts .entry) (widths .entry) in
         (r ≡ publishCode (publishAnswer head book (now (out .entry))))
         × (now (out .exit) ≡ publishAfter head book (now (out .entry))))
         ⌝ }
@@ -58,6 +59,7 @@ pub extern "C" fn sawmauve_publish(
         agreed,
         agreed_versions,
         counts,
+        widths,
         out,
     ))
 }

@@ -14,7 +14,7 @@ ghost use Rattle.rules.specs.Inner.Lent.{lentSlots, lentAgreed};
 ghost use Rattle.book.specs.Answers.{openedMeant, filedMeant, answerCode};
 ghost use Rattle.book.specs.Opening.{openAnswer, openAfter};
 ghost use Rattle.book.specs.Filling.{deliverAnswer, deliverAfter, countsAfter, agreeAnswer, agreeAfter, holidayAnswer, holidayAfter, registerAnswer, registerAfter};
-ghost use Rattle.book.specs.Inner.Lent.{lentReads, lentBook, HoldSlots, HoldAgreed, HoldBook};
+ghost use Rattle.book.specs.Inner.Lent.{lentReads, lentBook, HoldSlots, HoldReads, HoldAgreed, HoldBook};
 ghost use Rattle.host.specs.Codes.{headOf};
 
 pub fn head_of(
@@ -79,12 +79,13 @@ pub extern "C" fn sawmauve_open(
     agreed: &mut [u32],
     agreed_versions: &mut [u32],
     counts: &mut [u16],
+    widths: &mut [u16],
 ) -> u32
     ensures { λ r. ⌜
         (let head = headOf year month day days interval limit tolerance in
-        let book = lentBook (values .entry) (versions .entry) (statuses .entry) (holidays .entry) (readings .entry) (reads .entry) (agreed .entry) («agreed_versions» .entry) (counts .entry) in
+        let book = lentBook (values .entry) (versions .entry) (statuses .entry) (holidays .entry) (readings .entry) (reads .entry) (agreed .entry) («agreed_versions» .entry) (counts .entry) (widths .entry) in
         (r ≡ answerCode (openAnswer head book))
-        × HoldBook (values .exit) (versions .exit) (statuses .exit) (holidays .exit) (readings .exit) (reads .exit) (agreed .exit) («agreed_versions» .exit) (counts .exit) (openAfter head book))
+        × HoldBook (values .exit) (versions .exit) (statuses .exit) (holidays .exit) (readings .exit) (reads .exit) (agreed .exit) («agreed_versions» .exit) (counts .exit) (widths .exit) (openAfter head book))
         ⌝ }
 {
     let head = head_of(year, month, day, days, interval, limit, tolerance);
@@ -99,6 +100,7 @@ pub extern "C" fn sawmauve_open(
         agreed,
         agreed_versions,
         counts,
+        widths,
     ))
 }
 
@@ -201,18 +203,28 @@ pub extern "C" fn sawmauve_register(
     tolerance: u32,
     readings: &mut [u32],
     reads: &mut [u32],
+    widths: &mut [u16],
     boundary: u32,
     version: u32,
     reading: u32,
+    width: u32,
 ) -> u32
     ensures { λ r. ⌜
         (let head = headOf year month day days interval limit tolerance in
-        let lent = lentReads (readings .entry) (reads .entry) in
-        (r ≡ answerCode (registerAnswer head lent boundary version reading))
-        × (now (readings .exit) ≡ registerAfter head lent boundary version reading .readings)
-        × (now (reads .exit) ≡ registerAfter head lent boundary version reading .readVersions))
+        let lent = lentReads (readings .entry) (reads .entry) (widths .entry) in
+        (r ≡ answerCode (registerAnswer head lent boundary version reading width))
+        × HoldReads (readings .exit) (reads .exit) (widths .exit) (registerAfter head lent boundary version reading width))
         ⌝ }
 {
     let head = head_of(year, month, day, days, interval, limit, tolerance);
-    filed_code(book::register(head, readings, reads, boundary, version, reading))
+    filed_code(book::register(
+        head,
+        readings,
+        reads,
+        widths,
+        boundary,
+        version,
+        reading,
+        width,
+    ))
 }

@@ -289,13 +289,14 @@ fn play_opening(
     agreed: &mut [u32],
     agreed_versions: &mut [u32],
     counts: &mut [u16],
+    widths: &mut [u16],
     opening: Opening,
 ) -> Played
     ensures { λ r. ⌜
         (let book =
-        lentBook (values .entry) (versions .entry) (statuses .entry) (holidays .entry) (readings .entry) (reads .entry) (agreed .entry) («agreed_versions» .entry) (counts .entry) in
+        lentBook (values .entry) (versions .entry) (statuses .entry) (holidays .entry) (readings .entry) (reads .entry) (agreed .entry) («agreed_versions» .entry) (counts .entry) (widths .entry) in
         (r ≡ openedWith run book opening (loadAnswer (tableOf (run .limits)) (opening .kind)))
-        × (lentBook (values .exit) (versions .exit) (statuses .exit) (holidays .exit) (readings .exit) (reads .exit) (agreed .exit) («agreed_versions» .exit) (counts .exit)
+        × (lentBook (values .exit) (versions .exit) (statuses .exit) (holidays .exit) (readings .exit) (reads .exit) (agreed .exit) («agreed_versions» .exit) (counts .exit) (widths .exit)
         ≡ listsWith book opening (loadAnswer (tableOf (run .limits)) (opening .kind))))
         ⌝ }
 {
@@ -315,6 +316,7 @@ fn play_opening(
                 agreed,
                 agreed_versions,
                 counts,
+                widths,
             );
             after_opening(run, head, opened)
         }
@@ -334,13 +336,14 @@ fn play_closed(
     agreed: &mut [u32],
     agreed_versions: &mut [u32],
     counts: &mut [u16],
+    widths: &mut [u16],
     line: Line,
 ) -> Played
     ensures { λ r. ⌜
         (let book =
-        lentBook (values .entry) (versions .entry) (statuses .entry) (holidays .entry) (readings .entry) (reads .entry) (agreed .entry) («agreed_versions» .entry) (counts .entry) in
+        lentBook (values .entry) (versions .entry) (statuses .entry) (holidays .entry) (readings .entry) (reads .entry) (agreed .entry) («agreed_versions» .entry) (counts .entry) (widths .entry) in
         (r ≡ playedClosed run book line)
-        × (lentBook (values .exit) (versions .exit) (statuses .exit) (holidays .exit) (readings .exit) (reads .exit) (agreed .exit) («agreed_versions» .exit) (counts .exit)
+        × (lentBook (values .exit) (versions .exit) (statuses .exit) (holidays .exit) (readings .exit) (reads .exit) (agreed .exit) («agreed_versions» .exit) (counts .exit) (widths .exit)
         ≡ closedLists run book line))
         ⌝ }
 {
@@ -361,6 +364,7 @@ fn play_closed(
             agreed,
             agreed_versions,
             counts,
+            widths,
             opening,
         ),
         Line::Fill(_) => quiet(run, Stage::Unfit),
@@ -380,13 +384,14 @@ fn play_first(
     agreed: &mut [u32],
     agreed_versions: &mut [u32],
     counts: &mut [u16],
+    widths: &mut [u16],
     entry: Entry,
 ) -> Played
     ensures { λ r. ⌜
         (let book =
-        lentBook (values .entry) (versions .entry) (statuses .entry) (holidays .entry) (readings .entry) (reads .entry) (agreed .entry) («agreed_versions» .entry) (counts .entry) in
+        lentBook (values .entry) (versions .entry) (statuses .entry) (holidays .entry) (readings .entry) (reads .entry) (agreed .entry) («agreed_versions» .entry) (counts .entry) (widths .entry) in
         (r ≡ playedFirst run book entry)
-        × (lentBook (values .exit) (versions .exit) (statuses .exit) (holidays .exit) (readings .exit) (reads .exit) (agreed .exit) («agreed_versions» .exit) (counts .exit)
+        × (lentBook (values .exit) (versions .exit) (statuses .exit) (holidays .exit) (readings .exit) (reads .exit) (agreed .exit) («agreed_versions» .exit) (counts .exit) (widths .exit)
         ≡ closedLists run book (entry .line)))
         ⌝ }
 {
@@ -406,6 +411,7 @@ fn play_first(
         agreed,
         agreed_versions,
         counts,
+        widths,
         line,
     )
 }
@@ -422,13 +428,14 @@ fn play_open(
     agreed: &mut [u32],
     agreed_versions: &mut [u32],
     counts: &mut [u16],
+    widths: &mut [u16],
     line: Line,
 ) -> Played
     ensures { λ r. ⌜
         (let book =
-        lentBook (values .entry) (versions .entry) (statuses .entry) (holidays .entry) (readings .entry) (reads .entry) (agreed .entry) («agreed_versions» .entry) (counts .entry) in
+        lentBook (values .entry) (versions .entry) (statuses .entry) (holidays .entry) (readings .entry) (reads .entry) (agreed .entry) («agreed_versions» .entry) (counts .entry) (widths .entry) in
         (r ≡ playedOpen run book line)
-        × (lentBook (values .exit) (versions .exit) (statuses .exit) (holidays .exit) (readings .exit) (reads .exit) (agreed .exit) («agreed_versions» .exit) (counts .exit)
+        × (lentBook (values .exit) (versions .exit) (statuses .exit) (holidays .exit) (readings .exit) (reads .exit) (agreed .exit) («agreed_versions» .exit) (counts .exit) (widths .exit)
         ≡ openLists run book line))
         ⌝ }
 {
@@ -449,6 +456,7 @@ fn play_open(
                 agreed,
                 agreed_versions,
                 counts,
+                widths,
                 call,
             );
             after_filling(run, filed)
@@ -469,13 +477,14 @@ pub fn play(
     agreed: &mut [u32],
     agreed_versions: &mut [u32],
     counts: &mut [u16],
+    widths: &mut [u16],
     entry: Entry,
 ) -> Played
     ensures { λ r. ⌜
         (let book =
-        lentBook (values .entry) (versions .entry) (statuses .entry) (holidays .entry) (readings .entry) (reads .entry) (agreed .entry) («agreed_versions» .entry) (counts .entry) in
+        lentBook (values .entry) (versions .entry) (statuses .entry) (holidays .entry) (readings .entry) (reads .entry) (agreed .entry) («agreed_versions» .entry) (counts .entry) (widths .entry) in
         (r ≡ played run book entry)
-        × (lentBook (values .exit) (versions .exit) (statuses .exit) (holidays .exit) (readings .exit) (reads .exit) (agreed .exit) («agreed_versions» .exit) (counts .exit)
+        × (lentBook (values .exit) (versions .exit) (statuses .exit) (holidays .exit) (readings .exit) (reads .exit) (agreed .exit) («agreed_versions» .exit) (counts .exit) (widths .exit)
         ≡ playedLists run book entry))
         ⌝ }
 {
@@ -493,6 +502,7 @@ pub fn play(
             agreed,
             agreed_versions,
             counts,
+            widths,
             entry,
         ),
         Stage::Limited => play_closed(
@@ -506,6 +516,7 @@ pub fn play(
             agreed,
             agreed_versions,
             counts,
+            widths,
             line,
         ),
         Stage::Open => play_open(
@@ -519,6 +530,7 @@ pub fn play(
             agreed,
             agreed_versions,
             counts,
+            widths,
             line,
         ),
         Stage::Unfit => Played {

@@ -168,6 +168,7 @@ pub fn play_log(
     agreed: &mut [u32],
     agreed_versions: &mut [u32],
     counts: &mut [u16],
+    widths: &mut [u16],
 ) -> Ended
     requires { ⌜ Held (lead .first .source) (length (now block)) (length (now part)) ⌝ }
 {
@@ -188,6 +189,7 @@ pub fn play_log(
             agreed,
             agreed_versions,
             counts,
+            widths,
             entry,
         );
         run = played.run;

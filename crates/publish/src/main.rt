@@ -27,6 +27,7 @@ fn write_file(
     agreed: &[u32],
     agreed_versions: &[u32],
     counts: &[u16],
+    widths: &[u16],
 ) {
     let mut out = file_buffer();
     match publishing::publish(
@@ -40,6 +41,7 @@ fn write_file(
         agreed,
         agreed_versions,
         counts,
+        widths,
         &mut out,
     ) {
         Published::Length(n) => {
@@ -77,6 +79,7 @@ fn publish_log(
     agreed: &mut [u32],
     agreed_versions: &mut [u32],
     counts: &mut [u16],
+    widths: &mut [u16],
 )
     requires { ⌜ Held (lead .first .source) (length (now block)) (length (now part)) ⌝ }
 {
@@ -94,6 +97,7 @@ fn publish_log(
         agreed,
         agreed_versions,
         counts,
+        widths,
     );
     if !program::is_done(end) {
         return;
@@ -110,6 +114,7 @@ fn publish_log(
         agreed,
         agreed_versions,
         counts,
+        widths,
     );
     tell_refused(run.refused);
 }
@@ -124,6 +129,7 @@ fn main() {
     let mut agreed = [0u32; 115200];
     let mut agreed_versions = [0u32; 115200];
     let mut counts = [0u16; 400];
+    let mut widths = [0u16; 401];
     let mut block = io::large_buffer();
     let mut part = [0u8; 257];
     let lead = program::read_lead(&mut block, &mut part);
@@ -148,5 +154,6 @@ fn main() {
         &mut agreed[..slots],
         &mut agreed_versions[..slots],
         &mut counts[..days],
+        &mut widths[..boundaries],
     );
 }

@@ -25,6 +25,6 @@ module _ (p : Packed) where
     unfolding callOf
     is-agreed k = rw (ne-eqb _ _ n, ne-eqb _ _ m, eq-eqb _ _ k)
 
-    pub is-register : (p .kind ≡ 4 → ⊥) → register (p .place) (p .version) (p .content) ≡ callOf p
+    pub is-register : (p .kind ≡ 4 → ⊥) → register (p .place) (p .version) (p .content) (p .status) ≡ callOf p
     unfolding callOf
     is-register k = rw (ne-eqb _ _ n, ne-eqb _ _ m, ne-eqb _ _ k)

@@ -38,12 +38,12 @@ refused-tests true true n rules m e = let z : _≡_ {A = ℕ} 0 1 = cc in absurd
 refused-tests true false n rules m e = ((cc), refl)
 refused-tests false y n rules m e = ((cc), refl)
 
--- books are equal where their nine lists are
+-- books are equal where their ten lists are
 pub same-lists : {b b' : Book} → b .cells .slots .values ≡ b' .cells .slots .values → b .cells .slots .versions ≡ b' .cells .slots .versions
     → b .cells .slots .statuses ≡ b' .cells .slots .statuses → b .cells .holidays ≡ b' .cells .holidays → b .cells .readings ≡ b' .cells .readings
     → b .cells .readVersions ≡ b' .cells .readVersions → b .cells .agreed .values ≡ b' .cells .agreed .values
-    → b .cells .agreed .versions ≡ b' .cells .agreed .versions → b .counts ≡ b' .counts → b ≡ b'
-same-lists values versions statuses holidays readings reads agreed agreed-versions counts =
+    → b .cells .agreed .versions ≡ b' .cells .agreed .versions → b .counts ≡ b' .counts → b .cells .widths ≡ b' .cells .widths → b ≡ b'
+same-lists values versions statuses holidays readings reads agreed agreed-versions counts widths =
     λ t. record {
       cells = record {
         slots = record { values = values t; versions = versions t; statuses = statuses t };
@@ -51,6 +51,7 @@ same-lists values versions statuses holidays readings reads agreed agreed-versio
         readings = readings t;
         readVersions = reads t;
         agreed = record { values = agreed t; versions = agreed-versions t };
+        widths = widths t;
       };
       counts = counts t;
     }
@@ -64,7 +65,7 @@ pub record Meant (h : Head) (calls answers : List ℕ) (b : Book) (out : List �
   pub bytes : out' ≡ outAfter h calls answers b out
 
 module _ {h : Head} {calls answers : List ℕ} {b : Book} {out : List ℕ} where
-  -- the nine lists one by one, as the contract has them
+  -- the ten lists one by one, as the contract has them
   pub each : {r : Replayed} {answers' : List ℕ} {b' : Book} {out' : List ℕ} → Meant h calls answers b out r answers' b' out'
       → (let after = listsAfter h calls answers b in
       (r ≡ replayAnswer h calls answers b out)
@@ -77,7 +78,8 @@ module _ {h : Head} {calls answers : List ℕ} {b : Book} {out : List ℕ} where
       × (b' .cells .readVersions ≡ after .cells .readVersions)
       × (b' .cells .agreed .values ≡ after .cells .agreed .values)
       × (b' .cells .agreed .versions ≡ after .cells .agreed .versions)
-      × (b' .counts ≡ after .counts))
+      × (b' .counts ≡ after .counts)
+      × (b' .cells .widths ≡ after .cells .widths))
       × (out' ≡ outAfter h calls answers b out))
   each m =
       let e = m .lists in (
@@ -93,6 +95,7 @@ module _ {h : Head} {calls answers : List ℕ} {b : Book} {out : List ℕ} where
           (λ t. e t .cells .agreed .values),
           (λ t. e t .cells .agreed .versions),
           (λ t. e t .counts),
+          (λ t. e t .cells .widths),
         ),
         m .bytes,
       )

@@ -18,7 +18,7 @@ use Rattle.publishing.specs.declared.Published.the-variants.{Length, Refused}
 use Rattle.file.specs.Layout.{fileOf}
 use Rattle.publishing.specs.Publishing.{published, publishAnswer, publishAfter}
 
--- what the calls leave in the nine lists, and the plain book of the same calls
+-- what the calls leave in the ten lists, and the plain book of the same calls
 abbrev pub leftBy : Head → List Call → Book
 leftBy h cs = afterAll h (opened h) cs
 

@@ -49,15 +49,16 @@ fn play_and_publish(
     agreed: &mut [u32],
     agreed_versions: &mut [u32],
     counts: &mut [u16],
+    widths: &mut [u16],
     out: &mut [u8],
 ) -> Replayed
     requires { ⌜ (packedOk (now calls) ≡ true) × (length (now calls) ≡ 5 * length (now answers)) ⌝ }
     ensures { λ r. ⌜
-        (let book = lentBook (values .entry) (versions .entry) (statuses .entry) (holidays .entry) (readings .entry) (reads .entry) (agreed .entry) («agreed_versions» .entry) (counts .entry) in
+        (let book = lentBook (values .entry) (versions .entry) (statuses .entry) (holidays .entry) (readings .entry) (reads .entry) (agreed .entry) («agreed_versions» .entry) (counts .entry) (widths .entry) in
         let after = afterAll head book (unpack (now (calls .entry))) in
         (r ≡ publishedMeant (publishAnswer head after (now (out .entry))))
         × (now (answers .exit) ≡ map answerCode (answersOf head book (unpack (now (calls .entry)))))
-        × (lentBook (values .exit) (versions .exit) (statuses .exit) (holidays .exit) (readings .exit) (reads .exit) (agreed .exit) («agreed_versions» .exit) (counts .exit) ≡ after)
+        × (lentBook (values .exit) (versions .exit) (statuses .exit) (holidays .exit) (readings .exit) (reads .exit) (agreed .exit) («agreed_versions» .exit) (counts .exit) (widths .exit) ≡ after)
         × (now (out .exit) ≡ publishAfter head after (now (out .entry))))
         ⌝ }
 {
@@ -74,6 +75,7 @@ fn play_and_publish(
         agreed,
         agreed_versions,
         counts,
+        widths,
     );
     told(publishing::publish(
         head,
@@ -86,6 +88,7 @@ fn play_and_publish(
         agreed,
         agreed_versions,
         counts,
+        widths,
         out,
     ))
 }
@@ -104,13 +107,14 @@ pub fn replay(
     agreed: &mut [u32],
     agreed_versions: &mut [u32],
     counts: &mut [u16],
+    widths: &mut [u16],
     out: &mut [u8],
 ) -> Replayed
     ensures { λ r. ⌜
-        (let book = lentBook (values .entry) (versions .entry) (statuses .entry) (holidays .entry) (readings .entry) (reads .entry) (agreed .entry) («agreed_versions» .entry) (counts .entry) in
+        (let book = lentBook (values .entry) (versions .entry) (statuses .entry) (holidays .entry) (readings .entry) (reads .entry) (agreed .entry) («agreed_versions» .entry) (counts .entry) (widths .entry) in
         (r ≡ replayAnswer head (now (calls .entry)) (now (answers .entry)) book (now (out .entry)))
         × (now (answers .exit) ≡ answersAfter head (now (calls .entry)) (now (answers .entry)) book)
-        × HoldBook (values .exit) (versions .exit) (statuses .exit) (holidays .exit) (readings .exit) (reads .exit) (agreed .exit) («agreed_versions» .exit) (counts .exit) (listsAfter head (now (calls .entry)) (now (answers .entry)) book)
+        × HoldBook (values .exit) (versions .exit) (statuses .exit) (holidays .exit) (readings .exit) (reads .exit) (agreed .exit) («agreed_versions» .exit) (counts .exit) (widths .exit) (listsAfter head (now (calls .entry)) (now (answers .entry)) book)
         × (now (out .exit) ≡ outAfter head (now (calls .entry)) (now (answers .entry)) book (now (out .entry))))
         ⌝ }
 {
@@ -131,6 +135,7 @@ pub fn replay(
         agreed,
         agreed_versions,
         counts,
+        widths,
     );
     match opened {
         Opened::Done => play_and_publish(
@@ -146,6 +151,7 @@ pub fn replay(
             agreed,
             agreed_versions,
             counts,
+            widths,
             out,
         ),
         Opened::Refused(n) => Replayed::Refused(n),

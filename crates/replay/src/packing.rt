@@ -1,4 +1,4 @@
-// Calls packed into words, five a call: 1 slot version value status | 2 day 0 0 0 | 3 boundary version reading 0 | 4 slot version value 0.
+// Calls packed into words, five a call: 1 slot version value status | 2 day 0 0 0 | 3 boundary version reading width | 4 slot version value 0.
 use book::calls::Call;
 ghost use mathlib.Core.Bool.{true};
 ghost use mathlib.Core.List.{_∷_};
@@ -45,10 +45,10 @@ fn call_ok(call: Packed) -> bool
         }
         return call.status == 0;
     }
-    if call.kind < 3 {
-        return false;
+    if call.kind == 3 {
+        return true;
     }
-    if 4 < call.kind {
+    if call.kind != 4 {
         return false;
     }
     call.status == 0
@@ -80,6 +80,7 @@ pub fn call_of(call: Packed) -> Call
         boundary: call.place,
         version: call.version,
         reading: call.content,
+        width: call.status,
     }
 }
 

@@ -37,13 +37,14 @@ fn play(
     agreed: &mut [u32],
     agreed_versions: &mut [u32],
     counts: &mut [u16],
+    widths: &mut [u16],
     call: Packed,
 ) -> u8
     requires { ⌜ callOk call ≡ true ⌝ }
     ensures { λ r. ⌜
-        (let book = lentBook (values .entry) (versions .entry) (statuses .entry) (holidays .entry) (readings .entry) (reads .entry) (agreed .entry) («agreed_versions» .entry) (counts .entry) in
+        (let book = lentBook (values .entry) (versions .entry) (statuses .entry) (holidays .entry) (readings .entry) (reads .entry) (agreed .entry) («agreed_versions» .entry) (counts .entry) (widths .entry) in
         (r ≡ answerCode (answer head book (callOf call)))
-        × (lentBook (values .exit) (versions .exit) (statuses .exit) (holidays .exit) (readings .exit) (reads .exit) (agreed .exit) («agreed_versions» .exit) (counts .exit) ≡ after head book (callOf call)))
+        × (lentBook (values .exit) (versions .exit) (statuses .exit) (holidays .exit) (readings .exit) (reads .exit) (agreed .exit) («agreed_versions» .exit) (counts .exit) (widths .exit) ≡ after head book (callOf call)))
         ⌝ }
 {
     byte_of(calls::fill(
@@ -57,6 +58,7 @@ fn play(
         agreed,
         agreed_versions,
         counts,
+        widths,
         packing::call_of(call),
     ))
 }
@@ -75,12 +77,13 @@ pub fn play_all(
     agreed: &mut [u32],
     agreed_versions: &mut [u32],
     counts: &mut [u16],
+    widths: &mut [u16],
 )
     requires { ⌜ (packedOk (now calls) ≡ true) × (length (now calls) ≡ 5 * length (now answers)) ⌝ }
     ensures { λ _. ⌜
-        (let book = lentBook (values .entry) (versions .entry) (statuses .entry) (holidays .entry) (readings .entry) (reads .entry) (agreed .entry) («agreed_versions» .entry) (counts .entry) in
+        (let book = lentBook (values .entry) (versions .entry) (statuses .entry) (holidays .entry) (readings .entry) (reads .entry) (agreed .entry) («agreed_versions» .entry) (counts .entry) (widths .entry) in
         (now (answers .exit) ≡ map answerCode (answersOf head book (unpack (now (calls .entry)))))
-        × (lentBook (values .exit) (versions .exit) (statuses .exit) (holidays .exit) (readings .exit) (reads .exit) (agreed .exit) («agreed_versions» .exit) (counts .exit) ≡ afterAll head book (unpack (now (calls .entry)))))
+        × (lentBook (values .exit) (versions .exit) (statuses .exit) (holidays .exit) (readings .exit) (reads .exit) (agreed .exit) («agreed_versions» .exit) (counts .exit) (widths .exit) ≡ afterAll head book (unpack (now (calls .entry)))))
         ⌝ }
 {
     let mut i = 0;
@@ -97,6 +100,7 @@ pub fn play_all(
             agreed,
             agreed_versions,
             counts,
+            widths,
             call,
         );
         answers[i] = byte;

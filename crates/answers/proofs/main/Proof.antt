@@ -83,6 +83,12 @@ array-borrow-prefix-counts c = search needs
 slice-aggregate-answer-log-11 : tie.Need-slice-aggregate-answer-log-11
 slice-aggregate-answer-log-11 c = sym (length-take-le _ _ (array-borrow-prefix-counts (c .before)))
 
+array-borrow-prefix-widths : tie.Need-array-borrow-prefix-widths
+array-borrow-prefix-widths c = search needs
+
+slice-aggregate-answer-log-12 : tie.Need-slice-aggregate-answer-log-12
+slice-aggregate-answer-log-12 c = sym (length-take-le _ _ (array-borrow-prefix-widths (c .before)))
+
 answer-log-requires : tie.Need-answer-log-requires
 answer-log-requires c κs = search needs
 
@@ -119,5 +125,7 @@ main-spec =
     slice-aggregate-answer-log-10
     array-borrow-prefix-counts
     slice-aggregate-answer-log-11
+    array-borrow-prefix-widths
+    slice-aggregate-answer-log-12
     answer-log-requires
     returns-2)

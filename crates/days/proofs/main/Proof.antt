@@ -80,6 +80,12 @@ array-borrow-prefix-counts c = search needs
 slice-aggregate-count-log-11 : tie.Need-slice-aggregate-count-log-11
 slice-aggregate-count-log-11 c = sym (length-take-le _ _ (array-borrow-prefix-counts (c .before)))
 
+array-borrow-prefix-widths : tie.Need-array-borrow-prefix-widths
+array-borrow-prefix-widths c = search needs
+
+slice-aggregate-count-log-12 : tie.Need-slice-aggregate-count-log-12
+slice-aggregate-count-log-12 c = sym (length-take-le _ _ (array-borrow-prefix-widths (c .before)))
+
 count-log-requires : tie.Need-count-log-requires
 count-log-requires c κs = search needs
 
@@ -115,5 +121,7 @@ main-spec =
     slice-aggregate-count-log-10
     array-borrow-prefix-counts
     slice-aggregate-count-log-11
+    array-borrow-prefix-widths
+    slice-aggregate-count-log-12
     count-log-requires
     returns)

@@ -41,10 +41,13 @@ same-length-8 c = search needs
 same-length-9 : tie.Need-same-length-9
 same-length-9 c = search needs
 
+same-length-10 : tie.Need-same-length-10
+same-length-10 c = search needs
+
 returns : tie.Need-returns
 returns c =
-    let o = c .before .before .before .before .before .before .before .before .before .before .before .before .before .before .before .before .before .before .before in
-    let h = rw (o .before .before .before .before .before .before .before .before .before .before .head-of .ensures) at (o .«open» .ensures) in
+    let o = c .before .before .before .before .before .before .before .before .before .before .before .before .before .before .before .before .before .before .before .before .before in
+    let h = rw (o .before .before .before .before .before .before .before .before .before .before .before .head-of .ensures) at (o .«open» .ensures) in
     (c .opened-code .ensures ∙ ap answerCode (h .0), h .1)
 
 pub sawmauve-open-spec : {M : Type 1} → statement M
@@ -63,4 +66,5 @@ sawmauve-open-spec =
     same-length-7
     same-length-8
     same-length-9
+    same-length-10
     returns)

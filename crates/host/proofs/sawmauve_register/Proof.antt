@@ -20,11 +20,14 @@ same-length c = search needs
 same-length-2 : tie.Need-same-length-2
 same-length-2 c = search needs
 
+same-length-3 : tie.Need-same-length-3
+same-length-3 c = search needs
+
 returns : tie.Need-returns
 returns c =
-    let o = c .before .before .before .before .before in
-    let h = rw (o .before .before .before .head-of .ensures) at (o .register .ensures) in
-    (c .filed-code .ensures ∙ ap answerCode (h .0), h .1, h .2)
+    let o = c .before .before .before .before .before .before .before in
+    let h = rw (o .before .before .before .before .head-of .ensures) at (o .register .ensures) in
+    (c .filed-code .ensures ∙ ap answerCode (h .0), h .1)
 
 pub sawmauve-register-spec : {M : Type 1} → statement M
 sawmauve-register-spec =
@@ -35,4 +38,5 @@ sawmauve-register-spec =
     filed-code-requires
     same-length
     same-length-2
+    same-length-3
     returns)

@@ -80,6 +80,12 @@ array-borrow-prefix-counts c = search needs
 slice-aggregate-publish-log-11 : tie.Need-slice-aggregate-publish-log-11
 slice-aggregate-publish-log-11 c = sym (length-take-le _ _ (array-borrow-prefix-counts (c .before)))
 
+array-borrow-prefix-widths : tie.Need-array-borrow-prefix-widths
+array-borrow-prefix-widths c = search needs
+
+slice-aggregate-publish-log-12 : tie.Need-slice-aggregate-publish-log-12
+slice-aggregate-publish-log-12 c = sym (length-take-le _ _ (array-borrow-prefix-widths (c .before)))
+
 publish-log-requires : tie.Need-publish-log-requires
 publish-log-requires c κs = search needs
 
@@ -115,5 +121,7 @@ main-spec =
     slice-aggregate-publish-log-10
     array-borrow-prefix-counts
     slice-aggregate-publish-log-11
+    array-borrow-prefix-widths
+    slice-aggregate-publish-log-12
     publish-log-requires
     returns)

@@ -49,11 +49,14 @@ same-length-10 c = search needs
 same-length-11 : tie.Need-same-length-11
 same-length-11 c = search needs
 
+same-length-12 : tie.Need-same-length-12
+same-length-12 c = search needs
+
 returns : tie.Need-returns
 returns c =
     let at-publish = c .before .before .before in
-    let at-play-all = at-publish .before .before .before .before .before .before .before .before .before .before .before .before .before .before .before .before .before .before .before .before .before .before .before .before .before .before .before .before .before .before .before in
-    let a = at-play-all .before .before .before .before .before .before .before .before .before .before .before .before .before .before .before .before .before .before .before .before .before .before .before .args in
+    let at-play-all = at-publish .before .before .before .before .before .before .before .before .before .before .before .before .before .before .before .before .before .before .before .before .before .before .before .before .before .before .before .before .before .before .before .before .before .before in
+    let a = at-play-all .before .before .before .before .before .before .before .before .before .before .before .before .before .before .before .before .before .before .before .before .before .before .before .before .before .args in
     let same = at-play-all .play-all .ensures .1 in (
       c .told .ensures ∙ ap publishedMeant (at-publish .publish .ensures .0 ∙ ap (λ (b : Book). publishAnswer (a .head) b (a .out .now)) same),
       at-play-all .play-all .ensures .0,
@@ -79,4 +82,5 @@ play-and-publish-spec =
     same-length-9
     same-length-10
     same-length-11
+    same-length-12
     returns)

@@ -12,7 +12,7 @@ with-table-requires : tie.Need-with-table-requires
 with-table-requires c κs = search needs
 
 returns : tie.Need-returns
-returns c = table-as (c .before .before .before .before .before .before .before .before .before .before .before .before .before .args .run) _ (c .before .before .before .before .before .before .before .before .before .before .before .before .before .args .entry) _ _ (sym (c .before .before .before .is-table .ensures) ∙ c .before .before .if1 .taken) (c .with-table .ensures) refl
+returns c = table-as (c .before .before .before .before .before .before .before .before .before .before .before .before .before .before .args .run) _ (c .before .before .before .before .before .before .before .before .before .before .before .before .before .before .args .entry) _ _ (sym (c .before .before .before .is-table .ensures) ∙ c .before .before .if1 .taken) (c .with-table .ensures) refl
 
 play-closed-requires : tie.Need-play-closed-requires
 play-closed-requires c κs = search needs
@@ -44,8 +44,11 @@ same-length-8 c = search needs
 same-length-9 : tie.Need-same-length-9
 same-length-9 c = search needs
 
+same-length-10 : tie.Need-same-length-10
+same-length-10 c = search needs
+
 returns-2 : tie.Need-returns-2
-returns-2 c = first-as (c .before .before .before .before .before .before .before .before .before .before .before .before .before .before .before .before .before .before .before .before .before .before .before .before .before .before .before .before .before .before .before .before .before .before .before .before .before .before .before .args .run) _ (c .before .before .before .before .before .before .before .before .before .before .before .before .before .before .before .before .before .before .before .before .before .before .before .before .before .before .before .before .before .before .before .before .before .before .before .before .before .before .before .args .entry) _ _ (sym (c .before .before .before .before .before .before .before .before .before .before .before .before .before .before .before .before .before .before .before .before .before .before .before .before .before .before .before .before .before .is-table .ensures) ∙ c .before .before .before .before .before .before .before .before .before .before .before .before .before .before .before .before .before .before .before .before .before .before .before .before .before .before .before .before .if1 .left) (c .before .before .before .before .before .before .before .before .before .before .before .before .before .before .before .before .before .before .play-closed .ensures .0) (c .before .before .before .before .before .before .before .before .before .before .before .before .before .before .before .before .before .before .play-closed .ensures .1)
+returns-2 c = first-as (c .before .before .before .before .before .before .before .before .before .before .before .before .before .before .before .before .before .before .before .before .before .before .before .before .before .before .before .before .before .before .before .before .before .before .before .before .before .before .before .before .before .before .before .args .run) _ (c .before .before .before .before .before .before .before .before .before .before .before .before .before .before .before .before .before .before .before .before .before .before .before .before .before .before .before .before .before .before .before .before .before .before .before .before .before .before .before .before .before .before .before .args .entry) _ _ (sym (c .before .before .before .before .before .before .before .before .before .before .before .before .before .before .before .before .before .before .before .before .before .before .before .before .before .before .before .before .before .before .before .before .is-table .ensures) ∙ c .before .before .before .before .before .before .before .before .before .before .before .before .before .before .before .before .before .before .before .before .before .before .before .before .before .before .before .before .before .before .before .if1 .left) (c .before .before .before .before .before .before .before .before .before .before .before .before .before .before .before .before .before .before .before .before .play-closed .ensures .0) (c .before .before .before .before .before .before .before .before .before .before .before .before .before .before .before .before .before .before .before .before .play-closed .ensures .1)
 
 pub play-first-spec : {M : Type 1} → statement M
 play-first-spec =
@@ -64,4 +67,5 @@ play-first-spec =
     same-length-7
     same-length-8
     same-length-9
+    same-length-10
     returns-2)

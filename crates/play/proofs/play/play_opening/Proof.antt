@@ -53,13 +53,16 @@ same-length-8 c = search needs
 same-length-9 : tie.Need-same-length-9
 same-length-9 c = search needs
 
+same-length-10 : tie.Need-same-length-10
+same-length-10 c = search needs
+
 returns : tie.Need-returns
-returns c = let e = c .before .before .before .before .before .before .before .before .before .before .before .before .before .before .before .before .before .before .before .«open» .ensures in
-    loaded-as (c .before .before .before .before .before .before .before .before .before .before .before .before .before .before .before .before .before .before .before .before .before .before .before .before .before .before .before .before .before .before .before .before .before .before .before .before .before .before .before .before .before .before .before .before .args .run) _ (c .before .before .before .before .before .before .before .before .before .before .before .before .before .before .before .before .before .before .before .before .before .before .before .before .before .before .before .before .before .before .before .before .before .before .before .before .before .before .before .before .before .before .before .before .args .opening) _ _ _ _ _ _ (sym (c .before .before .before .before .before .before .before .before .before .before .before .before .before .before .before .before .before .before .before .before .before .before .before .before .before .before .before .before .before .before .before .before .before .load-from .ensures) ∙ c .before .before .before .before .before .before .before .before .before .before .before .before .before .before .before .before .before .before .before .before .before .before .before .before .before .before .before .before .before .before .before .loaded .given .1) (c .before .before .before .before .before .before .before .before .before .before .before .before .before .before .before .before .before .before .before .before .before .before .before .before .before .before .before .before .before .head-with .ensures) (c .after-opening .ensures) (e .0)
-    (λ t. record { cells = record { slots = record { values = e .1 .0 t; versions = e .1 .1 t; statuses = e .1 .2 t }; holidays = e .1 .3 t; readings = e .1 .4 t; readVersions = e .1 .5 t; agreed = record { values = e .1 .6 t; versions = e .1 .7 t } }; counts = e .1 .8 t })
+returns c = let e = c .before .before .before .before .before .before .before .before .before .before .before .before .before .before .before .before .before .before .before .before .before .«open» .ensures in
+    loaded-as (c .before .before .before .before .before .before .before .before .before .before .before .before .before .before .before .before .before .before .before .before .before .before .before .before .before .before .before .before .before .before .before .before .before .before .before .before .before .before .before .before .before .before .before .before .before .before .before .before .args .run) _ (c .before .before .before .before .before .before .before .before .before .before .before .before .before .before .before .before .before .before .before .before .before .before .before .before .before .before .before .before .before .before .before .before .before .before .before .before .before .before .before .before .before .before .before .before .before .before .before .before .args .opening) _ _ _ _ _ _ (sym (c .before .before .before .before .before .before .before .before .before .before .before .before .before .before .before .before .before .before .before .before .before .before .before .before .before .before .before .before .before .before .before .before .before .before .before .before .load-from .ensures) ∙ c .before .before .before .before .before .before .before .before .before .before .before .before .before .before .before .before .before .before .before .before .before .before .before .before .before .before .before .before .before .before .before .before .before .before .loaded .given .1) (c .before .before .before .before .before .before .before .before .before .before .before .before .before .before .before .before .before .before .before .before .before .before .before .before .before .before .before .before .before .before .before .before .head-with .ensures) (c .after-opening .ensures) (e .0)
+    (λ t. record { cells = record { slots = record { values = e .1 .0 t; versions = e .1 .1 t; statuses = e .1 .2 t }; holidays = e .1 .3 t; readings = e .1 .4 t; readVersions = e .1 .5 t; agreed = record { values = e .1 .6 t; versions = e .1 .7 t }; widths = e .1 .9 t }; counts = e .1 .8 t })
 
 returns-2 : tie.Need-returns-2
-returns-2 c = unloaded-as (c .before .before .before .before .before .before .before .before .before .before .before .before .before .before .before .args .run) _ (c .before .before .before .before .before .before .before .before .before .before .before .before .before .before .before .args .opening) _ _ _ _ (sym (c .before .before .before .before .load-from .ensures) ∙ c .before .before .loaded2 .given .1) (c .unopened .ensures) refl
+returns-2 c = unloaded-as (c .before .before .before .before .before .before .before .before .before .before .before .before .before .before .before .before .args .run) _ (c .before .before .before .before .before .before .before .before .before .before .before .before .before .before .before .before .args .opening) _ _ _ _ (sym (c .before .before .before .before .load-from .ensures) ∙ c .before .before .loaded2 .given .1) (c .unopened .ensures) refl
 
 pub play-opening-spec : {M : Type 1} → statement M
 play-opening-spec =
@@ -81,5 +84,6 @@ play-opening-spec =
     same-length-7
     same-length-8
     same-length-9
+    same-length-10
     returns
     returns-2)

@@ -1,5 +1,5 @@
 -- `packing::call_ok`: a test for each kind.
-use borrow.Author.Tests.{eq-eqb, ne-eqb, le-leb, lt-leb}
+use borrow.Author.Tests.{eq-eqb, ne-eqb}
 use Rattle.replay.specs.Packing.{callOk}
 use Rattle.replay.proofs.packing.call_ok.Statement.{statement}
 use Rattle.replay.proofs.packing.call_ok.Tie as tie
@@ -27,20 +27,20 @@ returns-4 c =
 
 returns-5 : tie.Need-returns-5
 unfolding callOk
-returns-5 c = rw (ne-eqb _ _ (c .before .before .before .before .if1 .left), ne-eqb _ _ (c .before .before .if2 .left), lt-leb _ _ (c .if5 .taken))
+returns-5 c = rw (ne-eqb _ _ (c .before .before .before .before .if1 .left), ne-eqb _ _ (c .before .before .if2 .left), eq-eqb _ _ (c .if5 .taken))
 
 returns-6 : tie.Need-returns-6
 unfolding callOk
 returns-6 c =
     let at-if2 = c .before .before .before .before in
-    rw (ne-eqb _ _ (at-if2 .before .before .if1 .left), ne-eqb _ _ (at-if2 .if2 .left), le-leb _ _ (c .before .before .if5 .left), lt-leb _ _ (c .if6 .taken))
+    rw (ne-eqb _ _ (at-if2 .before .before .if1 .left), ne-eqb _ _ (at-if2 .if2 .left), ne-eqb _ _ (c .before .before .if5 .left), ne-eqb _ _ (c .if6 .taken))
 
 returns-7 : tie.Need-returns-7
 unfolding callOk
 returns-7 c =
     let at-if5 = c .before .before .before in
     let at-if1 = at-if5 .before .before .before .before in
-    rw (ne-eqb _ _ (at-if1 .if1 .left), ne-eqb _ _ (at-if5 .before .before .if2 .left), le-leb _ _ (at-if5 .if5 .left), le-leb _ _ (c .before .if6 .left))
+    rw (ne-eqb _ _ (at-if1 .if1 .left), ne-eqb _ _ (at-if5 .before .before .if2 .left), ne-eqb _ _ (at-if5 .if5 .left), eq-eqb _ _ (c .before .if6 .left))
 
 pub call-ok-spec : {M : Type 1} → statement M
 call-ok-spec = tie.close (tie.spec returns returns-2 returns-3 returns-4 returns-5 returns-6 returns-7)

@@ -43,12 +43,15 @@ same-length-8 c = search needs
 same-length-9 : tie.Need-same-length-9
 same-length-9 c = search needs
 
+same-length-10 : tie.Need-same-length-10
+same-length-10 c = search needs
+
 returns : tie.Need-returns
 returns c =
-    let a = c .before .before .before .before .before .before .before .before .before .before .before .before .before .before .before .before .before .before .before .before .before .before .before .before .before .before .before .before .before .before .before .before .before .before .before .before .before .before .before .args in
-    let b = lentBook (a .values) (a .versions) (a .statuses) (a .holidays) (a .readings) (a .reads) (a .agreed) (a .agreed-versions) (a .counts) in
-    let e = c .before .before .before .before .before .before .before .before .before .before .before .before .before .before .before .before .before .before .before .before .call-of .ensures in
-    let f = c .before .before .before .before .before .before .before .before .before .before .before .before .before .before .before .before .before .before .before .fill .ensures in
+    let a = c .before .before .before .before .before .before .before .before .before .before .before .before .before .before .before .before .before .before .before .before .before .before .before .before .before .before .before .before .before .before .before .before .before .before .before .before .before .before .before .before .before .before .before .args in
+    let b = lentBook (a .values) (a .versions) (a .statuses) (a .holidays) (a .readings) (a .reads) (a .agreed) (a .agreed-versions) (a .counts) (a .widths) in
+    let e = c .before .before .before .before .before .before .before .before .before .before .before .before .before .before .before .before .before .before .before .before .before .before .call-of .ensures in
+    let f = c .before .before .before .before .before .before .before .before .before .before .before .before .before .before .before .before .before .before .before .before .before .fill .ensures in
     (c .byte-of .ensures ∙ ap answerCode (f .0 ∙ ap (λ k. answer (a .head) b k) e), f .1 ∙ ap (λ k. after (a .head) b k) e)
 
 pub play-spec : {M : Type 1} → statement M
@@ -67,4 +70,5 @@ play-spec =
     same-length-7
     same-length-8
     same-length-9
+    same-length-10
     returns)
