@@ -1,4 +1,5 @@
-//! 01's sentence "It accepts exactly", with W1's, once more: what `reader` is held against.
+//! 01's sentence "It accepts exactly", with W1's and W10's, once more: what `reader` is held
+//! against.
 //!
 //! One pass over the slots gives each span its tally; the clauses are then read off.
 
@@ -16,7 +17,8 @@ struct Tally {
 struct Span {
     first: u16,
     last: u16,
-    advance: u32,
+    /// Alike in layouts 1 and 2.
+    ends: [u32; 2],
     state: u8,
     last_byte: u8,
 }
@@ -29,12 +31,17 @@ pub fn read(file: &[u8]) -> Result<Figures, u8> {
     let head = [5, 15, 30].contains(&interval)
         && (1..=400).contains(&days)
         && u32::from(first_day) + u32::from(days) <= 36_525;
-    if !head || ![1, 2].contains(&t[5]) || four(28) != 10 * u32::from(spans) {
+    let record = match t[5] {
+        1 | 2 => 10,
+        3 => 14,
+        _ => return Err(8),
+    };
+    if !head || four(28) != record * u32::from(spans) {
         return Err(8);
     }
     let slots_a_day = 1440 / usize::from(interval);
     let slots = slots_a_day * usize::from(days);
-    if tables.len() != 6 * slots + 10 * usize::from(spans) {
+    if tables.len() != 6 * slots + record as usize * usize::from(spans) {
         return Err(8);
     }
     let figures = Figures {
@@ -62,7 +69,10 @@ fn contents_hold(
     slots_a_day: usize,
     figures: &Figures,
 ) -> bool {
-    let spans: Vec<Span> = span_table.chunks_exact(10).map(span).collect();
+    let spans: Vec<Span> = match figures.layout {
+        3 => span_table.as_chunks().0.iter().map(span).collect(),
+        _ => span_table.as_chunks().0.iter().map(span_before).collect(),
+    };
     let days = figures.days as usize;
     let bounds = spans
         .iter()
@@ -103,33 +113,49 @@ fn contents_hold(
         && outside.scaled == 0
         && actual == figures.actual
         && total(|tally| tally.substituted + tally.agreed) == figures.substituted
-        && (total(|tally| tally.agreed) > 0) == (figures.layout == 2)
+        && match figures.layout {
+            1 => total(|tally| tally.agreed) == 0,
+            2 => total(|tally| tally.agreed) > 0,
+            _ => true,
+        }
         && total(|tally| tally.none) == figures.none
         && total(|tally| tally.sum) == figures.sum
 }
 
-fn span(record: &[u8]) -> Span {
+/// A record of layout 3.
+fn span(record: &[u8; 14]) -> Span {
+    let [a, b, c, d, e, f, g, h, i, j, k, l, state, last_byte] = *record;
     Span {
-        first: u16::from_le_bytes([record[0], record[1]]),
-        last: u16::from_le_bytes([record[2], record[3]]),
-        advance: u32::from_le_bytes([record[4], record[5], record[6], record[7]]),
-        state: record[8],
-        last_byte: record[9],
+        first: u16::from_le_bytes([a, b]),
+        last: u16::from_le_bytes([c, d]),
+        ends: [
+            u32::from_le_bytes([e, f, g, h]),
+            u32::from_le_bytes([i, j, k, l]),
+        ],
+        state,
+        last_byte,
     }
 }
 
+/// A record of layout 1 or 2.
+fn span_before(record: &[u8; 10]) -> Span {
+    let [a, b, c, d, e, f, g, h, state, last_byte] = *record;
+    span(&[a, b, c, d, e, f, g, h, e, f, g, h, state, last_byte])
+}
+
 fn span_holds(span: &Span, tally: &Tally) -> bool {
+    let [lowest, highest] = span.ends;
     let by_state = match span.state {
         0 => tally.none == 0 && tally.substituted == 0,
         1 => {
             tally.none == 0
                 && tally.scaled > 0
                 && tally.scaled == tally.substituted
-                && tally.sum == u64::from(span.advance)
+                && (u64::from(lowest)..=u64::from(highest)).contains(&tally.sum)
         }
         2 => tally.none > 0 && tally.scaled == 0,
         3 => tally.none == 0 && tally.scaled == 0,
         _ => false,
     };
-    by_state && span.advance <= 99_999_999 && span.last_byte == 0
+    by_state && lowest <= highest && highest <= 99_999_999 && span.last_byte == 0
 }

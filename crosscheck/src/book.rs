@@ -1,8 +1,8 @@
-//! The calls over the nine lent lists: opening, the four filling calls, publishing.
+//! The calls over the ten lent lists: opening, the four filling calls, publishing.
 
 use std::cmp::Ordering;
 
-use crate::file;
+use crate::file::{self, Frame};
 use crate::head::{DIAL, Head, Shape};
 use crate::refusal;
 use crate::rules::{self, Cells};
@@ -21,6 +21,9 @@ pub const MOST_STATUS: u8 = 7;
 /// The highest agreed value in Wh.
 pub const MOST_AGREED: u32 = 99_999_999;
 
+/// The highest width of a register read in Wh.
+pub const MOST_WIDTH: u16 = 9_999;
+
 /// Sets all cells to 0.
 #[allow(clippy::too_many_arguments)] // the lists and the arguments as 01 and 02 name them
 pub fn open(
@@ -34,13 +37,15 @@ pub fn open(
     agreed: &mut [u32],
     agreed_versions: &mut [u32],
     counts: &mut [u16],
+    widths: &mut [u16],
 ) -> Result<(), u8> {
     let shape = head.shape()?;
-    lengths(&[values.len(), versions.len(), statuses.len()], shape.slots)?;
-    lengths(&[holidays.len()], shape.days)?;
-    lengths(&[readings.len(), read_versions.len()], shape.days + 1)?;
+    let deliveries = [values.len(), versions.len(), statuses.len()];
+    lengths(&deliveries, shape.slots)?;
     lengths(&[agreed.len(), agreed_versions.len()], shape.slots)?;
-    lengths(&[counts.len()], shape.days)?;
+    lengths(&[holidays.len(), counts.len()], shape.days)?;
+    let reads = [readings.len(), read_versions.len(), widths.len()];
+    lengths(&reads, shape.days + 1)?;
     values.fill(0);
     versions.fill(0);
     statuses.fill(0);
@@ -50,6 +55,7 @@ pub fn open(
     agreed.fill(0);
     agreed_versions.fill(0);
     counts.fill(0);
+    widths.fill(0);
     Ok(())
 }
 
@@ -106,30 +112,38 @@ pub fn holiday(head: Head, holidays: &mut [u8], day: u32) -> Result<Filed, u8> {
     Ok(Filed::Stored)
 }
 
-/// Takes a register read at one boundary.
+/// Takes a register read at one boundary. The width is any number, so that all over
+/// 9,999 are refused.
+#[allow(clippy::too_many_arguments)] // the lists and the arguments as 01 and 02 name them
 pub fn register(
     head: Head,
     readings: &mut [u32],
     read_versions: &mut [u32],
+    widths: &mut [u16],
     boundary: u32,
     version: u32,
     reading: u32,
+    width: u32,
 ) -> Result<Filed, u8> {
     let shape = head.shape()?;
-    lengths(&[readings.len(), read_versions.len()], shape.days + 1)?;
+    let reads = [readings.len(), read_versions.len(), widths.len()];
+    lengths(&reads, shape.days + 1)?;
     let boundary = boundary as usize;
     refuse_if(boundary > shape.days, refusal::PLACE)?;
     refuse_if(version == 0, refusal::VERSION)?;
     refuse_if(reading >= DIAL, refusal::READING)?;
+    refuse_if(width > MOST_WIDTH.into(), refusal::WIDTH)?;
+    let width = width as u16;
+    let cell = (readings[boundary], widths[boundary]);
     refuse_if(
-        !register_possible(readings[boundary], read_versions[boundary]),
+        !register_possible(cell.0, read_versions[boundary], cell.1),
         refusal::CELL,
     )?;
-    let same = reading == readings[boundary];
-    let filed = filed(version, read_versions[boundary], same)?;
+    let filed = filed(version, read_versions[boundary], (reading, width) == cell)?;
     if filed == Filed::Stored {
         readings[boundary] = reading;
         read_versions[boundary] = version;
+        widths[boundary] = width;
     }
     Ok(filed)
 }
@@ -174,14 +188,16 @@ pub fn publish(
     agreed: &[u32],
     agreed_versions: &[u32],
     counts: &[u16],
+    widths: &[u16],
     out: &mut [u8],
 ) -> Result<usize, u8> {
     let shape = head.shape()?;
-    lengths(&[values.len(), versions.len(), statuses.len()], shape.slots)?;
-    lengths(&[holidays.len()], shape.days)?;
-    lengths(&[readings.len(), read_versions.len()], shape.days + 1)?;
+    let deliveries = [values.len(), versions.len(), statuses.len()];
+    lengths(&deliveries, shape.slots)?;
     lengths(&[agreed.len(), agreed_versions.len()], shape.slots)?;
-    lengths(&[counts.len()], shape.days)?;
+    lengths(&[holidays.len(), counts.len()], shape.days)?;
+    let reads = [readings.len(), read_versions.len(), widths.len()];
+    lengths(&reads, shape.days + 1)?;
     let cells = Cells {
         values,
         versions,
@@ -191,14 +207,20 @@ pub fn publish(
         read_versions,
         agreed,
         agreed_versions,
+        widths,
     };
     // In publishing, 11 goes before 7.
-    refuse_if(!all_possible(&cells), refusal::CELL)?;
-    refuse_if(!counted(&shape, versions, counts), refusal::CELL)?;
-    let (slots, spans) = rules::outcomes(&shape, &cells);
-    let length = file::length(slots.len(), spans.len());
+    let possible = all_possible(&cells) && counted(&shape, versions, counts);
+    refuse_if(!possible, refusal::CELL)?;
+    written(&shape, &cells, out)
+}
+
+fn written(shape: &Shape, cells: &Cells, out: &mut [u8]) -> Result<usize, u8> {
+    let (slots, spans) = rules::outcomes(shape, cells);
+    let length = file::length(file::LAYOUT, slots.len(), spans.len());
     refuse_if(out.len() < length, refusal::BUFFER)?;
-    file::write(&shape, &slots, &spans, &mut out[..length]);
+    let frame = Frame::published(shape);
+    file::write(&frame, &slots, &spans, &mut out[..length]);
     Ok(length)
 }
 
@@ -228,8 +250,8 @@ fn holiday_possible(holiday: u8) -> bool {
     holiday <= 1
 }
 
-fn register_possible(reading: u32, version: u32) -> bool {
-    reading < DIAL && (version != 0 || reading == 0)
+fn register_possible(reading: u32, version: u32, width: u16) -> bool {
+    reading < DIAL && width <= MOST_WIDTH && (version != 0 || (reading == 0 && width == 0))
 }
 
 fn agreed_possible(value: u32, version: u32) -> bool {
@@ -241,7 +263,7 @@ fn all_possible(cells: &Cells) -> bool {
         .all(|i| slot_possible(cells.values[i], cells.versions[i], cells.statuses[i]));
     let holidays = cells.holidays.iter().all(|&cell| holiday_possible(cell));
     let registers = (0..cells.readings.len())
-        .all(|i| register_possible(cells.readings[i], cells.read_versions[i]));
+        .all(|i| register_possible(cells.readings[i], cells.read_versions[i], cells.widths[i]));
     let agreed =
         (0..cells.agreed.len()).all(|i| agreed_possible(cells.agreed[i], cells.agreed_versions[i]));
     slots && holidays && registers && agreed

@@ -3,7 +3,7 @@
 use crate::head::Head;
 use crate::rules::Cells;
 
-/// The nine lists, owned by the caller.
+/// The ten lists, owned by the caller.
 #[derive(Clone, Debug, Default, PartialEq, Eq)]
 pub struct Lists {
     pub values: Vec<u32>,
@@ -15,6 +15,7 @@ pub struct Lists {
     pub agreed: Vec<u32>,
     pub agreed_versions: Vec<u32>,
     pub counts: Vec<u16>,
+    pub widths: Vec<u16>,
 }
 
 #[derive(Clone, Copy, Debug, PartialEq, Eq)]
@@ -28,10 +29,11 @@ pub enum List {
     Agreed,
     AgreedVersions,
     Counts,
+    Widths,
 }
 
 impl List {
-    pub const ALL: [List; 9] = [
+    pub const ALL: [List; 10] = [
         List::Values,
         List::Versions,
         List::Statuses,
@@ -41,6 +43,7 @@ impl List {
         List::Agreed,
         List::AgreedVersions,
         List::Counts,
+        List::Widths,
     ];
 }
 
@@ -50,6 +53,7 @@ impl Lists {
         let word = |i: usize| (i as u32).wrapping_mul(0x9E37_79B9) | 1;
         let words = |len: usize| (0..len).map(word).collect::<Vec<u32>>();
         let bytes = |len: usize| (0..len).map(|i| word(i) as u8).collect::<Vec<u8>>();
+        let halves = |len: usize| (0..len).map(|i| word(i) as u16).collect::<Vec<u16>>();
         Lists {
             values: words(slots),
             versions: words(slots),
@@ -59,7 +63,8 @@ impl Lists {
             read_versions: words(days + 1),
             agreed: words(slots),
             agreed_versions: words(slots),
-            counts: (0..days).map(|i| word(i) as u16).collect(),
+            counts: halves(days),
+            widths: halves(days + 1),
         }
     }
 
@@ -74,6 +79,7 @@ impl Lists {
             agreed: vec![0; slots],
             agreed_versions: vec![0; slots],
             counts: vec![0; days],
+            widths: vec![0; days + 1],
         }
     }
 
@@ -87,6 +93,7 @@ impl Lists {
         self.agreed.fill(0);
         self.agreed_versions.fill(0);
         self.counts.fill(0);
+        self.widths.fill(0);
     }
 
     /// Sets the counts to the numbers of delivered slots.
@@ -107,6 +114,7 @@ impl Lists {
             read_versions: &self.read_versions,
             agreed: &self.agreed,
             agreed_versions: &self.agreed_versions,
+            widths: &self.widths,
         }
     }
 
@@ -121,6 +129,7 @@ impl Lists {
             List::Agreed => self.agreed.len(),
             List::AgreedVersions => self.agreed_versions.len(),
             List::Counts => self.counts.len(),
+            List::Widths => self.widths.len(),
         }
     }
 
@@ -139,6 +148,7 @@ impl Lists {
             List::Agreed => self.agreed[index] = value,
             List::AgreedVersions => self.agreed_versions[index] = value,
             List::Counts => self.counts[index] = value as u16,
+            List::Widths => self.widths[index] = value as u16,
         }
     }
 
@@ -154,6 +164,7 @@ impl Lists {
             List::Agreed => self.agreed.resize(len, 0),
             List::AgreedVersions => self.agreed_versions.resize(len, 0),
             List::Counts => self.counts.resize(len, 0),
+            List::Widths => self.widths.resize(len, 0),
         }
     }
 
@@ -171,6 +182,7 @@ impl Lists {
                 words("agreed_versions", one, two)
             })
             .or_else(|| words("counts", &self.counts, &other.counts))
+            .or_else(|| words("widths", &self.widths, &other.widths))
     }
 }
 
@@ -210,6 +222,8 @@ pub enum Act {
         boundary: u32,
         version: u32,
         reading: u32,
+        /// Any number, in bounds or not.
+        width: u32,
     },
     Agree {
         slot: u32,
@@ -234,7 +248,7 @@ impl Act {
             Act::Open | Act::Publish { .. } => &List::ALL,
             Act::Deliver { .. } => &[List::Values, List::Versions, List::Statuses, List::Counts],
             Act::Holiday { .. } => &[List::Holidays],
-            Act::Register { .. } => &[List::Readings, List::ReadVersions],
+            Act::Register { .. } => &[List::Readings, List::ReadVersions, List::Widths],
             Act::Agree { .. } => &[List::Agreed, List::AgreedVersions],
             Act::Write { .. } => &[],
         }

@@ -4,6 +4,7 @@ use crate::counts::{Counts, HOLIDAYS, LATE_HOLIDAYS, NUMBERS};
 use crate::file;
 use crate::fit_census::Fits;
 use crate::head::Shape;
+use crate::range_census;
 use crate::rules::{self, Cause, Cells, FARTHEST_SUNDAY, Filled, Quality, Slot, Span, State};
 use crate::run_census::Runs;
 
@@ -42,6 +43,7 @@ pub fn take(shape: &Shape, cells: &Cells, (slots, spans): (&[Slot], &[Span]), co
         spans,
     };
     runs.count(counts);
+    range_census::ranges(shape, cells, (&filled, spans), counts);
     let mut census = Census {
         shape,
         cells,
@@ -58,11 +60,11 @@ pub fn take(shape: &Shape, cells: &Cells, (slots, spans): (&[Slot], &[Span]), co
     }
     census.agreed_outside(spans);
     let covered: usize = spans.iter().map(|span| span.last - span.first).sum();
-    let name = match file::layout(slots) {
-        file::LAYOUT => "layout 1 published",
-        _ => "layout 2 published",
+    let name = match file::layout_before(slots) {
+        file::LAYOUT_PLAIN => "3 published without an F",
+        _ => "3 published with an F",
     };
-    counts.add("agreed", name);
+    counts.add("layout", name);
     let outside = !spans.is_empty() && covered < shape.days;
     counts.add_if(outside, "span", "slots outside");
 }
@@ -307,38 +309,56 @@ impl Census<'_> {
     }
 
     fn span(&mut self, span: &Span) {
-        let state = match span.state {
-            State::Agrees => "0",
-            State::Scaled => "1",
-            State::Open => "2",
-            State::Disagrees => "3",
-        };
         let range = rules::span_slots(self.shape, span.first, span.last);
         let filled = &self.filled[range.clone()];
         let has = |quality| filled.iter().any(|slot| slot.quality == quality);
-        let actual = !has(Quality::Substituted) && !has(Quality::None);
-        let r = u64::from(span.advance);
         let v = rules::settled_sum(filled);
-        let t = u64::from(self.shape.tolerance);
+        let fit = Fit {
+            state: span.state,
+            actual: !has(Quality::Substituted) && !has(Quality::None),
+            agreed: has(Quality::Agreed),
+            r: span.advances.fitted(v).into(),
+            v,
+            t: self.shape.tolerance.into(),
+        };
         let e: u64 = self.e[range].iter().sum();
         let scaled = span.state == State::Scaled;
-        let below = span.state == State::Disagrees && !actual;
-        let agreed = has(Quality::Agreed);
         let wrapped = self.cells.readings[span.last] < self.cells.readings[span.first];
         let counts = &mut self.counts;
-        counts.add("span state", state);
+        let states = ["0", "1", "2", "3"];
+        let number = usize::from(file::state_number(span.state));
+        counts.add("span state", states[number]);
         counts.add_if(wrapped, "span", "dial wrapped");
+        counts.add_if(scaled && e == 0, "span", "E 0");
         let within = [
             "F in a span of state 0",
             "F in a span of state 1",
             "F in a span of state 2",
             "F in a span of state 3",
         ];
-        counts.add_if(
-            agreed,
-            "agreed",
-            within[usize::from(file::state_number(span.state))],
-        );
+        counts.add_if(fit.agreed, "agreed", within[number]);
+        fit.count(counts);
+    }
+}
+
+/// How R lies to V and t in a span.
+struct Fit {
+    state: State,
+    /// Neither S nor N.
+    actual: bool,
+    /// An F.
+    agreed: bool,
+    r: u64,
+    v: u64,
+    t: u64,
+}
+
+impl Fit {
+    fn count(&self, counts: &mut Counts) {
+        let &Fit { r, v, t, .. } = self;
+        let (actual, agreed) = (self.actual, self.agreed);
+        let scaled = self.state == State::Scaled;
+        let below = self.state == State::Disagrees && !actual;
         let at_edge = agreed && actual && t > 0 && r == v + t;
         counts.add_if(at_edge, "agreed", "R = V + t with an F");
         counts.add_if(
@@ -349,7 +369,6 @@ impl Census<'_> {
         let one_below = agreed && below && r + 1 == v;
         counts.add_if(one_below, "agreed", "R = V - 1 with an F, disagrees");
         counts.add_if(r == 0, "span", "R 0");
-        counts.add_if(scaled && e == 0, "span", "E 0");
         counts.add_if(scaled && r == v, "span", "R = V, scaled");
         counts.add_if(below && r + 1 == v, "span", "R = V - 1, disagrees");
         counts.add_if(actual && t > 0 && r == v + t, "span", "R = V + t");

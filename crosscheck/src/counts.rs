@@ -8,6 +8,7 @@ use crate::calls::{Act, Book, List, Lists};
 use crate::day_census;
 use crate::fit_census;
 use crate::head::{Head, Shape};
+use crate::range_census;
 use crate::reader::{Fault, Figures};
 use crate::side::Answer;
 
@@ -55,7 +56,7 @@ const CLASSES: &[(&str, &[&str])] = &[
     (
         "answer to register",
         &[
-            "stored", "late", "repeat", "1", "2", "3", "4", "6", "10", "11",
+            "stored", "late", "repeat", "1", "2", "3", "4", "6", "10", "11", "17",
         ],
     ),
     (
@@ -78,6 +79,7 @@ const CLASSES: &[(&str, &[&str])] = &[
             "agreed",
             "agreed versions",
             "counts",
+            "widths",
         ],
     ),
     (
@@ -222,10 +224,6 @@ const CLASSES: &[(&str, &[&str])] = &[
             "R = V + t with an F",
             "R = V with an F, scaled",
             "R = V - 1 with an F, disagrees",
-            "layout 1 published",
-            "layout 2 published",
-            "layout 1 read",
-            "layout 2 read",
             "agree refused 11, over 99,999,999",
             "agree refused 11, beside version 0",
             "publish refused 11, agreed over 99,999,999",
@@ -269,13 +267,39 @@ const CLASSES: &[(&str, &[&str])] = &[
             "count over 255 published",
         ],
     ),
+    (range_census::RANGES, range_census::RANGE_NAMES),
+    (range_census::PLACES, range_census::PLACE_NAMES),
+    (range_census::EDGES, range_census::EDGE_NAMES),
+    (range_census::READS, range_census::READ_NAMES),
+    (
+        "layout",
+        &[
+            "3 published without an F",
+            "3 published with an F",
+            "1 read",
+            "2 read",
+            "3 read without spans",
+            "3 read with spans",
+        ],
+    ),
     (
         "damaged file",
         &[
             "damage to a file of layout 1",
             "damage to a file of layout 2",
+            "damage to a file of layout 3",
             "damaged, layout 1 accepted",
             "damaged, layout 2 accepted",
+            "damaged, layout 3 accepted",
+            "refused 8, layout byte made 3",
+            "refused 8, layout byte 3 made 1 or 2",
+            "refused 9, layout 3",
+            "layout 1 or 2 made 3",
+            "layout 3 made 1 or 2",
+            "scaled sum below the lowest",
+            "scaled sum above the highest",
+            "scaled sum at the lowest",
+            "scaled sum at the highest",
             "layout byte 1 made 2",
             "layout byte 2 made 1",
             "F in layout 1",
@@ -302,6 +326,7 @@ const CLASSES: &[(&str, &[&str])] = &[
             "SpanBounds",
             "SpanChain",
             "Advance",
+            "AdvanceOrder",
             "State",
             "LastByte",
             "OpenState",
@@ -515,6 +540,7 @@ impl Counts {
             List::Agreed => "agreed",
             List::AgreedVersions => "agreed versions",
             List::Counts => "counts",
+            List::Widths => "widths",
         };
         self.add("list of a wrong length", name);
     }
@@ -523,8 +549,13 @@ impl Counts {
         let fault = match checked {
             Ok(figures) => {
                 self.add("answer of the reader", "figures");
-                self.add_if(figures.layout == 1, "agreed", "layout 1 read");
-                self.add_if(figures.layout == 2, "agreed", "layout 2 read");
+                let name = match (figures.layout, figures.spans) {
+                    (1, _) => "1 read",
+                    (2, _) => "2 read",
+                    (_, 0) => "3 read without spans",
+                    _ => "3 read with spans",
+                };
+                self.add("layout", name);
                 return;
             }
             Err(fault) => fault,

@@ -1,10 +1,12 @@
 //! Damaged files: a published file and a list of edits, from a seed.
 
+use crate::contents;
 use crate::counts::Counts;
-use crate::file::{SLOT_BYTES, SPAN_BYTES, TRAILER_BYTES};
+use crate::file::{self, SLOT_BYTES, TRAILER_BYTES};
 use crate::random;
-use crate::reader;
+use crate::reader::{self, Fault};
 use crate::rng::Rng;
+use crate::rules::State;
 
 /// A field of the trailer: its place in it and its bytes.
 pub type Field = (usize, usize);
@@ -33,17 +35,21 @@ const FIELDS: [Field; 10] = [
     DISTANCE,
 ];
 
-/// The fields of a span's record; the state more than once, as most rules are about it.
-const SPAN_FIELDS: [Field; 8] = [
-    (0, 2),
-    (2, 2),
-    (4, 4),
-    (8, 1),
-    (8, 1),
-    (8, 1),
-    (8, 1),
-    (9, 1),
-];
+/// The boundaries of a span's record; behind them R, or in layout 3 two ends, then state
+/// and zero.
+const FIRST: Field = (0, 2);
+const LAST: Field = (2, 2);
+const LOWEST: Field = (4, 4);
+const HIGHEST: Field = (8, 4);
+
+/// The last two fields of a span's record.
+fn state_field(layout: u8) -> Field {
+    (file::span_bytes(layout) - 2, 1)
+}
+
+fn zero_field(layout: u8) -> Field {
+    (file::span_bytes(layout) - 1, 1)
+}
 
 #[derive(Clone, Debug, PartialEq, Eq)]
 pub enum Edit {
@@ -86,8 +92,10 @@ pub enum Edit {
     Bytes(Vec<u8>),
     /// Sets the trailer's counts and sum to those of the slot table.
     Mend,
-    /// Sets the trailer's layout to the one the slot table asks for.
+    /// Sets a layout before W10 to the one the slot table asks for; layout 3 is right.
     MendLayout,
+    /// Writes the span table as another layout has it, with layout byte and distance.
+    Relayout(u8),
 }
 
 /// A published file and what is done to it.
@@ -137,8 +145,8 @@ fn apply(file: &mut Vec<u8>, edit: &Edit) {
         Edit::TrailerField { field, value } => set_field(file, *field, *value),
         Edit::SwapSlots(one, two) => swap(file, 0, SLOT_BYTES, *one, *two),
         Edit::SwapSpans(one, two) => {
-            let (start, _) = span_table(file);
-            swap(file, start, SPAN_BYTES, *one, *two);
+            let (start, bytes) = (span_table(file).0, record_bytes(file));
+            swap(file, start, bytes, *one, *two);
         }
         Edit::Slot {
             at,
@@ -155,7 +163,7 @@ fn apply(file: &mut Vec<u8>, edit: &Edit) {
             value,
         } => {
             let (start, _) = span_table(file);
-            let at = start + span * SPAN_BYTES + offset;
+            let at = start + span * record_bytes(file) + offset;
             put(file, at, &value.to_le_bytes()[..*len]);
         }
         Edit::DropSpan(span) => change_spans(file, *span, false),
@@ -164,9 +172,12 @@ fn apply(file: &mut Vec<u8>, edit: &Edit) {
         Edit::Bytes(bytes) => file.clone_from(bytes),
         Edit::Mend => mend(file),
         Edit::MendLayout => {
-            let layout = if has_agreed(file) { 2 } else { 1 };
-            set_field(file, LAYOUT, layout);
+            let wanted = if has_agreed(file) { 2 } else { 1 };
+            if layout(file) != file::LAYOUT {
+                set_field(file, LAYOUT, wanted);
+            }
         }
+        Edit::Relayout(layout) => relayout(file, *layout),
     }
 }
 
@@ -199,7 +210,37 @@ fn set_field(file: &mut [u8], (offset, len): Field, value: u64) {
 fn span_table(file: &[u8]) -> (usize, usize) {
     let spans = field(file, SPANS) as usize;
     let end = trailer_start(file).unwrap_or(0);
-    (end.saturating_sub(spans * SPAN_BYTES), spans)
+    (end.saturating_sub(spans * record_bytes(file)), spans)
+}
+
+/// The bytes of a span's record, as the layout byte has it.
+fn record_bytes(file: &[u8]) -> usize {
+    file::span_bytes(layout(file))
+}
+
+fn layout(file: &[u8]) -> u8 {
+    field(file, LAYOUT) as u8
+}
+
+fn relayout(file: &mut Vec<u8>, layout: u8) {
+    let (Some(end), (start, spans)) = (trailer_start(file), span_table(file)) else {
+        return;
+    };
+    let (old, new) = (record_bytes(file), file::span_bytes(layout));
+    let mut table = Vec::new();
+    for record in file[start..end].chunks_exact(old) {
+        table.extend(&record[..8]);
+        if new > old {
+            // R is both ends.
+            table.extend(&record[4..8]);
+        } else if new == old {
+            table.extend(&record[8..old - 2]);
+        }
+        table.extend(&record[old - 2..]);
+    }
+    file.splice(start..end, table);
+    set_field(file, LAYOUT, layout.into());
+    set_field(file, DISTANCE, (new * spans) as u64);
 }
 
 fn swap(file: &mut [u8], start: usize, len: usize, one: usize, two: usize) {
@@ -212,20 +253,21 @@ fn swap(file: &mut [u8], start: usize, len: usize, one: usize, two: usize) {
 /// Drops or doubles a span's record, with M and the distance to match.
 fn change_spans(file: &mut Vec<u8>, span: usize, double: bool) {
     let (start, spans) = span_table(file);
-    let at = start + span * SPAN_BYTES;
-    if span >= spans || at + SPAN_BYTES > file.len() {
+    let bytes = record_bytes(file);
+    let at = start + span * bytes;
+    if span >= spans || at + bytes > file.len() {
         return;
     }
     let spans = if double {
-        let record = file[at..at + SPAN_BYTES].to_vec();
+        let record = file[at..at + bytes].to_vec();
         file.splice(at..at, record);
         spans + 1
     } else {
-        file.drain(at..at + SPAN_BYTES);
+        file.drain(at..at + bytes);
         spans - 1
     };
     set_field(file, SPANS, spans as u64);
-    set_field(file, DISTANCE, (SPAN_BYTES * spans) as u64);
+    set_field(file, DISTANCE, (bytes * spans) as u64);
 }
 
 fn mend(file: &mut [u8]) {
@@ -246,8 +288,9 @@ fn mend(file: &mut [u8]) {
 pub struct Bases(Vec<Vec<u8>>);
 
 impl Bases {
-    /// Every other file has a scaled span, as many rules are about those; and every
-    /// second pair of files has an F slot, the others none.
+    /// Every other file has a scaled span, as many rules are about those; every second
+    /// pair of files has an F slot, the others none; and every second four are written
+    /// in the layouts before W10, the others as they are published.
     pub fn new(seed: u64, many: usize) -> Bases {
         let mut bases = Vec::new();
         for index in 0.. {
@@ -257,14 +300,18 @@ impl Bases {
             let file = random::small_file(seed ^ 0xBA5E, index);
             let scaled = bases.len() % 2 == 0 || has_scaled(&file);
             let agreed = has_agreed(&file) == (bases.len() / 2 % 2 == 1);
-            if scaled && agreed {
-                bases.push(file);
+            if !scaled || !agreed {
+                continue;
             }
+            bases.push(match bases.len() / 4 % 2 {
+                0 => file,
+                _ => contents::before(&file).expect("a published file"),
+            });
         }
         Bases(bases)
     }
 
-    /// One of the files as it was published.
+    /// One of the files as it was written.
     pub fn whole(&self, rng: &mut Rng) -> &[u8] {
         &self.0[rng.below(self.0.len())]
     }
@@ -288,12 +335,12 @@ impl Bases {
         let (slot_end, spans) = span_table(base);
         let slots = slot_end / SLOT_BYTES;
         let span = rng.below(spans.max(1));
-        match rng.below(36) {
+        match rng.below(44) {
             0 => Edit::Truncate(rng.below(base.len() + 1)),
             1 => Edit::Truncate(rng.pick(&[0, 1, 31, 32, 33, base.len() - 1])),
             2 => Edit::Cut {
                 at: rng.below(base.len()),
-                len: rng.pick(&[1, 6, 10, 32]),
+                len: rng.pick(&[1, 6, 10, 14, 32]),
             },
             3 => Edit::Extend(noise(rng, 40)),
             4 => Edit::Prepend(noise(rng, 12)),
@@ -320,14 +367,16 @@ impl Bases {
             13 => Edit::SwapSlots(rng.below(slots), rng.below(slots)),
             14 => Edit::SwapSpans(rng.below(spans + 1), rng.below(spans + 1)),
             15..=19 => slot_edit(rng, base, slots),
-            20..=25 => span_edit(rng, span),
+            20..=25 => span_edit(rng, base, span),
+            36..=41 => ends_edit(rng, base, span),
+            42 | 43 => Edit::Relayout(rng.pick(&[1, 2, 3, 3])),
             26 => Edit::DropSpan(rng.pick(&[span, 0, spans.max(1) - 1])),
             27 => Edit::CopySpan(span),
             28 => Edit::AllZero,
             29..=33 => agreed_edit(rng, base, slots),
             34 => Edit::TrailerField {
                 field: LAYOUT,
-                value: rng.pick(&[0, 1, 1, 2, 2, 3, 255]),
+                value: rng.pick(&[0, 1, 1, 2, 2, 3, 3, 4, 255]),
             },
             _ => Edit::Bytes(noise(rng, 700)),
         }
@@ -359,6 +408,7 @@ fn trailer_edit(rng: &mut Rng) -> Edit {
         0,
         1,
         2,
+        3,
         5,
         15,
         30,
@@ -449,8 +499,9 @@ fn agreed_edit(rng: &mut Rng, base: &[u8], slots: usize) -> Edit {
     }
 }
 
-/// Counts what the damage did to a file of either layout.
+/// Counts what the damage did to a file of any layout.
 pub fn count(damaged: &Damaged, file: &[u8], counts: &mut Counts) {
+    ends_of_scaled(file, counts);
     let base = field(&damaged.base, LAYOUT);
     let checked = reader::check(file);
     let accepted = checked.is_ok();
@@ -458,16 +509,38 @@ pub fn count(damaged: &Damaged, file: &[u8], counts: &mut Counts) {
     let mut add = |occurred, name| counts.add_if(occurred, "damaged file", name);
     add(base == 1, "damage to a file of layout 1");
     add(base == 2, "damage to a file of layout 2");
+    add(base == 3, "damage to a file of layout 3");
     add(accepted && changed == 1, "damaged, layout 1 accepted");
     add(accepted && changed == 2, "damaged, layout 2 accepted");
+    add(accepted && changed == 3, "damaged, layout 3 accepted");
+    let refused = |number| checked.is_err_and(|fault| fault.number() == number);
+    let eight = refused(8);
+    add(
+        eight && base < 3 && changed == 3,
+        "refused 8, layout byte made 3",
+    );
+    let old = matches!(changed, 1 | 2);
+    add(
+        eight && base == 3 && old,
+        "refused 8, layout byte 3 made 1 or 2",
+    );
+    add(refused(9) && changed == 3, "refused 9, layout 3");
     // Of a file refused with 8, no record is known.
-    if checked.is_err_and(|fault| fault.number() == 8) {
-        return;
+    if !eight {
+        add(base == 1 && changed == 2, "layout byte 1 made 2");
+        add(base == 2 && changed == 1, "layout byte 2 made 1");
+        add(base < 3 && changed == 3, "layout 1 or 2 made 3");
+        add(base == 3 && old, "layout 3 made 1 or 2");
+        agreed_records(file, accepted, counts);
     }
-    add(base == 1 && changed == 2, "layout byte 1 made 2");
-    add(base == 2 && changed == 1, "layout byte 2 made 1");
-    add(changed == 1 && has_agreed(file), "F in layout 1");
-    add(changed == 2 && !has_agreed(file), "no F in layout 2");
+}
+
+/// The agreed records of a file that is accepted or refused with 9.
+fn agreed_records(file: &[u8], accepted: bool, counts: &mut Counts) {
+    let layout = layout(file);
+    let mut add = |occurred, name| counts.add_if(occurred, "damaged file", name);
+    add(layout == 1 && has_agreed(file), "F in layout 1");
+    add(layout == 2 && !has_agreed(file), "no F in layout 2");
     let has = |letter: u8, method: u8, value: u32| {
         slot_records(file)
             .any(|record| record[4..] == [letter, method] && record[..4] == value.to_le_bytes())
@@ -481,14 +554,71 @@ pub fn count(damaged: &Damaged, file: &[u8], counts: &mut Counts) {
     add(slot_records(file).any(letter), "5 with another letter");
 }
 
-fn span_edit(rng: &mut Rng, span: usize) -> Edit {
-    let field = rng.pick(&SPAN_FIELDS);
+/// How the sum of a scaled span of layout 3 lies to its range, where all else holds.
+fn ends_of_scaled(file: &[u8], counts: &mut Counts) {
+    if layout(file) != file::LAYOUT {
+        return;
+    }
+    let mut add = |occurred, name| counts.add_if(occurred, "damaged file", name);
+    match reader::check(file) {
+        Err(Fault::ScaledSum) => {
+            // A range of any advance would have been accepted.
+            let sides = [(LOWEST, 0), (HIGHEST, 99_999_999)].map(|(field, value)| {
+                let wide = |span| Edit::SpanField { span, field, value };
+                let edits: Vec<Edit> = (0..span_table(file).1).map(wide).collect();
+                reader::check(&edited(file, &edits)).is_ok()
+            });
+            add(sides[0], "scaled sum below the lowest");
+            add(sides[1], "scaled sum above the highest");
+        }
+        Err(_) => {}
+        Ok(_) => {
+            let whole = contents::Contents::of(file).expect("an accepted file");
+            for (span, (advances, sum)) in whole.spans.iter().zip(whole.sums()) {
+                let scaled = span.state == State::Scaled && advances.lowest < advances.highest;
+                let at = |end: u32| scaled && u64::from(end) == sum;
+                add(at(advances.lowest), "scaled sum at the lowest");
+                add(at(advances.highest), "scaled sum at the highest");
+            }
+        }
+    }
+}
+
+/// A field of a span; the state more often, as most rules are about it.
+fn span_edit(rng: &mut Rng, base: &[u8], span: usize) -> Edit {
     let any = u64::from(rng.word());
-    let value = match field {
-        (8, _) => rng.pick(&[0, 0, 0, 1, 2, 3, 4, 255]),
-        (9, _) => rng.pick(&[0, 1, 255]),
-        (4, _) => rng.pick(&[0, 1, 99_999_999, 100_000_000, any, u64::MAX]),
-        _ => rng.pick(&[0, 1, 2, 3, 8, 400, 65_535, any]),
+    let layout = layout(base);
+    let state = rng.pick(&[0, 0, 0, 1, 2, 3, 4, 255]);
+    let boundary = rng.pick(&[0, 1, 2, 3, 8, 400, 65_535, any]);
+    let advance = rng.pick(&[0, 1, 99_999_999, 100_000_000, any, u64::MAX]);
+    let (field, value) = match rng.below(9) {
+        0 => (FIRST, boundary),
+        1 => (LAST, boundary),
+        2 => (LOWEST, advance),
+        3 if layout == file::LAYOUT => (HIGHEST, advance),
+        4 => (zero_field(layout), rng.pick(&[0, 1, 255])),
+        _ => (state_field(layout), state),
+    };
+    Edit::SpanField { span, field, value }
+}
+
+/// An end of a span's range, or R, set at or beside the sum of its slots or the other end.
+fn ends_edit(rng: &mut Rng, base: &[u8], span: usize) -> Edit {
+    let Some(spans) = contents::Contents::of(base).ok().map(|whole| whole.sums()) else {
+        return Edit::AllZero;
+    };
+    let Some(&(advances, sum)) = spans.get(span) else {
+        return Edit::AllZero;
+    };
+    let (lowest, highest) = (u64::from(advances.lowest), u64::from(advances.highest));
+    let to_sum = rng.pick(&[sum, sum + 1, sum.saturating_sub(1)]);
+    let in_layout_3 = layout(base) == file::LAYOUT;
+    let (field, value) = match rng.below(8) {
+        0..3 => (LOWEST, to_sum),
+        3..6 if in_layout_3 => (HIGHEST, to_sum),
+        6 => (LOWEST, rng.pick(&[highest, highest + 1])),
+        7 if in_layout_3 => (HIGHEST, rng.pick(&[lowest, lowest.saturating_sub(1)])),
+        _ => (LOWEST, sum),
     };
     Edit::SpanField { span, field, value }
 }

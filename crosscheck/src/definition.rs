@@ -1,10 +1,13 @@
-//! The rules of 01, W1, W2, W3 and W7 once more, each slot and span for itself, as the sentences have them.
+//! The rules of 01, W1, W2, W3, W7 and W10 once more, each slot and span for itself, as the
+//! sentences have them.
 //!
 //! Slow (scaling sums a whole span anew for each of its slots): it is what `rules`
 //! is held against, in all but the largest books.
 
+use std::ops::RangeInclusive;
+
 use crate::head::{DIAL, Shape};
-use crate::rules::{Cells, Quality, Slot, Span, State};
+use crate::rules::{Advances, Cells, Quality, Slot, Span, State};
 
 pub struct Definition<'a> {
     shape: Shape,
@@ -36,7 +39,7 @@ impl<'a> Definition<'a> {
         let slots = (0..self.shape.slots)
             .map(|slot| self.outcome(slot, &spans))
             .collect();
-        (slots, spans)
+        (slots, spans.into_iter().map(|(span, _)| span).collect())
     }
 
     fn delivered(&self, slot: usize) -> bool {
@@ -141,7 +144,8 @@ impl<'a> Definition<'a> {
         }
     }
 
-    fn spans(&self) -> Vec<Span> {
+    /// Each span with its R.
+    fn spans(&self) -> Vec<(Span, i64)> {
         let read = |boundary: &usize| self.cells.read_versions[*boundary] > 0;
         (0..self.shape.days)
             .filter(read)
@@ -152,10 +156,23 @@ impl<'a> Definition<'a> {
             .collect()
     }
 
-    fn span(&self, first: usize, last: usize) -> Span {
+    /// The advances from one boundary to another.
+    fn advances(&self, first: usize, last: usize) -> RangeInclusive<i64> {
         let later = i64::from(self.cells.readings[last]);
         let earlier = i64::from(self.cells.readings[first]);
-        let r = (later - earlier).rem_euclid(i64::from(DIAL));
+        let dial = i64::from(DIAL);
+        let g = (later - earlier).rem_euclid(dial);
+        let u = i64::from(self.cells.widths[first]);
+        let v = i64::from(self.cells.widths[last]);
+        if g + v >= dial {
+            0..=g + v - dial
+        } else {
+            0.max(g - u)..=g + v
+        }
+    }
+
+    fn span(&self, first: usize, last: usize) -> (Span, i64) {
+        let mut advances = self.advances(first, last);
         let mut v = 0;
         let mut substituted = false;
         let mut none = false;
@@ -166,29 +183,37 @@ impl<'a> Definition<'a> {
                 (_, Quality::None, _) => none = true,
             }
         }
+        let ends = Advances {
+            lowest: *advances.start() as u32,
+            highest: *advances.end() as u32,
+        };
+        let t = i64::from(self.shape.tolerance);
+        let r = least_from(advances.clone(), v);
         let state = match (none, substituted) {
             (true, _) => State::Open,
             (false, true) if r >= v => State::Scaled,
-            (false, false) if (r - v).abs() <= i64::from(self.shape.tolerance) => State::Agrees,
+            (false, false) if advances.any(|advance| (advance - v).abs() <= t) => State::Agrees,
             _ => State::Disagrees,
         };
-        Span {
+        let span = Span {
             first,
             last,
-            advance: r as u32,
+            advances: ends,
             state,
-        }
+        };
+        (span, r)
     }
 
-    fn outcome(&self, slot: usize, spans: &[Span]) -> Slot {
+    fn outcome(&self, slot: usize, spans: &[(Span, i64)]) -> Slot {
         let day = slot / self.shape.slots_a_day;
         let (value, quality, method) = self.filled[slot];
         let scaled = spans
             .iter()
-            .find(|span| (span.first..span.last).contains(&day) && span.state == State::Scaled);
+            .find(|(span, _)| (span.first..span.last).contains(&day))
+            .filter(|(span, _)| span.state == State::Scaled);
         match scaled {
-            Some(span) if quality == Quality::Substituted => Slot {
-                value: self.scaled(slot, span),
+            Some((span, r)) if quality == Quality::Substituted => Slot {
+                value: self.scaled(slot, span, *r),
                 quality,
                 method: method + 16,
             },
@@ -201,8 +226,8 @@ impl<'a> Definition<'a> {
     }
 
     /// floor(T × C / E) − floor(T × P / E).
-    fn scaled(&self, slot: usize, span: &Span) -> u32 {
-        let mut t = u128::from(span.advance);
+    fn scaled(&self, slot: usize, span: &Span, r: i64) -> u32 {
+        let mut t = r as u128;
         let (mut e, mut c, mut p) = (0, 0, 0);
         // The same three sums with each e counted as 1.
         let (mut e1, mut c1, mut p1) = (0, 0, 0);
@@ -229,6 +254,13 @@ impl<'a> Definition<'a> {
         }
         (t * c / e - t * p / e) as u32
     }
+}
+
+/// R: the least advance in the range that is at least V; if there is none, the highest.
+fn least_from(advances: RangeInclusive<i64>, v: i64) -> i64 {
+    let highest = *advances.end();
+    let mut reaching = advances.filter(|&advance| advance >= v);
+    reaching.next().unwrap_or(highest)
 }
 
 fn nearest_delivered(versions: &[u32]) -> Vec<(Option<usize>, Option<usize>)> {

@@ -72,7 +72,9 @@ impl Fits<'_> {
             })
             .collect();
         let mut by_means = filled.to_vec();
-        rules::scale(&mut by_means, &rounded, span.advance);
+        let v = rules::settled_sum(filled);
+        let r = span.advances.fitted(v);
+        rules::scale(&mut by_means, &rounded, r);
         let apart = |least: u32| {
             let mut pairs = slots.iter().zip(&by_means);
             pairs.any(|(one, other)| one.value.abs_diff(other.value) >= least)
@@ -84,7 +86,7 @@ impl Fits<'_> {
             .zip(shapes)
             .any(|(&value, &e)| 12 * value != e);
         let zero_means = rounded.iter().all(|&value| value == 0);
-        let t = u128::from(span.advance) - u128::from(rules::settled_sum(filled));
+        let t = u128::from(r) - u128::from(v);
         let occurred = [
             (apart(1), "fitted otherwise than by rounded means"),
             (apart(2), "two Wh apart from rounded means"),

@@ -37,6 +37,8 @@ unsafe extern "C" {
         agreed_versions_len: usize,
         counts: *mut u16,
         counts_len: usize,
+        widths: *mut u16,
+        widths_len: usize,
     ) -> u32;
 
     fn sawmauve_deliver(
@@ -86,9 +88,12 @@ unsafe extern "C" {
         readings_len: usize,
         read_versions: *mut u32,
         read_versions_len: usize,
+        widths: *mut u16,
+        widths_len: usize,
         boundary: u32,
         version: u32,
         reading: u32,
+        width: u32,
     ) -> u32;
 
     fn sawmauve_agree(
@@ -134,6 +139,8 @@ unsafe extern "C" {
         agreed_versions_len: usize,
         counts: *const u16,
         counts_len: usize,
+        widths: *const u16,
+        widths_len: usize,
         out: *mut u8,
         out_len: usize,
     ) -> u64;
@@ -239,6 +246,8 @@ pub fn open(head: Head, lists: &mut Lists) -> u32 {
             lists.agreed_versions.len(),
             lists.counts.as_mut_ptr(),
             lists.counts.len(),
+            lists.widths.as_mut_ptr(),
+            lists.widths.len(),
         )
     }
 }
@@ -297,6 +306,7 @@ pub fn register(
     head: Head,
     readings: &mut [u32],
     read_versions: &mut [u32],
+    widths: &mut [u16],
     read: RegisterRead,
 ) -> u32 {
     unsafe {
@@ -312,9 +322,12 @@ pub fn register(
             readings.len(),
             read_versions.as_mut_ptr(),
             read_versions.len(),
+            widths.as_mut_ptr(),
+            widths.len(),
             read.boundary,
             read.version,
             read.reading,
+            read.width,
         )
     }
 }
@@ -373,6 +386,8 @@ pub fn publish(head: Head, lists: &Lists, out: &mut [u8]) -> u64 {
             lists.agreed_versions.len(),
             lists.counts.as_ptr(),
             lists.counts.len(),
+            lists.widths.as_ptr(),
+            lists.widths.len(),
             out.as_mut_ptr(),
             out.len(),
         )
@@ -545,9 +560,10 @@ impl Side for Host {
         let Lists {
             readings,
             read_versions,
+            widths,
             ..
         } = lists;
-        filed(register(head, readings, read_versions, read))
+        filed(register(head, readings, read_versions, widths, read))
     }
 
     fn agree(&self, head: Head, lists: &mut Lists, agreement: Agreement) -> Answer {

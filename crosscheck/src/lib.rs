@@ -1,11 +1,11 @@
 //! A second build of the berth meter book, made from documents 01 and 02 alone,
 //! and what is needed to compare it with another build.
 //!
-//! The build: `head`, `book`, `rules`, `file`, `reader`, `line`;
+//! The build: `head`, `book`, `rules`, `file`, `reader`, `contents`, `line`;
 //! of 02: `dial`, `strips`, `stays`, `limits`, `market`.
 //! What it is held against: `plain`, `definition`, `acceptance`, and `host` when linked.
 //! The comparison: `calls`, `random`, `heads`, `damage`, `side`, `run`, `shrink`, `counts`, `census`,
-//! `run_census`, `day_census`, `fit_census`;
+//! `run_census`, `day_census`, `fit_census`, `range_census`;
 //! the smaller ones of 02: `tries`, `dial_tries`, `strips_tries`, `stays_tries`, `date_tries`,
 //! `limit_tries`, `market_tries` with `market_files`, `market_back` and `nem12_reader`.
 #![deny(unsafe_code)]
@@ -14,6 +14,7 @@ pub mod acceptance;
 pub mod book;
 pub mod calls;
 pub mod census;
+pub mod contents;
 pub mod counts;
 pub mod damage;
 pub mod date_tries;
@@ -38,6 +39,7 @@ pub mod market_tries;
 pub mod nem12_reader;
 pub mod plain;
 pub mod random;
+pub mod range_census;
 pub mod reader;
 pub mod refusal;
 pub mod rng;

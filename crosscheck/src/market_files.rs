@@ -16,6 +16,8 @@ pub struct Made {
     interval: u32,
     scaled: usize,
     second_span: bool,
+    /// Written in layout 3, its spans with a range; otherwise in layout 1 or 2.
+    wide: bool,
     slots: Vec<Record>,
 }
 
@@ -54,6 +56,7 @@ impl Made {
             interval,
             scaled,
             second_span: rng.one_in(3),
+            wide: rng.one_in(2),
             slots: Vec::new(),
         };
         for day in 0..days {
@@ -66,7 +69,7 @@ impl Made {
         made
     }
 
-    /// Like this one but for a slot, the spans, the first day, or nothing.
+    /// Like this one but for a slot, the spans, the layout, the first day, or nothing.
     pub fn changed(&self, rng: &mut Rng) -> Made {
         let mut made = self.clone();
         let n = 1440 / self.interval as usize;
@@ -74,8 +77,9 @@ impl Made {
         let in_scaled = at / n < self.scaled;
         let kinds: &[(u8, u8)] = if in_scaled { &SCALED } else { &FREE };
         let (was, letter, method) = made.slots[at];
-        match rng.below(8) {
+        match rng.below(9) {
             0 => made.second_span = !made.second_span,
+            8 => made.wide = !made.wide,
             1 if made.first_day > 0 => made.first_day -= 1,
             2 | 3 => {
                 let (letter, method) = rng.pick(kinds);
@@ -128,7 +132,12 @@ impl Made {
         for &(first, last, advance, state) in &spans {
             file.extend((first as u16).to_le_bytes());
             file.extend((last as u16).to_le_bytes());
-            file.extend(advance.to_le_bytes());
+            if self.wide {
+                file.extend(advance.saturating_sub(first as u32).to_le_bytes());
+                file.extend((advance + last as u32).to_le_bytes());
+            } else {
+                file.extend(advance.to_le_bytes());
+            }
             file.extend([state, 0]);
         }
         let count = |letters: &[u8]| {
@@ -138,13 +147,18 @@ impl Made {
         file.extend((self.first_day as u16).to_le_bytes());
         file.extend((self.days as u16).to_le_bytes());
         file.push(self.interval as u8);
-        file.push(if count(b"F") > 0 { 2 } else { 1 });
+        let (layout, record) = match (self.wide, count(b"F")) {
+            (true, _) => (3, 14),
+            (false, 0) => (1, 10),
+            (false, _) => (2, 10),
+        };
+        file.push(layout);
         file.extend((spans.len() as u16).to_le_bytes());
         for letters in [&b"A"[..], b"SF", b"N"] {
             file.extend(count(letters).to_le_bytes());
         }
         file.extend(sum(&self.slots).to_le_bytes());
-        file.extend((10 * spans.len() as u32).to_le_bytes());
+        file.extend((record * spans.len() as u32).to_le_bytes());
         file
     }
 

@@ -2,6 +2,7 @@
 //! and reads it back.
 
 use crate::acceptance;
+use crate::contents;
 use crate::damage::Bases;
 use crate::market::{self, Codes, METHODS, Texts};
 use crate::market_back::as_in_file;
@@ -22,6 +23,7 @@ pub const CLASSES: &[&str] = &[
     "export of a damaged file",
     "export of a file of layout 1",
     "export of a file of layout 2",
+    "export of a file of layout 3",
     "export with L 5",
     "export with L 15",
     "export with L 30",
@@ -220,10 +222,10 @@ impl Files {
         let most = rng.pick(&[3, 10, 45]);
         let (days, interval) = (rng.between(1, most), rng.pick(&[5, 15, 30, 30]));
         let file = random::file_of(Rng::new(self.seed, rng.word().into()), days, interval);
-        if acceptance::read(&file).is_ok() {
-            file
-        } else {
-            self.small.whole(rng).to_vec()
+        match contents::before(&file) {
+            Ok(before) if rng.one_in(2) => before,
+            Ok(_) => file,
+            Err(_) => self.small.whole(rng).to_vec(),
         }
     }
 }

@@ -1,4 +1,4 @@
-//! 01, The plain book, with W1's agreed calls: the kept calls, fed by heads and arguments alone.
+//! 01, The plain book, with W1's agreed calls and W10's widths: the kept calls, fed by heads and arguments alone.
 
 use std::collections::{BTreeMap, BTreeSet};
 
@@ -17,7 +17,8 @@ struct Kept<T> {
 #[derive(Clone, Debug, Default)]
 pub struct Plain {
     deliveries: BTreeMap<u32, Vec<Kept<(u32, u8)>>>,
-    registers: BTreeMap<u32, Vec<Kept<u32>>>,
+    /// Reading and width.
+    registers: BTreeMap<u32, Vec<Kept<(u32, u32)>>>,
     agreed: BTreeMap<u32, Vec<Kept<u32>>>,
     holidays: BTreeSet<u32>,
 }
@@ -73,6 +74,7 @@ impl Plain {
         boundary: u32,
         version: u32,
         reading: u32,
+        width: u32,
     ) -> Result<Filed, u8> {
         let shape = head.shape()?;
         if boundary as usize > shape.days {
@@ -84,10 +86,13 @@ impl Plain {
         if reading >= DIAL {
             return Err(refusal::READING);
         }
+        if width > 9_999 {
+            return Err(refusal::WIDTH);
+        }
         keep(
             self.registers.entry(boundary).or_default(),
             version,
-            reading,
+            (reading, width),
         )
     }
 
@@ -133,11 +138,11 @@ impl Plain {
         u8::from(self.holidays.contains(&day))
     }
 
-    /// Reading and version of a boundary at the end; zeros if no call is kept.
-    pub fn boundary(&self, boundary: u32) -> (u32, u32) {
+    /// Reading, version and width of a boundary at the end; zeros if no call is kept.
+    pub fn boundary(&self, boundary: u32) -> (u32, u32, u32) {
         match self.registers.get(&boundary).and_then(|kept| highest(kept)) {
-            Some(kept) => (kept.content, kept.version),
-            None => (0, 0),
+            Some(kept) => (kept.content.0, kept.version, kept.content.1),
+            None => (0, 0, 0),
         }
     }
 }

@@ -13,6 +13,8 @@ use crate::side::{Answer, Second, apply};
 /// A book gets at most about this many deliveries, so that most run in a moment.
 const MOST_DELIVERIES: usize = 3000;
 
+const MOST_WIDTH: u32 = crate::book::MOST_WIDTH as u32;
+
 /// The `index`th book of a seed.
 pub fn book(seed: u64, index: u64) -> Book {
     let mut rng = Rng::new(seed, index);
@@ -47,7 +49,7 @@ pub fn file_of(mut rng: Rng, days: u32, interval: u32) -> Vec<u8> {
         rng.word();
     };
     let mut lists = Lists::unopened(book.slots, book.days);
-    let mut out = vec![0; 6 * book.slots + 10 * book.days + 32];
+    let mut out = vec![0; 6 * book.slots + 14 * book.days + 32];
     let mut file = Vec::new();
     for call in book.calls.iter().filter(|call| call.resized.is_none()) {
         let answer = apply(&Second, call, &mut lists, &mut out);
@@ -94,10 +96,19 @@ enum Profile {
 #[derive(Clone, Copy, PartialEq, Eq)]
 enum Again {
     Repeat,
-    OtherStatus,
+    /// The same value or reading with another status or width.
+    OtherRest,
     OtherContent,
     Late,
     Newer,
+}
+
+/// How wide the register reads of a book are.
+#[derive(Clone, Copy)]
+enum Widths {
+    None,
+    Some,
+    All,
 }
 
 /// What a delivered slot is to be.
@@ -189,6 +200,7 @@ impl Maker {
                 boundary: boundary as u32,
                 version: 1,
                 reading,
+                width: 0,
             };
             self.push(act);
         }
@@ -522,7 +534,7 @@ impl Maker {
     fn again(&mut self, act: Act) -> Act {
         let way = self.rng.pick(&[
             Again::Repeat,
-            Again::OtherStatus,
+            Again::OtherRest,
             Again::OtherContent,
             Again::Late,
             Again::Newer,
@@ -532,7 +544,8 @@ impl Maker {
             Again::Newer => version.saturating_add(1),
             _ => version,
         };
-        let same = matches!(way, Again::Repeat | Again::OtherStatus);
+        let same = matches!(way, Again::Repeat | Again::OtherRest);
+        let other_rest = u8::from(way == Again::OtherRest);
         match act {
             Act::Deliver {
                 slot,
@@ -543,16 +556,19 @@ impl Maker {
                 slot,
                 version: again(version),
                 value: if same { value } else { value ^ 2 },
-                status: status ^ u8::from(way == Again::OtherStatus),
+                status: status ^ other_rest,
             },
             Act::Register {
                 boundary,
                 version,
                 reading,
+                width,
             } => Act::Register {
                 boundary,
                 version: again(version),
                 reading: if same { reading } else { reading ^ 1 },
+                // 9,999 is odd, so this stays in bounds.
+                width: width ^ u32::from(other_rest),
             },
             Act::Agree {
                 slot,
@@ -665,17 +681,23 @@ impl Maker {
         let filled = self.filled_so_far();
         let mut reading = self.rng.word() % DIAL;
         reading = self.rng.pick(&[0, DIAL - 1, DIAL - 10, reading, reading]);
+        let widths = self.rng.pick(&[Widths::None, Widths::Some, Widths::All]);
+        let mut width = 0;
         let mut acts = Vec::new();
         for (i, &boundary) in boundaries.iter().enumerate() {
+            let earlier = width;
+            width = self.width(widths);
             if i > 0 {
                 let range = rules::span_slots(&self.shape, boundaries[i - 1], boundary);
-                let advance = self.advance(&filled[range]);
-                reading = (reading + advance) % DIAL;
+                let aim = self.advance(&filled[range]);
+                let g = self.aimed(aim, earlier, width);
+                reading = (reading + g) % DIAL;
             }
             let act = Act::Register {
                 boundary: boundary as u32,
                 version: self.rng.pick(&[1, 1, 2, 5, u32::MAX]),
                 reading,
+                width,
             };
             acts.push(act);
             if self.rng.one_in(6) {
@@ -686,6 +708,32 @@ impl Maker {
             let call = self.call(act);
             self.insert_anywhere(opened, call);
         }
+    }
+
+    fn width(&mut self, widths: Widths) -> u32 {
+        let any = self.rng.between(1, MOST_WIDTH);
+        match widths {
+            Widths::None => 0,
+            Widths::Some => self.rng.pick(&[0, 0, 1, 9, 99, any, MOST_WIDTH]),
+            Widths::All => self.rng.pick(&[1, 30, any, any, MOST_WIDTH]),
+        }
+    }
+
+    /// G for a range that has `aim` as an end or in it, with the widths u and v; now and
+    /// then around the dial's end.
+    fn aimed(&mut self, aim: u32, u: u32, v: u32) -> u32 {
+        let end = self
+            .rng
+            .pick(&[DIAL - 1 - v, DIAL - v, DIAL + 1 - v, DIAL - 1]);
+        let inside = self.rng.between(0, u + v);
+        let g = match self.rng.below(16) {
+            0..6 => aim + u,
+            6..11 => aim + DIAL - v,
+            11..15 => aim + DIAL - v + inside,
+            _ if v > 0 => end,
+            _ => aim,
+        };
+        g % DIAL
     }
 
     fn boundaries(&mut self) -> Vec<usize> {
@@ -725,7 +773,7 @@ impl Maker {
         rules::fill(&self.shape, &cells, &causes).slots
     }
 
-    /// R for a span of these slots: at and around the edges of each state.
+    /// An advance for a span of these slots: at and around the edges of each state.
     fn advance(&mut self, slots: &[Slot]) -> u32 {
         let v = rules::settled_sum(slots);
         let t = u64::from(self.shape.tolerance);
@@ -734,9 +782,16 @@ impl Maker {
             .filter(|slot| slot.quality == Quality::Substituted)
             .map(|slot| u64::from(slot.value))
             .sum();
+        let estimated = |slot: &Slot| matches!(slot.quality, Quality::Substituted | Quality::None);
+        let edges = [1, 2, 3, 4];
+        let way = if !slots.iter().any(estimated) && self.rng.one_in(3) {
+            self.rng.pick(&edges)
+        } else {
+            self.rng.below(14)
+        };
         let share = u64::from(self.rng.between(0, 200));
         let above = u64::from(DIAL).saturating_sub(v).max(1) as usize;
-        let r = match self.rng.below(14) {
+        let r = match way {
             // Much to share out, so that a small part of a shape tells.
             0..9 if self.fitting => v + self.rng.below(above) as u64,
             0 => v,
@@ -814,7 +869,7 @@ impl Maker {
             List::Values | List::Versions | List::Statuses => self.shape.slots,
             List::Agreed | List::AgreedVersions => self.shape.slots,
             List::Holidays | List::Counts => self.shape.days,
-            List::Readings | List::ReadVersions => self.shape.days + 1,
+            List::Readings | List::ReadVersions | List::Widths => self.shape.days + 1,
         };
         let day = self.shape.slots_a_day;
         Some((
@@ -853,6 +908,7 @@ impl Maker {
                     boundary: rng.pick(&[boundary, boundary, days, days + 1, u32::MAX]),
                     version,
                     reading: rng.pick(&[0, 5, DIAL - 1, DIAL, DIAL + 1, u32::MAX]),
+                    width: wild_width(rng),
                 }
             }
             7 | 8 => {
@@ -895,12 +951,25 @@ impl Maker {
 
     /// Cells no calls could leave, the calls that meet them, and a new opening.
     fn corruption(&mut self) {
+        let (list, index, value) = self.written_cell();
+        self.push(Act::Write { list, index, value });
+        for version in [1, 2, 0, u32::MAX] {
+            let act = self.meeting(list, index as u32, version);
+            self.push(act);
+        }
+        self.publish_and_reopen();
+    }
+
+    /// A cell and what is written there, mostly impossible.
+    fn written_cell(&mut self) -> (List, usize, u32) {
         let slot = self.rng.below(self.shape.slots);
         let day = self.rng.below(self.shape.days);
-        let boundary = self.rng.below(self.shape.days + 1);
+        let days = self.shape.days;
+        let any = self.rng.below(days + 1);
+        let boundary = self.rng.pick(&[0, days, any, any]);
         let byte = u32::from(self.rng.byte());
         let word = self.rng.word();
-        let (list, index, value) = match self.rng.below(16) {
+        match self.rng.below(24) {
             0 => (List::Statuses, slot, 8 + byte % 248),
             1 => (List::Statuses, slot, 8),
             2 => (List::Versions, slot, 0),
@@ -914,33 +983,40 @@ impl Maker {
             11 | 12 => (List::Agreed, slot, 1),
             13 => (List::Agreed, slot, DIAL - 1),
             14 => (List::AgreedVersions, slot, 0),
+            15..18 => (List::Widths, boundary, MOST_WIDTH + 1),
+            18 => (List::Widths, boundary, (word % 65_536).max(MOST_WIDTH + 1)),
+            19 | 20 => (List::Widths, boundary, 1),
+            21 => (List::Widths, boundary, MOST_WIDTH),
             _ => (List::Holidays, day, 2),
-        };
-        self.push(Act::Write { list, index, value });
-        for version in [1, 2, 0, u32::MAX] {
-            let status = self.rng.pick(&[0, 0, 8]);
-            let reading = self.rng.pick(&[0, 1, DIAL]);
-            self.push(match list {
-                List::Values | List::Versions | List::Statuses | List::Counts => Act::Deliver {
-                    slot: slot as u32,
-                    version,
-                    value: word,
-                    status,
-                },
-                List::Holidays => Act::Holiday { day: day as u32 },
-                List::Readings | List::ReadVersions => Act::Register {
-                    boundary: boundary as u32,
-                    version,
-                    reading,
-                },
-                List::Agreed | List::AgreedVersions => Act::Agree {
-                    slot: slot as u32,
-                    version,
-                    value: reading,
-                },
-            });
         }
-        self.publish_and_reopen();
+    }
+
+    /// A call on the slot, day or boundary of a written cell.
+    fn meeting(&mut self, list: List, at: u32, version: u32) -> Act {
+        let value = self.rng.word();
+        let status = self.rng.pick(&[0, 0, 8]);
+        let reading = self.rng.pick(&[0, 1, DIAL]);
+        let width = self.rng.pick(&[0, 0, 1, MOST_WIDTH + 1]);
+        match list {
+            List::Values | List::Versions | List::Statuses | List::Counts => Act::Deliver {
+                slot: at,
+                version,
+                value,
+                status,
+            },
+            List::Holidays => Act::Holiday { day: at },
+            List::Readings | List::ReadVersions | List::Widths => Act::Register {
+                boundary: at,
+                version,
+                reading,
+                width,
+            },
+            List::Agreed | List::AgreedVersions => Act::Agree {
+                slot: at,
+                version,
+                value: reading,
+            },
+        }
     }
 
     /// Publishings after a cell was written, more calls, and a new opening.
@@ -1059,6 +1135,25 @@ impl Maker {
         }
         lists
     }
+}
+
+/// A width in bounds or over them; of over 16 bits some that are in bounds in 16.
+fn wild_width(rng: &mut Rng) -> u32 {
+    let any = rng.word();
+    let over = rng.between(MOST_WIDTH + 1, 65_535);
+    rng.pick(&[
+        0,
+        0,
+        1,
+        MOST_WIDTH,
+        MOST_WIDTH + 1,
+        over,
+        65_535,
+        65_536,
+        65_537,
+        any,
+        u32::MAX,
+    ])
 }
 
 /// A reading over the dial, or an agreed value over 99,999,999.

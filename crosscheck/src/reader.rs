@@ -1,7 +1,8 @@
-//! 01, The published file: the reader, which works from the end; both of W1's layouts.
+//! 01, The published file: the reader, which works from the end; W1's two layouts and
+//! W10's.
 
 use crate::book::MOST_AGREED;
-use crate::file::{LAYOUT, LAYOUT_AGREED, SLOT_BYTES, SPAN_BYTES, TRAILER_BYTES};
+use crate::file::{self, LAYOUT, LAYOUT_AGREED, LAYOUT_PLAIN, SLOT_BYTES, TRAILER_BYTES};
 use crate::head::{self, DIAL};
 use crate::refusal;
 
@@ -17,7 +18,7 @@ pub struct Figures {
     pub substituted: u64,
     pub none: u64,
     pub sum: u64,
-    /// 1, or 2 of a file with an F slot.
+    /// 3; before W10 1, or 2 of a file with an F slot.
     pub layout: u64,
 }
 
@@ -37,6 +38,7 @@ pub enum Fault {
     SpanBounds,
     SpanChain,
     Advance,
+    AdvanceOrder,
     State,
     LastByte,
     OpenState,
@@ -50,7 +52,7 @@ pub enum Fault {
 }
 
 impl Fault {
-    pub const ALL: [Fault; 23] = [
+    pub const ALL: [Fault; 24] = [
         Fault::Short,
         Fault::FirstDay,
         Fault::Days,
@@ -64,6 +66,7 @@ impl Fault {
         Fault::SpanBounds,
         Fault::SpanChain,
         Fault::Advance,
+        Fault::AdvanceOrder,
         Fault::State,
         Fault::LastByte,
         Fault::OpenState,
@@ -101,7 +104,17 @@ pub fn tables(file: &[u8]) -> &[u8] {
 
 /// As `read`, with the fault in place of its number.
 pub fn check(file: &[u8]) -> Result<Figures, Fault> {
+    checked(file).map(|(figures, ..)| figures)
+}
+
+/// As `read`, with the records beside the figures.
+pub fn records(file: &[u8]) -> Result<(Figures, Vec<SlotRecord>, Vec<SpanRecord>), u8> {
+    checked(file).map_err(Fault::number)
+}
+
+fn checked(file: &[u8]) -> Result<(Figures, Vec<SlotRecord>, Vec<SpanRecord>), Fault> {
     let parts = Parts::of(file)?;
+    let layout = parts.figures.layout as u8;
     let slots: Vec<SlotRecord> = parts
         .slot_table
         .chunks_exact(SLOT_BYTES)
@@ -109,14 +122,14 @@ pub fn check(file: &[u8]) -> Result<Figures, Fault> {
         .collect();
     let spans: Vec<SpanRecord> = parts
         .span_table
-        .chunks_exact(SPAN_BYTES)
-        .map(SpanRecord::of)
+        .chunks_exact(file::span_bytes(layout))
+        .map(|record| SpanRecord::of(layout, record))
         .collect();
     require(slots.iter().all(SlotRecord::allowed), Fault::Record)?;
     check_layout(&slots, &parts.figures)?;
     check_spans(&spans, &slots, &parts.figures)?;
     check_totals(&slots, &parts.figures)?;
-    Ok(parts.figures)
+    Ok((parts.figures, slots, spans))
 }
 
 fn require(holds: bool, fault: Fault) -> Result<(), Fault> {
@@ -152,8 +165,10 @@ impl Parts<'_> {
             head::interval_known(figures.interval as u32),
             Fault::Interval,
         )?;
-        require(matches!(trailer[5], LAYOUT | LAYOUT_AGREED), Fault::Layout)?;
-        let span_bytes = SPAN_BYTES as u64 * figures.spans;
+        let layout = trailer[5];
+        let known = matches!(layout, LAYOUT_PLAIN | LAYOUT_AGREED | LAYOUT);
+        require(known, Fault::Layout)?;
+        let span_bytes = file::span_bytes(layout) as u64 * figures.spans;
         require(number(&trailer[28..32]) == span_bytes, Fault::Distance)?;
         let slot_bytes = SLOT_BYTES as u64 * (1440 / figures.interval) * figures.days;
         require(
@@ -177,10 +192,10 @@ fn number(bytes: &[u8]) -> u64 {
         .fold(0, |high, &low| high << 8 | u64::from(low))
 }
 
-struct SlotRecord {
-    value: u64,
-    letter: u8,
-    method: u8,
+pub struct SlotRecord {
+    pub value: u64,
+    pub letter: u8,
+    pub method: u8,
 }
 
 impl SlotRecord {
@@ -210,30 +225,42 @@ impl SlotRecord {
     }
 }
 
-/// An F exactly in layout 2.
+/// Of the layouts before W10, an F exactly in layout 2.
 fn check_layout(slots: &[SlotRecord], figures: &Figures) -> Result<(), Fault> {
+    if figures.layout == u64::from(LAYOUT) {
+        return Ok(());
+    }
     let agreed = slots.iter().any(|slot| slot.is(b'F'));
     let announced = figures.layout == u64::from(LAYOUT_AGREED);
     require(announced || !agreed, Fault::AgreedInLayout1)?;
     require(agreed || !announced, Fault::NoneAgreedInLayout2)
 }
 
-struct SpanRecord {
-    first: u64,
-    last: u64,
-    advance: u64,
-    state: u8,
+/// A span of layout 1 or 2 has one advance, lowest and highest alike.
+pub struct SpanRecord {
+    pub first: u64,
+    pub last: u64,
+    pub lowest: u64,
+    pub highest: u64,
+    pub state: u8,
     zero: u8,
 }
 
 impl SpanRecord {
-    fn of(record: &[u8]) -> SpanRecord {
+    fn of(layout: u8, record: &[u8]) -> SpanRecord {
+        let lowest = number(&record[4..8]);
+        let (highest, rest) = if layout == LAYOUT {
+            (number(&record[8..12]), &record[12..])
+        } else {
+            (lowest, &record[8..])
+        };
         SpanRecord {
             first: number(&record[0..2]),
             last: number(&record[2..4]),
-            advance: number(&record[4..8]),
-            state: record[8],
-            zero: record[9],
+            lowest,
+            highest,
+            state: rest[0],
+            zero: rest[1],
         }
     }
 }
@@ -262,7 +289,8 @@ fn check_spans(spans: &[SpanRecord], slots: &[SlotRecord], figures: &Figures) ->
 }
 
 fn check_span(span: &SpanRecord, slots: &[SlotRecord]) -> Result<(), Fault> {
-    require(span.advance < u64::from(DIAL), Fault::Advance)?;
+    require(span.highest < u64::from(DIAL), Fault::Advance)?;
+    require(span.lowest <= span.highest, Fault::AdvanceOrder)?;
     require(span.state <= 3, Fault::State)?;
     require(span.zero == 0, Fault::LastByte)?;
     let has_none = slots.iter().any(|slot| slot.is(b'N'));
@@ -275,7 +303,8 @@ fn check_span(span: &SpanRecord, slots: &[SlotRecord]) -> Result<(), Fault> {
         1 => {
             require(substituted.all(SlotRecord::scaled), Fault::ScaledMixed)?;
             let sum: u64 = slots.iter().map(|slot| slot.value).sum();
-            require(sum == span.advance, Fault::ScaledSum)
+            let between = span.lowest <= sum && sum <= span.highest;
+            require(between, Fault::ScaledSum)
         }
         _ => Ok(()),
     }

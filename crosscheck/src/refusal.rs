@@ -18,6 +18,7 @@ pub const TABLE: u8 = 13;
 pub const IDENTIFIER: u8 = 14;
 pub const TEXTS: u8 = 15;
 pub const DIGIT: u8 = 16;
+pub const WIDTH: u8 = 17;
 pub const STAYS: u8 = 18;
 pub const STAY_DAYS: u8 = 19;
 pub const STRIPS: u8 = 22;

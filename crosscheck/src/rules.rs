@@ -1,5 +1,5 @@
 //! 01, Tests of a slot, Filling and Spans, with W1's agreed values, W2's line, W3's
-//! Sundays and W7's shape: from the cells to the outcomes.
+//! Sundays, W7's shape and W10's widths: from the cells to the outcomes.
 
 use std::ops::Range;
 
@@ -36,6 +36,7 @@ pub struct Cells<'a> {
     pub read_versions: &'a [u32],
     pub agreed: &'a [u32],
     pub agreed_versions: &'a [u32],
+    pub widths: &'a [u16],
 }
 
 #[derive(Clone, Copy, Debug, PartialEq, Eq)]
@@ -76,9 +77,56 @@ pub enum State {
 pub struct Span {
     pub first: usize,
     pub last: usize,
-    /// R.
-    pub advance: u32,
+    pub advances: Advances,
     pub state: State,
+}
+
+/// The advances that the widths of two reads leave, from the lowest to the highest.
+#[derive(Clone, Copy, Debug, PartialEq, Eq)]
+pub struct Advances {
+    pub lowest: u32,
+    pub highest: u32,
+}
+
+impl Advances {
+    /// One advance only, as two reads without a width give it.
+    pub fn one(advance: u32) -> Advances {
+        Advances {
+            lowest: advance,
+            highest: advance,
+        }
+    }
+
+    /// Of two readings with the advance `g`, the earlier one's width and the later one's.
+    pub fn between(g: u32, earlier: u16, later: u16) -> Advances {
+        let highest = g + u32::from(later);
+        if highest < DIAL {
+            Advances {
+                lowest: g.saturating_sub(earlier.into()),
+                highest,
+            }
+        } else {
+            Advances {
+                lowest: 0,
+                highest: highest - DIAL,
+            }
+        }
+    }
+
+    /// R: the least advance that is at least V; if there is none, the highest.
+    pub fn fitted(&self, v: u64) -> u32 {
+        v.clamp(self.lowest.into(), self.highest.into()) as u32
+    }
+
+    /// Whether some advance is within t of V.
+    fn within(&self, t: u32, v: u64) -> bool {
+        let (lowest, highest, t) = (
+            u64::from(self.lowest),
+            u64::from(self.highest),
+            u64::from(t),
+        );
+        lowest <= v + t && v <= highest + t
+    }
 }
 
 /// The outcomes of all slots and spans.
@@ -87,17 +135,18 @@ pub fn outcomes(shape: &Shape, cells: &Cells) -> (Vec<Slot>, Vec<Span>) {
     let Filled { mut slots, e } = fill(shape, cells, &causes);
     let spans = advances(cells)
         .into_iter()
-        .map(|(first, last, advance)| {
+        .map(|(first, last, advances)| {
             let range = span_slots(shape, first, last);
             let part = &mut slots[range.clone()];
-            let state = state(shape, part, advance);
+            let state = state(shape, part, advances);
             if state == State::Scaled {
-                scale(part, &e[range], advance);
+                let r = advances.fitted(settled_sum(part));
+                scale(part, &e[range], r);
             }
             Span {
                 first,
                 last,
-                advance,
+                advances,
                 state,
             }
         })
@@ -315,24 +364,22 @@ impl Mean {
     }
 }
 
-/// First boundary, last boundary and R between neighbouring boundaries that were read.
-fn advances(cells: &Cells) -> Vec<(usize, usize, u32)> {
+/// First boundary, last boundary and advances between neighbouring boundaries that were read.
+fn advances(cells: &Cells) -> Vec<(usize, usize, Advances)> {
     let read: Vec<usize> = (0..cells.read_versions.len())
         .filter(|&boundary| cells.read_versions[boundary] != 0)
         .collect();
     read.windows(2)
         .map(|pair| {
             let (first, last) = (pair[0], pair[1]);
-            (
-                first,
-                last,
-                advance(cells.readings[first], cells.readings[last]),
-            )
+            let g = advance(cells.readings[first], cells.readings[last]);
+            let advances = Advances::between(g, cells.widths[first], cells.widths[last]);
+            (first, last, advances)
         })
         .collect()
 }
 
-/// (later − earlier) mod 100,000,000, of two readings of the dial.
+/// G: (later − earlier) mod 100,000,000, of two readings of the dial.
 pub fn advance(earlier: u32, later: u32) -> u32 {
     (later + DIAL - earlier) % DIAL
 }
@@ -346,10 +393,10 @@ pub fn settled_sum(slots: &[Slot]) -> u64 {
         .sum()
 }
 
-fn state(shape: &Shape, slots: &[Slot], advance: u32) -> State {
+fn state(shape: &Shape, slots: &[Slot], advances: Advances) -> State {
     let has = |quality| slots.iter().any(|slot| slot.quality == quality);
-    let r = u64::from(advance);
     let v = settled_sum(slots);
+    let r = u64::from(advances.fitted(v));
     if has(Quality::None) {
         State::Open
     } else if has(Quality::Substituted) {
@@ -358,7 +405,7 @@ fn state(shape: &Shape, slots: &[Slot], advance: u32) -> State {
         } else {
             State::Disagrees
         }
-    } else if r.abs_diff(v) <= u64::from(shape.tolerance) {
+    } else if advances.within(shape.tolerance, v) {
         State::Agrees
     } else {
         State::Disagrees

@@ -4,14 +4,16 @@ use crate::acceptance;
 use crate::book::Filed;
 use crate::calls::{Act, Book, Call, List, Lists, Room};
 use crate::census;
+use crate::contents::Contents;
 use crate::counts::Counts;
 use crate::day_census::{self, Before};
 use crate::definition::Definition;
-use crate::file;
+use crate::file::{self, Frame};
 use crate::head::Shape;
 use crate::plain::Plain;
+use crate::range_census;
 use crate::reader::{self, Figures};
-use crate::rules::{self, Quality, Slot, Span};
+use crate::rules::{self, Cells, Quality, Slot, Span};
 use crate::side::{Answer, Second, Side, apply, filed_answer};
 
 /// Books up to this many slots are also held against `definition`.
@@ -103,6 +105,7 @@ impl Run<'_> {
                 if answer == Answer::Refused(11) && self.others_possible(call) {
                     counts.impossible_agreed(&call.act, &self.second);
                 }
+                range_census::answered(call, &self.second, answer, counts);
                 self.compare_with_plain(call, answer, room)?;
             }
             None => self.written_aside(call),
@@ -198,8 +201,9 @@ impl Run<'_> {
                 boundary,
                 version,
                 reading,
+                width,
             } => Some(filed_answer(
-                plain.register(call.head, boundary, version, reading),
+                plain.register(call.head, boundary, version, reading, width),
             )),
             Act::Agree {
                 slot,
@@ -254,15 +258,17 @@ impl Run<'_> {
                 boundary,
                 version,
                 reading,
+                width,
             } => {
                 let cell = match &self.plain {
                     Some(plain) => plain.boundary(boundary),
-                    None if stored => (reading, version),
+                    None if stored => (reading, version, width),
                     None => return,
                 };
                 let at = boundary as usize;
                 self.expected.write(List::Readings, at, cell.0);
                 self.expected.write(List::ReadVersions, at, cell.1);
+                self.expected.write(List::Widths, at, cell.2);
             }
             Act::Agree {
                 slot,
@@ -334,30 +340,42 @@ impl Run<'_> {
         };
         let published = &out[..length as usize];
         let cells = self.expected.cells();
-        let (slots, spans) = if shape.slots <= DEFINED_SLOTS {
-            Definition::new(shape, cells).outcomes()
-        } else {
-            rules::outcomes(&shape, &cells)
-        };
-        let mut defined = vec![0; file::length(slots.len(), spans.len())];
-        file::write(&shape, &slots, &spans, &mut defined);
-        if published != defined {
-            let at = published.iter().zip(&defined).position(|(a, b)| a != b);
+        let defined = defined(&shape, &cells);
+        let file = defined.file();
+        if published != file {
+            let at = published.iter().zip(&file).position(|(a, b)| a != b);
             return Err(format!("file and definition differ at byte {at:?}"));
         }
-        let figures = figures(&shape, &slots, &spans);
-        if Second.read(published) != Ok(figures) {
-            return Err(format!(
-                "reader: {:?}, not {figures:?}",
-                Second.read(published)
-            ));
+        let outcomes = (&defined.slots[..], &defined.spans[..]);
+        let (read, figures) = (Second.read(published), figures(&shape, outcomes));
+        if read != Ok(figures) {
+            return Err(format!("reader: {read:?}, not {figures:?}"));
         }
-        census::take(&shape, &cells, (&slots, &spans), counts);
-        compare_readers(published, self.other, counts)
+        if Contents::of(published).as_ref() != Ok(&defined) {
+            return Err("the reader gives other outcomes".to_string());
+        }
+        census::take(&shape, &cells, outcomes, counts);
+        compare_readers(published, self.other, counts)?;
+        // Files published before W10 are still read.
+        compare_readers(&defined.before().file(), self.other, counts)
     }
 }
 
-fn figures(shape: &Shape, slots: &[Slot], spans: &[Span]) -> Figures {
+/// The outcomes by definition; of the largest books by the rules.
+fn defined(shape: &Shape, cells: &Cells) -> Contents {
+    let (slots, spans) = if shape.slots <= DEFINED_SLOTS {
+        Definition::new(*shape, *cells).outcomes()
+    } else {
+        rules::outcomes(shape, cells)
+    };
+    Contents {
+        frame: Frame::published(shape),
+        slots,
+        spans,
+    }
+}
+
+fn figures(shape: &Shape, (slots, spans): (&[Slot], &[Span])) -> Figures {
     let count = |quality| slots.iter().filter(|s| s.quality == quality).count() as u64;
     Figures {
         first_day: u64::from(shape.first_day),
@@ -368,7 +386,7 @@ fn figures(shape: &Shape, slots: &[Slot], spans: &[Span]) -> Figures {
         substituted: count(Quality::Substituted) + count(Quality::Agreed),
         none: count(Quality::None),
         sum: slots.iter().map(|slot| u64::from(slot.value)).sum(),
-        layout: if count(Quality::Agreed) > 0 { 2 } else { 1 },
+        layout: 3,
     }
 }
 
@@ -396,6 +414,9 @@ pub fn compare_readers(
     if tables != wanted {
         return Err(format!("tables: {} bytes, read {read:?}", tables.len()));
     }
+    if Contents::of(file).is_ok_and(|contents| contents.file() != file) {
+        return Err("what the file gives is written otherwise".to_string());
+    }
     let Some(other) = other else {
         return Ok(());
     };
@@ -422,7 +443,7 @@ fn wrong_length(shape: &Shape, act: &Act, lists: &Lists) -> bool {
             List::Values | List::Versions | List::Statuses => shape.slots,
             List::Agreed | List::AgreedVersions => shape.slots,
             List::Holidays | List::Counts => shape.days,
-            List::Readings | List::ReadVersions => shape.days + 1,
+            List::Readings | List::ReadVersions | List::Widths => shape.days + 1,
         };
         lists.len_of(list) != wanted
     })
@@ -457,10 +478,10 @@ fn impossible_count(shape: &Shape, act: &Act, lists: &Lists) -> bool {
     }
 }
 
-/// 6N + 10M + 32 of the lists as they are.
+/// 6N + 14M + 32 of the lists as they are.
 fn file_length(shape: &Shape, lists: &Lists) -> usize {
     let read = lists.read_versions.iter().filter(|&&v| v != 0).count();
-    6 * shape.slots + 10 * read.saturating_sub(1) + 32
+    6 * shape.slots + 14 * read.saturating_sub(1) + 32
 }
 
 fn room(call: &Call, lists: &Lists) -> usize {

@@ -43,6 +43,7 @@ pub struct RegisterRead {
     pub boundary: u32,
     pub version: u32,
     pub reading: u32,
+    pub width: u32,
 }
 
 #[derive(Clone, Copy, Debug, PartialEq, Eq)]
@@ -76,11 +77,13 @@ pub fn apply(side: &dyn Side, call: &Call, lists: &mut Lists, out: &mut [u8]) ->
             boundary,
             version,
             reading,
+            width,
         } => {
             let read = RegisterRead {
                 boundary,
                 version,
                 reading,
+                width,
             };
             Some(side.register(head, lists, read))
         }
@@ -127,6 +130,7 @@ impl Side for Second {
             &mut lists.agreed,
             &mut lists.agreed_versions,
             &mut lists.counts,
+            &mut lists.widths,
         );
         match result {
             Ok(()) => Answer::Done,
@@ -157,9 +161,11 @@ impl Side for Second {
             head,
             &mut lists.readings,
             &mut lists.read_versions,
+            &mut lists.widths,
             read.boundary,
             read.version,
             read.reading,
+            read.width,
         ))
     }
 
@@ -186,6 +192,7 @@ impl Side for Second {
             &lists.agreed,
             &lists.agreed_versions,
             &lists.counts,
+            &lists.widths,
             out,
         );
         match result {

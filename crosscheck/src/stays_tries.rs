@@ -3,6 +3,7 @@
 use crate::acceptance;
 use crate::book::MOST_AGREED;
 use crate::calls::Lists;
+use crate::contents;
 use crate::damage::Bases;
 use crate::head::Head;
 use crate::random;
@@ -41,6 +42,7 @@ pub const CLASSES: &[&str] = &[
     "stays in a book of 400 days",
     "stays in a file of layout 1",
     "stays in a file of layout 2",
+    "stays in a file of layout 3",
     "stays in a damaged file",
     "total over 4,294,967,295",
     "stays refused 8",
@@ -68,8 +70,9 @@ pub struct Files {
 impl Files {
     pub fn new(seed: u64) -> Files {
         let sizes = [(400, 30), (400, 15), (31, 5), (366, 30)];
-        let large = sizes.into_iter().zip(0..).map(|((days, interval), index)| {
-            random::file_of(Rng::new(seed ^ 0x57A7, index), days, interval)
+        let large = sizes.into_iter().zip(0..).flat_map(|(size, index)| {
+            let file = random::file_of(Rng::new(seed ^ 0x57A7, index), size.0, size.1);
+            [contents::before(&file).expect("a published file"), file]
         });
         Files {
             seed,
@@ -343,6 +346,7 @@ impl Count<'_> {
         tally.add_if(days == 400, "stays in a book of 400 days");
         tally.add_if(layout == 1, "stays in a file of layout 1");
         tally.add_if(layout == 2, "stays in a file of layout 2");
+        tally.add_if(layout == 3, "stays in a file of layout 3");
         tally.add_if(damaged, "stays in a damaged file");
         let large = totals.iter().any(|&total| total > u64::from(u32::MAX));
         tally.add_if(large, "total over 4,294,967,295");

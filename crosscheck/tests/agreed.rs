@@ -2,6 +2,7 @@
 
 use crosscheck::book::Filed;
 use crosscheck::calls::{List, Lists};
+use crosscheck::contents;
 use crosscheck::damage::{Edit, edited};
 use crosscheck::head::Head;
 use crosscheck::line::line;
@@ -13,6 +14,11 @@ use common::*;
 
 const MOST: u32 = 99_999_999;
 const MAX: u32 = u32::MAX;
+
+/// The file as W1 had it, in layout 1 or 2.
+fn before(test: &Test) -> Vec<u8> {
+    contents::before(&test.file()).unwrap()
+}
 
 fn layout(file: &[u8]) -> u8 {
     file[file.len() - 32 + 5]
@@ -31,10 +37,11 @@ fn each_cause_takes_the_agreed_value() {
         test.deliver_all(100);
         test.redeliver(4, value, status);
         assert_eq!(test.slot(4), (100, 'S', 2));
-        assert_eq!(layout(&test.file()), 1);
+        assert_eq!(layout(&before(&test)), 1);
         test.agree(4, MOST);
         assert_eq!(test.slot(4), (MOST, 'F', 5), "{value} {status}");
-        assert_eq!(layout(&test.file()), 2);
+        assert_eq!(layout(&before(&test)), 2);
+        assert_eq!(layout(&test.file()), 3);
         assert_eq!(counts(&test), (47, 1, 0));
     }
     let mut test = Test::new(HEAD);
@@ -56,7 +63,7 @@ fn a_good_slot_keeps_its_delivered_value() {
     test.agree(5, 8);
     assert_eq!(test.slot(4), (100, 'A', 0));
     assert_eq!(test.slot(5), (100, 'A', 0), "an outage bit leaves it good");
-    assert_eq!(layout(&test.file()), 1, "no F slot");
+    assert_eq!(layout(&before(&test)), 1, "no F slot");
     assert_eq!(line(&test.file()), "2024-05-01 1 30 48 0 0 4800");
 }
 
@@ -166,7 +173,8 @@ fn the_largest_sums_fit() {
     let figures = read(&test.file()).unwrap();
     assert_eq!(figures.substituted, 115_200);
     assert_eq!(figures.sum, 115_200 * u64::from(MOST));
-    assert_eq!(figures.layout, 2);
+    assert_eq!(figures.layout, 3);
+    assert_eq!(read(&before(&test)).unwrap().layout, 2);
 }
 
 #[test]
@@ -243,9 +251,10 @@ fn the_plain_book_keeps_agreed_calls_apart() {
     assert_eq!(plain.slot(5), (9, 1, 0));
 }
 
-/// What the reader finds in a file of state 0 with an F at slot 20, after these edits.
+/// What the reader finds in a file of layout 2 and state 0 with an F at slot 20, after
+/// these edits.
 fn after(edits: &[Edit]) -> Result<(), Fault> {
-    let file = edited(&one_agreed(500).file(), edits);
+    let file = edited(&before(&one_agreed(500)), edits);
     let checked = check(&file).map(|_| ());
     assert_eq!(read(&file).err(), checked.err().map(Fault::number));
     assert_eq!(tables(&file).is_empty(), checked.is_err());
@@ -272,9 +281,12 @@ fn layout_byte(value: u64) -> Edit {
 fn the_reader_knows_both_layouts() {
     assert_eq!(after(&[]), Ok(()));
     assert_eq!(after(&[layout_byte(1)]), Err(Fault::AgreedInLayout1));
-    for value in [0, 3, 255] {
+    for value in [0, 4, 255] {
         assert_eq!(after(&[layout_byte(value)]), Err(Fault::Layout));
     }
+    // Layout 3 wants a longer record.
+    assert_eq!(after(&[layout_byte(3)]), Err(Fault::Distance));
+    assert_eq!(after(&[Edit::Relayout(3)]), Ok(()));
     let plain = slot(20, 30, b'A', 0);
     assert_eq!(
         after(&[plain.clone(), Edit::Mend]),

@@ -48,7 +48,7 @@ enum Meddling {
     AgreedBeatsGood,
     AgreedEndsRuns,
     AgreedIsNeighbourAndReference,
-    AlwaysLayout1,
+    LayoutBefore,
     AgreedUnchecked,
     SingleLinesOnly,
     LineRoundsUpWhenFalling,
@@ -88,7 +88,7 @@ const ALL: [Meddling; 34] = [
     Meddling::AgreedBeatsGood,
     Meddling::AgreedEndsRuns,
     Meddling::AgreedIsNeighbourAndReference,
-    Meddling::AlwaysLayout1,
+    Meddling::LayoutBefore,
     Meddling::AgreedUnchecked,
     Meddling::SingleLinesOnly,
     Meddling::LineRoundsUpWhenFalling,
@@ -177,7 +177,12 @@ impl Side for Meddled {
                 }
             }
             Meddling::ConstantFile => file.fill(0),
-            Meddling::AlwaysLayout1 => file[length as usize - 27] = 1,
+            Meddling::LayoutBefore => {
+                let agreed = file[..6 * lists.values.len()]
+                    .chunks(6)
+                    .any(|r| r[4] == b'F');
+                file[length as usize - 27] = 1 + u8::from(agreed);
+            }
             Meddling::AgreedIsNeighbourAndReference => name_agreed(head, lists, file),
             Meddling::MadeUpCounts => file[length as usize - 24] ^= 1,
             Meddling::WritesBehindTheFile => behind.fill(0),
@@ -279,9 +284,6 @@ fn name_agreed(head: Head, lists: &Lists, file: &mut [u8]) {
     let slots = agreed_slots(head, lists, false);
     for &slot in &slots {
         file[6 * slot + 4..6 * slot + 6].copy_from_slice(&[b'F', 5]);
-    }
-    if !slots.is_empty() {
-        file[trailer + 5] = 2;
     }
     for (at, letters) in [(8, &b"A"[..]), (12, &b"SF"[..])] {
         let records = file[..6 * lists.values.len()].chunks(6);

@@ -2,6 +2,7 @@
 
 use crosscheck::book;
 use crosscheck::calls::Lists;
+use crosscheck::contents;
 use crosscheck::head::{Head, day_number};
 use crosscheck::line::line;
 use crosscheck::reader::{self, Figures};
@@ -115,8 +116,9 @@ fn days_and_heads() {
     assert_eq!(lists, Lists::zeroed(48, 1));
 }
 
+/// As 01 has it but for the layout, which is 3 since W10.
 const WHOLE_TRAILER: [u8; 32] = [
-    0xB7, 0x22, 0x01, 0x00, 0x1E, 0x01, 0x00, 0x00, 0x2F, 0x00, 0x00, 0x00, 0x01, 0x00, 0x00, 0x00,
+    0xB7, 0x22, 0x01, 0x00, 0x1E, 0x03, 0x00, 0x00, 0x2F, 0x00, 0x00, 0x00, 0x01, 0x00, 0x00, 0x00,
     0x00, 0x00, 0x00, 0x00, 0xC0, 0x12, 0x00, 0x00, 0x00, 0x00, 0x00, 0x00, 0x00, 0x00, 0x00, 0x00,
 ];
 
@@ -142,9 +144,21 @@ fn whole() {
         substituted: 1,
         none: 0,
         sum: 4800,
-        layout: 1,
+        layout: 3,
     };
     assert_eq!(reader::read(&file), Ok(figures));
+    // The file as it was published before W10 is still read.
+    let mut old = file.clone();
+    old[6 * 48 + 5] = 1;
+    assert_eq!(contents::before(&file), Ok(old.clone()));
+    assert_eq!(
+        reader::read(&old),
+        Ok(Figures {
+            layout: 1,
+            ..figures
+        })
+    );
+    assert_eq!(line(&old), line(&file));
 }
 
 #[test]

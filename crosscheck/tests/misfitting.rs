@@ -5,7 +5,7 @@ use crosscheck::counts::Counts;
 use crosscheck::head::Head;
 use crosscheck::random;
 use crosscheck::reader::Figures;
-use crosscheck::rules::{self, Filled, Mean, Quality, Slot, State};
+use crosscheck::rules::{self, Filled, Mean, Quality, Slot, Span, State};
 use crosscheck::run::run;
 use crosscheck::side::{Agreement, Answer, Delivery, RegisterRead, Second, Side};
 
@@ -78,11 +78,12 @@ impl Slip {
     }
 
     /// The new values of a scaled span.
-    fn scale(self, slots: &mut [Slot], e: &[u64], advance: u32) {
-        let given = slots.to_vec();
-        rules::scale(slots, e, advance);
+    fn scale(self, slots: &mut [Slot], e: &[u64], span: &Span) {
+        let v = rules::settled_sum(slots);
+        let r = span.advances.fitted(v);
+        rules::scale(slots, e, r);
         let total: u64 = e.iter().sum();
-        let t = u64::from(advance) - rules::settled_sum(&given);
+        let t = u64::from(r) - v;
         for (slot, &e) in slots.iter_mut().zip(e) {
             let by_itself = u128::from(t) * u128::from(e) / u128::from(total.max(1));
             let replaced = match self {
@@ -174,7 +175,7 @@ impl Misfitting {
                 let substituted = part.iter().zip(e.iter_mut()).filter(|(s, _)| estimated(s));
                 substituted.for_each(|(_, e)| *e = (*e).max(1));
             }
-            self.0.scale(part, e, span.advance);
+            self.0.scale(part, e, span);
         }
         meddled
     }

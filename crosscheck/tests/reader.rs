@@ -1,5 +1,6 @@
 //! 01, The published file: the reader accepts every published file and refuses others.
 
+use crosscheck::contents;
 use crosscheck::damage::{Bases, Edit, edited};
 use crosscheck::head::Head;
 use crosscheck::reader::{Fault, check, read, tables};
@@ -27,7 +28,16 @@ fn five_days() -> Test {
 const SLOTS: usize = 5 * 48;
 
 fn after(edits: &[Edit]) -> Result<(), Fault> {
-    let file = edited(&five_days().file(), edits);
+    after_of(&five_days().file(), edits)
+}
+
+/// The same file in layout 1.
+fn after_before(edits: &[Edit]) -> Result<(), Fault> {
+    after_of(&contents::before(&five_days().file()).unwrap(), edits)
+}
+
+fn after_of(file: &[u8], edits: &[Edit]) -> Result<(), Fault> {
+    let file = edited(file, edits);
     let checked = check(&file).map(|_| ());
     assert_eq!(read(&file).err(), checked.err().map(Fault::number));
     assert_eq!(tables(&file).is_empty(), checked.is_err());
@@ -55,8 +65,11 @@ fn trailer(field: (usize, usize), value: u64) -> Edit {
 fn a_published_file_is_accepted() {
     assert_eq!(after(&[]), Ok(()));
     let file = five_days().file();
-    assert_eq!(tables(&file), &file[..SLOTS * 6 + 40]);
+    assert_eq!(tables(&file), &file[..SLOTS * 6 + 56]);
     assert!(std::ptr::eq(tables(&file).as_ptr(), file.as_ptr()));
+    assert_eq!(after_before(&[]), Ok(()));
+    let old = contents::before(&file).unwrap();
+    assert_eq!(tables(&old), &old[..SLOTS * 6 + 40]);
 }
 
 #[test]
@@ -86,10 +99,8 @@ fn trailer_fields() {
         ((4, 1), 10, Fault::Interval),
         ((4, 1), 15, Fault::Length),
         ((5, 1), 0, Fault::Layout),
-        ((5, 1), 2, Fault::NoneAgreedInLayout2),
-        ((5, 1), 3, Fault::Layout),
+        ((5, 1), 4, Fault::Layout),
         ((6, 2), 3, Fault::Distance),
-        ((28, 4), 41, Fault::Distance),
         ((28, 4), u64::MAX, Fault::Distance),
         ((8, 4), 0, Fault::Counts),
         ((12, 4), 7, Fault::Counts),
@@ -98,18 +109,57 @@ fn trailer_fields() {
         ((20, 8), u64::MAX, Fault::Sum),
     ];
     for (field, value, fault) in cases {
-        assert_eq!(
-            after(&[trailer(field, value)]),
-            Err(fault),
-            "{field:?} {value}"
-        );
+        let edit = [trailer(field, value)];
+        assert_eq!(after(&edit), Err(fault), "{field:?} {value}");
+        assert_eq!(after_before(&edit), Err(fault), "{field:?} {value}");
     }
     // The last first day for five days.
     assert_eq!(after(&[trailer((0, 2), 36_520)]), Ok(()));
+}
+
+#[test]
+fn the_distance_is_that_of_the_layout() {
+    // Four spans of 14 bytes, or of 10.
+    for distance in [40, 55, 57] {
+        let edit = [trailer((28, 4), distance)];
+        assert_eq!(after(&edit), Err(Fault::Distance));
+    }
+    for distance in [39, 41, 56] {
+        let edit = [trailer((28, 4), distance)];
+        assert_eq!(after_before(&edit), Err(Fault::Distance));
+    }
     assert_eq!(
-        after(&[trailer((6, 2), 65_535), trailer((28, 4), 655_350)]),
+        after(&[trailer((6, 2), 65_535), trailer((28, 4), 917_490)]),
         Err(Fault::Length)
     );
+    assert_eq!(
+        after_before(&[trailer((6, 2), 65_535), trailer((28, 4), 655_350)]),
+        Err(Fault::Length)
+    );
+}
+
+#[test]
+fn layout_bytes() {
+    let layout = |value| trailer((5, 1), value);
+    assert_eq!(after(&[layout(1)]), Err(Fault::Distance));
+    assert_eq!(after(&[layout(2)]), Err(Fault::Distance));
+    assert_eq!(after_before(&[layout(2)]), Err(Fault::NoneAgreedInLayout2));
+    assert_eq!(after_before(&[layout(3)]), Err(Fault::Distance));
+    // Five spans of 14 bytes are as long as seven of 10, so here it is 9.
+    let mut five = five_days();
+    five.register(5, 1970);
+    let seven = [layout(1), trailer((6, 2), 7)];
+    let found = after_of(&five.file(), &seven);
+    assert_eq!(found.map_err(Fault::number), Err(9));
+    assert_eq!(after(&[Edit::Relayout(1)]), Ok(()));
+    assert_eq!(after_before(&[Edit::Relayout(3)]), Ok(()));
+    // Without spans a file of layout 1 is one of layout 3 but for the byte.
+    let file = Test::new(HEAD).file();
+    for value in [1, 3] {
+        assert_eq!(after_of(&file, &[layout(value)]), Ok(()));
+    }
+    let two = after_of(&file, &[layout(2)]);
+    assert_eq!(two, Err(Fault::NoneAgreedInLayout2));
 }
 
 #[test]
@@ -163,7 +213,7 @@ fn slot_records() {
 
 #[test]
 fn span_records() {
-    let (first, last, advance, state, zero) = ((0, 2), (2, 2), (4, 4), (8, 1), (9, 1));
+    let (first, last) = ((0, 2), (2, 2));
     let cases = [
         (0, first, 1, Fault::SpanBounds),
         (3, last, 6, Fault::SpanBounds),
@@ -171,29 +221,67 @@ fn span_records() {
         (0, first, 65_535, Fault::SpanBounds),
         (1, first, 0, Fault::SpanChain),
         (3, first, 2, Fault::SpanChain),
-        (3, advance, 100_000_000, Fault::Advance),
-        (0, state, 4, Fault::State),
-        (0, state, 255, Fault::State),
-        (0, zero, 1, Fault::LastByte),
-        (0, state, 2, Fault::OpenState),
-        (2, state, 3, Fault::OpenState),
-        (0, state, 1, Fault::ScaledState),
-        (1, state, 3, Fault::ScaledState),
-        (1, state, 0, Fault::ScaledState),
-        (1, advance, 521, Fault::ScaledSum),
-        (3, state, 0, Fault::AgreesWithSubstituted),
     ];
     for (at, field, value, fault) in cases {
-        assert_eq!(
-            after(&[span(at, field, value)]),
-            Err(fault),
-            "{at} {field:?} {value}"
-        );
+        let edit = [span(at, field, value)];
+        assert_eq!(after(&edit), Err(fault), "{at} {field:?} {value}");
+        assert_eq!(after_before(&edit), Err(fault), "{at} {field:?} {value}");
     }
-    // The tolerance is not in the file, so R is free in the states but 1.
-    assert_eq!(after(&[span(0, advance, 99_999_999)]), Ok(()));
-    assert_eq!(after(&[span(0, state, 3)]), Ok(()));
     assert_eq!(after(&[span(3, last, 5)]), Ok(()));
+    assert_eq!(after_before(&[span(3, last, 5)]), Ok(()));
+}
+
+#[test]
+fn states_of_spans() {
+    let cases = [
+        (0, 4, Fault::State),
+        (0, 255, Fault::State),
+        (0, 2, Fault::OpenState),
+        (2, 3, Fault::OpenState),
+        (0, 1, Fault::ScaledState),
+        (1, 3, Fault::ScaledState),
+        (1, 0, Fault::ScaledState),
+        (3, 0, Fault::AgreesWithSubstituted),
+    ];
+    for (at, value, fault) in cases {
+        let found = [
+            after(&[span(at, (12, 1), value)]),
+            after_before(&[span(at, (8, 1), value)]),
+        ];
+        assert_eq!(found, [Err(fault); 2], "{at} {value}");
+    }
+    assert_eq!(after(&[span(0, (13, 1), 1)]), Err(Fault::LastByte));
+    assert_eq!(after_before(&[span(0, (9, 1), 1)]), Err(Fault::LastByte));
+    // The tolerance is not in the file.
+    assert_eq!(after(&[span(0, (12, 1), 3)]), Ok(()));
+    assert_eq!(after_before(&[span(0, (8, 1), 3)]), Ok(()));
+}
+
+#[test]
+fn advances_of_spans() {
+    let (lowest, highest) = ((4, 4), (8, 4));
+    // One advance, free in the states but 1.
+    let old = |at, value| after_before(&[span(at, lowest, value)]);
+    assert_eq!(old(0, 99_999_999), Ok(()));
+    assert_eq!(old(3, 100_000_000), Err(Fault::Advance));
+    assert_eq!(old(1, 519), Err(Fault::ScaledSum));
+    assert_eq!(old(1, 521), Err(Fault::ScaledSum));
+    // Lowest and highest.
+    let new = |at, low, high| after(&[span(at, lowest, low), span(at, highest, high)]);
+    assert_eq!(new(0, 0, 99_999_999), Ok(()));
+    assert_eq!(new(0, 99_999_999, 99_999_999), Ok(()));
+    assert_eq!(new(0, 0, 0), Ok(()));
+    assert_eq!(new(0, 0, 100_000_000), Err(Fault::Advance));
+    assert_eq!(new(3, 0, u64::MAX), Err(Fault::Advance));
+    assert_eq!(new(3, 100_000_000, 99_999_999), Err(Fault::AdvanceOrder));
+    assert_eq!(new(2, 1, 0), Err(Fault::AdvanceOrder));
+    // The scaled span's values sum to 520.
+    for (low, high) in [(520, 520), (0, 520), (520, 99_999_999), (519, 521)] {
+        assert_eq!(new(1, low, high), Ok(()), "{low} {high}");
+    }
+    for (low, high) in [(521, 521), (521, 600), (0, 519), (519, 519)] {
+        assert_eq!(new(1, low, high), Err(Fault::ScaledSum), "{low} {high}");
+    }
 }
 
 #[test]

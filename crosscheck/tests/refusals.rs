@@ -91,7 +91,7 @@ fn two_is_a_list_of_a_wrong_length() {
             // Each call is lent its own lists only, and 2 is about those.
             let numbers = match list {
                 List::Values | List::Versions | List::Statuses | List::Counts => (2, 3, 3, 3),
-                List::Readings | List::ReadVersions => (3, 2, 3, 3),
+                List::Readings | List::ReadVersions | List::Widths => (3, 2, 3, 3),
                 List::Holidays => (3, 3, 2, 3),
                 List::Agreed | List::AgreedVersions => (3, 3, 3, 2),
             };
@@ -146,7 +146,7 @@ fn seven_is_a_short_buffer() {
     for boundary in 0..3 {
         test.register(boundary, 0);
     }
-    let length = 6 * 96 + 10 * 2 + 32;
+    let length = 6 * 96 + 14 * 2 + 32;
     for room in [0, 1, 31, 32, length - 1] {
         let mut out = vec![0xA5; room];
         assert_eq!(publish(test.head, &test.lists, &mut out), Err(7));

@@ -115,7 +115,7 @@ impl Sample {
         if matches!(kind, Kind::Ordinary | Kind::SomeAgreed | Kind::AllAgreed) {
             read_weekly(head, &mut lists, day);
         }
-        let mut file = vec![0; 6 * shape.slots + 10 * shape.days + 32];
+        let mut file = vec![0; 6 * shape.slots + 14 * shape.days + 32];
         match Second.publish(head, &lists, &mut file) {
             Answer::Length(length) => file.truncate(length as usize),
             other => panic!("a sample is not published: {other:?}"),
@@ -158,6 +158,7 @@ fn read_weekly(head: Head, lists: &mut Lists, slots_a_day: usize) {
                 boundary: boundary as u32,
                 version: 1,
                 reading: total % DIAL,
+                width: 0,
             };
             Second.register(head, lists, read);
         }

@@ -28,6 +28,7 @@ pub fn open(head: Head, lists: &mut Lists) -> Result<(), u8> {
         &mut lists.agreed,
         &mut lists.agreed_versions,
         &mut lists.counts,
+        &mut lists.widths,
     )
 }
 
@@ -54,13 +55,23 @@ pub fn register(
     lists: &mut Lists,
     (boundary, version, reading): (u32, u32, u32),
 ) -> Result<Filed, u8> {
+    register_wide(head, lists, (boundary, version, reading, 0))
+}
+
+pub fn register_wide(
+    head: Head,
+    lists: &mut Lists,
+    (boundary, version, reading, width): (u32, u32, u32, u32),
+) -> Result<Filed, u8> {
     book::register(
         head,
         &mut lists.readings,
         &mut lists.read_versions,
+        &mut lists.widths,
         boundary,
         version,
         reading,
+        width,
     )
 }
 
@@ -91,6 +102,7 @@ pub fn publish(head: Head, lists: &Lists, out: &mut [u8]) -> Result<usize, u8> {
         &lists.agreed,
         &lists.agreed_versions,
         &lists.counts,
+        &lists.widths,
         out,
     )
 }
@@ -142,15 +154,19 @@ impl Test {
     }
 
     pub fn register(&mut self, boundary: u32, reading: u32) {
-        let read = (boundary, 1, reading);
+        self.register_wide(boundary, reading, 0);
+    }
+
+    pub fn register_wide(&mut self, boundary: u32, reading: u32, width: u32) {
+        let read = (boundary, 1, reading, width);
         assert_eq!(
-            register(self.head, &mut self.lists, read),
+            register_wide(self.head, &mut self.lists, read),
             Ok(Filed::Stored)
         );
     }
 
     pub fn file(&self) -> Vec<u8> {
-        let mut out = vec![0; 6 * self.lists.values.len() + 10 * self.lists.holidays.len() + 32];
+        let mut out = vec![0; 6 * self.lists.values.len() + 14 * self.lists.holidays.len() + 32];
         let length = publish(self.head, &self.lists, &mut out).unwrap();
         out.truncate(length);
         out
@@ -164,19 +180,31 @@ impl Test {
         (value, record[4] as char, record[5])
     }
 
-    /// First boundary, last boundary, R and state.
+    /// First boundary, last boundary, R and state of spans with one advance.
     pub fn spans(&self) -> Vec<(u16, u16, u32, u8)> {
+        let ranges = self.ranges().into_iter();
+        ranges
+            .map(|(first, last, lowest, highest, state)| {
+                assert_eq!(lowest, highest);
+                (first, last, lowest, state)
+            })
+            .collect()
+    }
+
+    /// First boundary, last boundary, lowest and highest advance and state.
+    pub fn ranges(&self) -> Vec<(u16, u16, u32, u32, u8)> {
         let file = self.file();
         let table = &file[6 * self.lists.values.len()..file.len() - 32];
         table
-            .chunks(10)
+            .chunks(14)
             .map(|record| {
-                assert_eq!(record[9], 0);
+                assert_eq!(record[13], 0);
                 (
                     u16::from_le_bytes(record[0..2].try_into().unwrap()),
                     u16::from_le_bytes(record[2..4].try_into().unwrap()),
                     u32::from_le_bytes(record[4..8].try_into().unwrap()),
-                    record[8],
+                    u32::from_le_bytes(record[8..12].try_into().unwrap()),
+                    record[12],
                 )
             })
             .collect()
