@@ -69,6 +69,7 @@ good quiet-day '2024-05-01 1 30 47 1 0 25020' '' "1 done${newline}49 stored${new
 good wrap '2024-12-31 1 30 48 0 0 25' '' "1 done${newline}50 stored${newline}"
 good month '2024-05-01 31 30 1468 15 5 773038' "9 refused${newline}" "1 done${newline}1 late${newline}2 refused 10${newline}3 refused 3${newline}1 refused 4${newline}2 refused 5${newline}1 refused 6${newline}3 repeat${newline}1475 stored${newline}"
 good drowned '2024-06-10 1 30 39 9 0 26275' "2 refused${newline}" "1 done${newline}1 refused 10${newline}1 refused 12${newline}1 repeat${newline}53 stored${newline}"
+good fogged '2024-05-01 1 30 47 1 0 24970' '' "1 done${newline}49 stored${newline}"
 good marina '2024-07-14 1 30 47 1 0 5692669' '' "1 done${newline}50 stored${newline}"
 day=$work/quiet-day
 

@@ -70,7 +70,6 @@ fn deliver_run(
             versions,
             statuses,
             counts,
-            widths,
             slot,
             1,
             value,
@@ -117,7 +116,16 @@ fn fill_row(
         book::agree(head, agreed, agreed_versions, row[1], row[2], row[3]);
         return;
     }
-    book::register(head, readings, reads, widths, row[1], row[2], row[3], row[4]);
+    book::register(
+        head,
+        readings,
+        reads,
+        widths,
+        row[1],
+        row[2],
+        row[3],
+        row[4],
+    );
 }
 
 fn fill(

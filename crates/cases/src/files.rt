@@ -43,6 +43,29 @@ pub fn dial() {
     span(&file);
 }
 
+// A day of 25 Wh between two dials, each a reading and its width.
+fn fogged_day(first: [u32; 2], last: [u32; 2]) {
+    let rows = [
+        [1, 0, 1, 25, 0],
+        [1, 1, 48, 0, 0],
+        [3, 0, 1, first[0], first[1]],
+        [3, 1, 1, last[0], last[1]],
+    ];
+    let mut file = [0u8; 334];
+    books::publish_rows(books::head_of(1, 30, 1), &rows, &mut file);
+    span(&file);
+}
+
+// V in the range, above a range that wraps, and below one.
+pub fn fogged() {
+    say::text(b"dial 0 and 25, widths 50 and 10:");
+    fogged_day([0, 50], [25, 10]);
+    say::text(b"dial 0 and 99999990, widths 0 and 15:");
+    fogged_day([0, 0], [99999990, 15]);
+    say::text(b"dial 0 and 40, widths 0 and 10:");
+    fogged_day([0, 0], [40, 10]);
+}
+
 // The only span, after 48 records.
 fn span(file: &[u8]) {
     say::text(b" R");

@@ -13,6 +13,7 @@ fn main() {
     outcomes::lines();
     outcomes::references();
     files::dial();
+    files::fogged();
     outcomes::scaled();
     outcomes::fitted();
     files::dates();

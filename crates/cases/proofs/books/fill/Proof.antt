@@ -8,7 +8,7 @@ use Rattle.cases.proofs.books.fill.Statement.{statement}
 use Rattle.cases.proofs.books.fill.Tie as tie
 
 abbrev Inv-loop : tie.InvT-loop
-Inv-loop head values₀ versions₀ statuses₀ holidays₀ readings₀ reads₀ agreed₀ agreedVersions₀ counts₀ rows i₀ values versions statuses holidays readings reads agreed agreedVersions counts i =
+Inv-loop head values₀ versions₀ statuses₀ holidays₀ readings₀ reads₀ agreed₀ agreedVersions₀ counts₀ widths₀ rows i₀ values versions statuses holidays readings reads agreed agreedVersions counts widths i =
     (i ≤ length rows)
     × (length values ≡ length values₀)
     × (length versions ≡ length versions₀)
@@ -19,9 +19,10 @@ Inv-loop head values₀ versions₀ statuses₀ holidays₀ readings₀ reads₀
     × (length agreed ≡ length agreed₀)
     × (length agreedVersions ≡ length agreedVersions₀)
     × (length counts ≡ length counts₀)
+    × (length widths ≡ length widths₀)
 
 abbrev μ-loop : tie.MeasureT-loop
-μ-loop head values₀ versions₀ statuses₀ holidays₀ readings₀ reads₀ agreed₀ agreedVersions₀ counts₀ rows i₀ values versions statuses holidays readings reads agreed agreedVersions counts i =
+μ-loop head values₀ versions₀ statuses₀ holidays₀ readings₀ reads₀ agreed₀ agreedVersions₀ counts₀ widths₀ rows i₀ values versions statuses holidays readings reads agreed agreedVersions counts widths i =
     length rows - i
 
 loop-holds : tie.Need-loop-holds Inv-loop μ-loop
@@ -38,8 +39,8 @@ fill-row-requires c κs = search needs
 
 add-i : tie.Need-add-i Inv-loop μ-loop
 add-i c =
-    let bound = (c .before .before .before .before .before .before .before .before .before .before .before .before .before .before .before .before .before .before .before .before .before .before .before .before .before .before .before .before .before .before .before .before .before .before .before .before .before .before .before .before) .good .1 .1 .1 .1 .1 .1 .1 .1 .1 in
-    omega (arith, c .before .before .before .before .before .before .before .before .before .before .before .before .before .before .before .before .before .before .before .before .before .before .before .before .before .before .before .before .before .loop-test .taken)
+    let bound = (c .before .before .before .before .before .before .before .before .before .before .before .before .before .before .before .before .before .before .before .before .before .before .before .before .before .before .before .before .before .before .before .before .before .before .before .before .before .before .before .before .before .before .before .before) .good .1 .1 .1 .1 .1 .1 .1 .1 .1 in
+    omega (arith, c .before .before .before .before .before .before .before .before .before .before .before .before .before .before .before .before .before .before .before .before .before .before .before .before .before .before .before .before .before .before .before .before .loop-test .taken)
 
 loop-less : tie.Need-loop-less Inv-loop μ-loop
 loop-less c = search needs
@@ -74,6 +75,9 @@ same-length-8 c = search needs
 same-length-9 : tie.Need-same-length-9 Inv-loop μ-loop
 same-length-9 c = search needs
 
+same-length-10 : tie.Need-same-length-10 Inv-loop μ-loop
+same-length-10 c = search needs
+
 returns : tie.Need-returns Inv-loop μ-loop
 returns c = search needs
 
@@ -99,4 +103,5 @@ fill-spec =
     same-length-7
     same-length-8
     same-length-9
+    same-length-10
     returns)

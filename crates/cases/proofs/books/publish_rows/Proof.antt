@@ -71,6 +71,15 @@ array-borrow-prefix-counts c = search needs
 slice-aggregate-publish-lent-9 : tie.Need-slice-aggregate-publish-lent-9
 slice-aggregate-publish-lent-9 c = sym (length-take-le _ _ (search needs))
 
+add-widths : tie.Need-add-widths
+add-widths c = search needs
+
+array-borrow-prefix-widths : tie.Need-array-borrow-prefix-widths
+array-borrow-prefix-widths c = search needs
+
+slice-aggregate-publish-lent-10 : tie.Need-slice-aggregate-publish-lent-10
+slice-aggregate-publish-lent-10 c = sym (length-take-le _ _ (search needs))
+
 publish-lent-requires : tie.Need-publish-lent-requires
 publish-lent-requires c κs = search needs
 
@@ -106,6 +115,9 @@ publish-rows-spec =
     slice-aggregate-publish-lent-8
     array-borrow-prefix-counts
     slice-aggregate-publish-lent-9
+    add-widths
+    array-borrow-prefix-widths
+    slice-aggregate-publish-lent-10
     publish-lent-requires
     same-length
     returns)
