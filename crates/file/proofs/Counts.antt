@@ -1,10 +1,8 @@
 -- The totals of the slots, one slot more at a time.
-use mathlib.Core.Path.{_≡_, refl, sym, _∙_}
+use mathlib.Core.Path.{_≡_, refl}
 use mathlib.Core.List.{List}
 use Prim.Native.Nat.{ℕ, _+_, _^_, _≤_, _<_}
-use native.Mathlib.Nat.{add-zero}
 use native.Mathlib.Omega.{arith}
-use borrow.Author.Tests.{ne-eqb}
 use Rattle.rules.specs.declared.Quality.{Quality}
 use Rattle.rules.specs.declared.Quality.the-variants.{A, S, F, N}
 use Rattle.file.specs.declared.slots.Counted.{Counted}
@@ -14,46 +12,6 @@ use Rattle.file.specs.Reader.{ofQuality, slotAt}
 use Rattle.file.specs.Inner.Reading.{one, countIn, countedWith, countedIn, Within}
 use Rattle.file.proofs.Logic.{bit-le}
 use Rattle.file.proofs.Stretches.{summed-on}
-
-module _ (c : Counted) (r : SlotRecord) where
-  -- the totals where these are added
-  abbrev grown : ℕ → ℕ → ℕ → ℕ → Counted
-  grown a s f n = record { actual = c .actual + a; substituted = c .substituted + s; agreed = c .agreed + f; none = c .none + n; sum = c .sum + r .value }
-
-  grown-with : (a s f n : ℕ) → one A r ≡ a → one S r + one F r ≡ s → one F r ≡ f → one N r ≡ n → grown a s f n ≡ countedWith c r
-  grown-with a s f n p q t u =
-      λ k. record { actual = c .actual + sym p k; substituted = c .substituted + sym q k; agreed = c .agreed + sym t k; none = c .none + sym u k; sum = c .sum + r .value }
-
-  -- by the record's letter
-  pub with-actual : r .letter ≡ 65
-      → record { actual = c .actual + 1; substituted = c .substituted; agreed = c .agreed; none = c .none; sum = c .sum + r .value } ≡ countedWith c r
-  with-actual e =
-      (λ k. record { actual = c .actual + 1; substituted = sym (add-zero (c .substituted)) k; agreed = sym (add-zero (c .agreed)) k; none = sym (add-zero (c .none)) k; sum = c .sum + r .value })
-      ∙ grown-with 1 0 0 0 (rw e) (rw e) (rw e) (rw e)
-
-  pub with-substituted : r .letter ≡ 83
-      → record { actual = c .actual; substituted = c .substituted + 1; agreed = c .agreed; none = c .none; sum = c .sum + r .value } ≡ countedWith c r
-  with-substituted e =
-      (λ k. record { actual = sym (add-zero (c .actual)) k; substituted = c .substituted + 1; agreed = sym (add-zero (c .agreed)) k; none = sym (add-zero (c .none)) k; sum = c .sum + r .value })
-      ∙ grown-with 0 1 0 0 (rw e) (rw e) (rw e) (rw e)
-
-  pub with-agreed : r .letter ≡ 70
-      → record { actual = c .actual; substituted = c .substituted + 1; agreed = c .agreed + 1; none = c .none; sum = c .sum + r .value } ≡ countedWith c r
-  with-agreed e =
-      (λ k. record { actual = sym (add-zero (c .actual)) k; substituted = c .substituted + 1; agreed = c .agreed + 1; none = sym (add-zero (c .none)) k; sum = c .sum + r .value })
-      ∙ grown-with 0 1 1 0 (rw e) (rw e) (rw e) (rw e)
-
-  pub with-none : r .letter ≡ 78
-      → record { actual = c .actual; substituted = c .substituted; agreed = c .agreed; none = c .none + 1; sum = c .sum + r .value } ≡ countedWith c r
-  with-none e =
-      (λ k. record { actual = sym (add-zero (c .actual)) k; substituted = sym (add-zero (c .substituted)) k; agreed = sym (add-zero (c .agreed)) k; none = c .none + 1; sum = c .sum + r .value })
-      ∙ grown-with 0 0 0 1 (rw e) (rw e) (rw e) (rw e)
-
-  pub with-other : (r .letter ≡ 65 → ⊥) → (r .letter ≡ 83 → ⊥) → (r .letter ≡ 70 → ⊥) → (r .letter ≡ 78 → ⊥)
-      → record { actual = c .actual; substituted = c .substituted; agreed = c .agreed; none = c .none; sum = c .sum + r .value } ≡ countedWith c r
-  with-other a s f n =
-      (λ k. record { actual = sym (add-zero (c .actual)) k; substituted = sym (add-zero (c .substituted)) k; agreed = sym (add-zero (c .agreed)) k; none = sym (add-zero (c .none)) k; sum = c .sum + r .value })
-      ∙ grown-with 0 0 0 0 (rw (ne-eqb _ _ a)) (rw (ne-eqb _ _ s, ne-eqb _ _ f)) (rw (ne-eqb _ _ f)) (rw (ne-eqb _ _ n))
 
 one-le : (q : Quality) (r : SlotRecord) → one q r ≤ 1
 one-le q r = bit-le (ofQuality q r)

@@ -1,8 +1,9 @@
 // The slot table: its records, their counts and their sums.
 use crate::fields;
-ghost use mathlib.Core.Bool.{_||_};
+ghost use mathlib.Core.Bool.{cond, _||_};
 ghost use mathlib.Core.Path.{_≡_};
 ghost use Prim.Native.Nat.{_+_, _*_, _≤_};
+ghost use lib.Dec.{eqb};
 ghost use lib.ListN.{length};
 ghost use Rattle.rules.specs.Lists.{sum, any};
 ghost use Rattle.rules.specs.Spans.{isScaled};
@@ -168,30 +169,30 @@ pub struct Counted {
     pub sum: u64,
 }
 
-// The totals with one slot more: its letter is looked at once.
+// 1 for a slot of a letter.
+fn one(slot: SlotRecord, letter: u8) -> usize
+    ensures { λ r. ⌜ (r ≡ cond (eqb (slot .letter) letter) 1 0) × (r ≤ 1) ⌝ }
+{
+    if slot.letter == letter {
+        return 1;
+    }
+    0
+}
+
+// The totals with one slot more, each by a sum and without a branch.
 fn with_slot(found: Counted, slot: SlotRecord) -> Counted
     requires { ⌜ Within 115200 found ⌝ }
     ensures { λ r. ⌜ r ≡ countedWith found slot ⌝ }
 {
-    let mut next = found;
-    next.sum = found.sum + slot.value as u64;
-    if slot.letter == b'A' {
-        next.actual = found.actual + 1;
-        return next;
+    let agreed = one(slot, b'F');
+    let filled = one(slot, b'S') + agreed;
+    Counted {
+        actual: found.actual + one(slot, b'A'),
+        substituted: found.substituted + filled,
+        agreed: found.agreed + agreed,
+        none: found.none + one(slot, b'N'),
+        sum: found.sum + slot.value as u64,
     }
-    if slot.letter == b'S' {
-        next.substituted = found.substituted + 1;
-        return next;
-    }
-    if slot.letter == b'F' {
-        next.substituted = found.substituted + 1;
-        next.agreed = found.agreed + 1;
-        return next;
-    }
-    if slot.letter == b'N' {
-        next.none = found.none + 1;
-    }
-    next
 }
 
 // The totals of the first `k` slots.

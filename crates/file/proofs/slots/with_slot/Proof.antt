@@ -1,58 +1,72 @@
--- `file::slots::with_slot`: the totals by the slot's letter.
+-- `file::slots::with_slot` meets its contract: each total by its letter.
+use Prim.Native.Nat.{_+_}
 use borrow.Author.Needs.{needs}
-use Rattle.file.proofs.Counts.{with-actual, with-substituted, with-agreed, with-none, with-other}
 use Rattle.file.proofs.slots.with_slot.Statement.{statement}
 use Rattle.file.proofs.slots.with_slot.Tie as tie
+use Rattle.file.proofs.slots.with_slot.Reads as reads
+use Rattle.file.proofs.slots.with_slot.Lts as lts
+use Rattle.file.proofs.slots.one.Reads as one-reads
 
-cast-next : tie.Need-cast-next
-cast-next c = search needs
+one-requires : tie.Need-one-requires
+one-requires c κs = search needs
 
-add-next : tie.Need-add-next
-add-next c = search needs
+one-requires-2 : tie.Need-one-requires-2
+one-requires-2 c κs = search needs
 
-add-next-2 : tie.Need-add-next-2
-add-next-2 c = search needs
+add-filled : tie.Need-add-filled
+add-filled c = search needs
+
+one-requires-3 : tie.Need-one-requires-3
+one-requires-3 c κs = search needs
+
+add-t6 : tie.Need-add-t6
+add-t6 c = search needs
+
+add-t7 : tie.Need-add-t7
+add-t7 c = search needs
+
+add-t8 : tie.Need-add-t8
+add-t8 c = search needs
+
+one-requires-4 : tie.Need-one-requires-4
+one-requires-4 c κs = search needs
+
+add-t10 : tie.Need-add-t10
+add-t10 c = search needs
+
+cast-t11 : tie.Need-cast-t11
+cast-t11 c = search needs
+
+add-t12 : tie.Need-add-t12
+add-t12 c = search needs
 
 returns : tie.Need-returns
-returns c = with-actual (c .before .before .before .before .before .args .found) (c .before .before .before .before .before .args .slot) (c .before .if1 .taken)
-
-add-next-3 : tie.Need-add-next-3
-add-next-3 c = search needs
-
-returns-2 : tie.Need-returns-2
-returns-2 c = with-substituted (c .before .before .before .before .before .before .before .args .found) (c .before .before .before .before .before .before .before .args .slot) (c .before .if2 .taken)
-
-add-next-4 : tie.Need-add-next-4
-add-next-4 c = search needs
-
-add-next-5 : tie.Need-add-next-5
-add-next-5 c = search needs
-
-returns-3 : tie.Need-returns-3
-returns-3 c = with-agreed (c .before .before .before .before .before .before .before .before .before .before .args .found) (c .before .before .before .before .before .before .before .before .before .before .args .slot) (c .before .before .if3 .taken)
-
-add-next-6 : tie.Need-add-next-6
-add-next-6 c = search needs
-
-returns-4 : tie.Need-returns-4
-returns-4 c = with-none (c .before .before .before .before .before .before .before .before .before .before .before .args .found) (c .before .before .before .before .before .before .before .before .before .before .before .args .slot) (c .before .if4 .taken)
-
-returns-5 : tie.Need-returns-5
-returns-5 c = with-other (c .before .before .before .before .before .before .before .before .before .before .args .found) (c .before .before .before .before .before .before .before .before .before .before .args .slot) (c .before .before .before .before .before .before .if1 .left) (c .before .before .before .before .if2 .left) (c .before .before .if3 .left) (c .if4 .left)
+returns c = let found = (c .before .before .before .before .before .before .before .before .before .before) .args .found in
+    let actual = c .before .before .before .before .before .before .before .one3 .ensures .0 in
+    let substituted = c .before .before .before .before .before .before .before .before .one2 .ensures .0 in
+    let agreed = c .before .before .before .before .before .before .before .before .before .one .ensures .0 in
+    let none = c .before .before .before .one4 .ensures .0 in
+    λ k. record {
+      actual = found .actual + actual k;
+      substituted = found .substituted + (substituted k + agreed k);
+      agreed = found .agreed + agreed k;
+      none = found .none + none k;
+      sum = found .sum + (c .before .before .before .before .before .before .before .before .before .before) .args .slot .value;
+    }
 
 pub with-slot-spec : {M : Type 1} → statement M
 with-slot-spec =
     tie.close
     (tie.spec
-    cast-next
-    add-next
-    add-next-2
-    returns
-    add-next-3
-    returns-2
-    add-next-4
-    add-next-5
-    returns-3
-    add-next-6
-    returns-4
-    returns-5)
+    one-requires
+    one-requires-2
+    add-filled
+    one-requires-3
+    add-t6
+    add-t7
+    add-t8
+    one-requires-4
+    add-t10
+    cast-t11
+    add-t12
+    returns)
