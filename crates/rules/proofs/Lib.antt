@@ -28,4 +28,3 @@ pub mod Stretches
 pub mod Steps
 pub mod Begun
 pub mod Counts
-pub mod Cases

@@ -6,4 +6,3 @@ pub mod Weeks
 pub mod Filling
 pub mod Spans
 pub mod Inner
-pub mod Cases
