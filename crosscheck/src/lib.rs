@@ -2,7 +2,7 @@
 //! and what is needed to compare it with another build.
 //!
 //! The build: `head`, `book`, `rules`, `file`, `reader`, `contents`, `line`;
-//! of 02: `dial`, `strips`, `stays`, `limits`, `market`.
+//! of 02: `dial`, `strips`, `stays`, `limits`, `market`, `simulate`.
 //! What it is held against: `plain`, `definition`, `acceptance`, and `host` when linked.
 //! The comparison: `calls`, `random`, `heads`, `damage`, `side`, `run`, `shrink`, `counts`, `census`,
 //! `run_census`, `day_census`, `fit_census`, `range_census`;
@@ -48,6 +48,7 @@ pub mod run;
 pub mod run_census;
 pub mod shrink;
 pub mod side;
+pub mod simulate;
 pub mod stays;
 pub mod stays_tries;
 pub mod strips;

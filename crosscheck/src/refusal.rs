@@ -21,4 +21,6 @@ pub const DIGIT: u8 = 16;
 pub const WIDTH: u8 = 17;
 pub const STAYS: u8 = 18;
 pub const STAY_DAYS: u8 = 19;
+pub const SEED: u8 = 20;
+pub const LOSS: u8 = 21;
 pub const STRIPS: u8 = 22;
