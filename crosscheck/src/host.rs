@@ -215,6 +215,45 @@ unsafe extern "C" {
     ) -> u64;
 }
 
+#[cfg(feature = "simulate")]
+unsafe extern "C" {
+    fn sawmauve_simulate(
+        year: u32,
+        month: u32,
+        day: u32,
+        days: u32,
+        interval: u32,
+        limit: u32,
+        tolerance: u32,
+        seed: u32,
+        loss: u32,
+        values: *mut u32,
+        values_len: usize,
+        versions: *mut u32,
+        versions_len: usize,
+        statuses: *mut u8,
+        statuses_len: usize,
+        holidays: *mut u8,
+        holidays_len: usize,
+        readings: *mut u32,
+        readings_len: usize,
+        read_versions: *mut u32,
+        read_versions_len: usize,
+        agreed: *mut u32,
+        agreed_len: usize,
+        agreed_versions: *mut u32,
+        agreed_versions_len: usize,
+        counts: *mut u16,
+        counts_len: usize,
+        widths: *mut u16,
+        widths_len: usize,
+        out: *mut u8,
+        out_len: usize,
+        report: *mut i64,
+        report_len: usize,
+    ) -> u32;
+}
+
 // Every pointer below is a slice's own, with that slice's length, and is not kept
 // by the callee: that is what the calls ask for.
 
@@ -502,6 +541,54 @@ pub fn nem12(file: &[u8], texts: &Texts, codes: Codes, out: &mut [u8]) -> u64 {
             nineteen,
             out.as_mut_ptr(),
             out.len(),
+        )
+    }
+}
+
+#[cfg(feature = "simulate")]
+pub fn simulate(
+    head: Head,
+    seed: u32,
+    loss: u32,
+    lists: &mut Lists,
+    out: &mut [u8],
+    report: &mut [i64],
+) -> u32 {
+    unsafe {
+        sawmauve_simulate(
+            head.year,
+            head.month,
+            head.day,
+            head.days,
+            head.interval,
+            head.limit,
+            head.tolerance,
+            seed,
+            loss,
+            lists.values.as_mut_ptr(),
+            lists.values.len(),
+            lists.versions.as_mut_ptr(),
+            lists.versions.len(),
+            lists.statuses.as_mut_ptr(),
+            lists.statuses.len(),
+            lists.holidays.as_mut_ptr(),
+            lists.holidays.len(),
+            lists.readings.as_mut_ptr(),
+            lists.readings.len(),
+            lists.read_versions.as_mut_ptr(),
+            lists.read_versions.len(),
+            lists.agreed.as_mut_ptr(),
+            lists.agreed.len(),
+            lists.agreed_versions.as_mut_ptr(),
+            lists.agreed_versions.len(),
+            lists.counts.as_mut_ptr(),
+            lists.counts.len(),
+            lists.widths.as_mut_ptr(),
+            lists.widths.len(),
+            out.as_mut_ptr(),
+            out.len(),
+            report.as_mut_ptr(),
+            report.len(),
         )
     }
 }

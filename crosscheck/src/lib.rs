@@ -7,7 +7,7 @@
 //! The comparison: `calls`, `random`, `heads`, `damage`, `side`, `run`, `shrink`, `counts`, `census`,
 //! `run_census`, `day_census`, `fit_census`, `range_census`;
 //! the smaller ones of 02: `tries`, `dial_tries`, `strips_tries`, `stays_tries`, `date_tries`,
-//! `limit_tries`, `market_tries` with `market_files`, `market_back` and `nem12_reader`.
+//! `limit_tries`, `simulate_tries`, `market_tries` with `market_files`, `market_back` and `nem12_reader`.
 #![deny(unsafe_code)]
 
 pub mod acceptance;
@@ -49,6 +49,7 @@ pub mod run_census;
 pub mod shrink;
 pub mod side;
 pub mod simulate;
+pub mod simulate_tries;
 pub mod stays;
 pub mod stays_tries;
 pub mod strips;
