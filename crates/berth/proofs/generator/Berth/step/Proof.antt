@@ -1,0 +1,31 @@
+-- `generator::Berth::step`: two draws, and what each decides.
+use Rattle.berth.proofs.Draws.{two-draws, value-fits}
+use borrow.Author.Needs.{needs}
+use Rattle.berth.proofs.generator.Berth.step.Statement.{statement}
+use Rattle.berth.proofs.generator.Berth.step.Tie as tie
+
+draw-requires : tie.Need-draw-requires
+draw-requires c κs = search needs
+
+draw-requires-2 : tie.Need-draw-requires-2
+draw-requires-2 c κs = search needs
+
+cast-t8 : tie.Need-cast-t8
+cast-t8 c = search needs
+
+add-t10 : tie.Need-add-t10
+add-t10 c = search needs
+
+rem-t11 : tie.Need-rem-t11
+rem-t11 c = search needs
+
+cast-t12 : tie.Need-cast-t12
+cast-t12 c = value-fits _ _ (c .before .before .before .before .fits .most)
+
+returns : tie.Need-returns
+returns c =
+    two-draws _ (c .before .before .before .draw .result) (c .before .before .draw2 .result) _ _ (c .before .before .before .draw .ensures) (c .before .before .draw2 .ensures)
+
+pub step-spec : {M : Type 1} → statement M
+step-spec =
+    tie.close (tie.spec draw-requires draw-requires-2 cast-t8 add-t10 rem-t11 cast-t12 returns)
