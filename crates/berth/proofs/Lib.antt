@@ -1,0 +1,11 @@
+pub mod Draws
+pub mod Sends
+pub mod OneSpan
+pub mod Heard
+pub mod Booked
+pub mod Written
+pub mod Lists
+pub mod Differences
+pub mod Answers
+pub mod Without
+pub mod Bounds

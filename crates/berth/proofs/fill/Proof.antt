@@ -1,0 +1,73 @@
+-- `fill`: the lists of each kind of call make up the book that the calls of the run leave.
+use mathlib.Core.Path.{_≡_, _∙_}
+use Rattle.book.specs.Inner.Lent.{readLists}
+use Rattle.replay.proofs.Claim.{same-lists}
+use Rattle.berth.proofs.Lists.{run-lists, opens}
+use borrow.Author.Needs.{needs}
+use Rattle.berth.proofs.fill.Statement.{statement}
+use Rattle.berth.proofs.fill.Tie as tie
+
+open-requires : tie.Need-open-requires
+open-requires c κs = search needs
+
+send-all-requires : tie.Need-send-all-requires
+send-all-requires c κs = c .before .before .before .before .before .before .before .before .before .before .before .before .before .before .before .before .before .before .before .before .before .before .before .before .before .before .before .before .before .before .before .before .before .before .before .before .before .before .before .before .before .before .before .before .before .pre .0
+
+read-dial-requires : tie.Need-read-dial-requires
+read-dial-requires c κs = search needs
+
+same-length : tie.Need-same-length
+same-length c = search needs
+
+same-length-2 : tie.Need-same-length-2
+same-length-2 c = search needs
+
+same-length-3 : tie.Need-same-length-3
+same-length-3 c = search needs
+
+same-length-4 : tie.Need-same-length-4
+same-length-4 c = search needs
+
+same-length-5 : tie.Need-same-length-5
+same-length-5 c = search needs
+
+same-length-6 : tie.Need-same-length-6
+same-length-6 c = search needs
+
+same-length-7 : tie.Need-same-length-7
+same-length-7 c = search needs
+
+same-length-8 : tie.Need-same-length-8
+same-length-8 c = search needs
+
+same-length-9 : tie.Need-same-length-9
+same-length-9 c = search needs
+
+same-length-10 : tie.Need-same-length-10
+same-length-10 c = search needs
+
+returns : tie.Need-returns
+returns c = let e = c .before .before .before .before .before .before .before .before .before .before .before .before .before .before .before .before .before .before .before .before .before .before .before .before .before .before .before .before .before .before .before .before .before .before .before .before .before .before .before .before .before .before .before .«open» .ensures .1 in
+    let o = same-lists (e .0) (e .1) (e .2) (e .3) (e .4) (e .5) (e .6) (e .7) (e .8) (e .9) ∙ opens _ _ (c .before .before .before .before .before .before .before .before .before .before .before .before .before .before .before .before .before .before .before .before .before .before .before .before .before .before .before .before .before .before .before .before .before .before .before .before .before .before .before .before .before .before .before .before .before .before .before .before .before .before .before .before .before .before .before .before .before .before .before .before .before .before .before .before .pre .0) (c .before .before .before .before .before .before .before .before .before .before .before .before .before .before .before .before .before .before .before .before .before .before .before .before .before .before .before .before .before .before .before .before .before .before .before .before .before .before .before .before .before .before .before .before .before .before .before .before .before .before .before .before .before .before .before .before .before .before .before .before .before .before .before .before .pre .1) in
+    let d = c .before .before .before .before .before .before .read-dial .ensures in
+    let r : readLists _ _ _ ≡ _ = λ t. record { readings = d .0 t; readVersions = d .1 t; widths = d .2 t } in
+    (c .before .before .before .before .before .before .before .before .before .before .before .before .before .before .before .before .before .before .send-all .ensures .0, run-lists _ _ _ _ _ _ _ o (c .before .before .before .before .before .before .before .before .before .before .before .before .before .before .before .before .before .before .send-all .ensures .0) (c .before .before .before .before .before .before .before .before .before .before .before .before .before .before .before .before .before .before .send-all .ensures .1) r)
+
+pub fill-spec : {M : Type 1} → statement M
+fill-spec =
+    tie.close
+    (tie.spec
+    open-requires
+    send-all-requires
+    read-dial-requires
+    same-length
+    same-length-2
+    same-length-3
+    same-length-4
+    same-length-5
+    same-length-6
+    same-length-7
+    same-length-8
+    same-length-9
+    same-length-10
+    returns)
