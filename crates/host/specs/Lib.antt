@@ -4,3 +4,4 @@ pub mod Market
 pub mod Stays
 pub mod Storage
 pub mod Limits
+pub mod Simulating

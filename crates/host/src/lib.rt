@@ -3,6 +3,7 @@ mod chargers;
 mod files;
 mod limits;
 mod nem12;
+mod simulating;
 mod stays;
 mod storage;
 

@@ -1,0 +1,92 @@
+-- `sawmauve_simulate`: 1 goes before the length of the report, which goes with 2; else the answer of the run as its code.
+use mathlib.Core.Path.{sym, _∙_}
+use borrow.Author.Tests.{not-true, not-false}
+use Rattle.replay.proofs.Claim.{same-lists}
+use Rattle.host.proofs.Reporting.{each, bad-head, bad-report, run-told}
+use borrow.Author.Needs.{needs}
+use Rattle.host.proofs.simulating.sawmauve_simulate.Statement.{statement}
+use Rattle.host.proofs.simulating.sawmauve_simulate.Tie as tie
+
+head-of-requires : tie.Need-head-of-requires
+head-of-requires c κs = search needs
+
+head-ok-requires : tie.Need-head-ok-requires
+head-ok-requires c κs = search needs
+
+returns : tie.Need-returns
+returns c = each (bad-head _ _ (c .before .before .head-of .ensures) _ _ _ _ _ (sym (c .before .head-ok .ensures) ∙ not-true _ (c .if1 .taken)))
+
+returns-2 : tie.Need-returns-2
+returns-2 c = each (bad-report _ _ (c .before .before .before .head-of .ensures) _ _ _ _ _ (sym (c .before .before .head-ok .ensures) ∙ not-false _ (c .before .if1 .left)) (c .if2 .taken))
+
+simulate-requires : tie.Need-simulate-requires
+simulate-requires c κs = search needs
+
+tell-requires : tie.Need-tell-requires
+tell-requires c κs = c .before .before .before .before .before .before .before .before .before .before .before .before .before .before .before .before .before .before .before .before .before .before .before .before .before .before .before .before .before .before .before .before .before .before .before .if2 .left
+
+same-length : tie.Need-same-length
+same-length c = search needs
+
+same-length-2 : tie.Need-same-length-2
+same-length-2 c = search needs
+
+same-length-3 : tie.Need-same-length-3
+same-length-3 c = search needs
+
+same-length-4 : tie.Need-same-length-4
+same-length-4 c = search needs
+
+same-length-5 : tie.Need-same-length-5
+same-length-5 c = search needs
+
+same-length-6 : tie.Need-same-length-6
+same-length-6 c = search needs
+
+same-length-7 : tie.Need-same-length-7
+same-length-7 c = search needs
+
+same-length-8 : tie.Need-same-length-8
+same-length-8 c = search needs
+
+same-length-9 : tie.Need-same-length-9
+same-length-9 c = search needs
+
+same-length-10 : tie.Need-same-length-10
+same-length-10 c = search needs
+
+same-length-11 : tie.Need-same-length-11
+same-length-11 c = search needs
+
+same-length-12 : tie.Need-same-length-12
+same-length-12 c = search needs
+
+returns-3 : tie.Need-returns-3
+returns-3 c = let e = c .before .before .before .before .before .before .before .before .before .before .before .before .before .before .before .before .before .before .before .before .before .before .before .before .before .simulate .ensures in
+    let l = e .1 in
+    let lists = same-lists (l .0) (l .1) (l .2) (l .3) (l .4) (l .5) (l .6) (l .7) (l .8) (l .9) in
+    each (run-told _ _ (c .before .before .before .before .before .before .before .before .before .before .before .before .before .before .before .before .before .before .before .before .before .before .before .before .before .before .before .before .before .before .before .before .before .before .before .before .before .before .before .before .head-of .ensures) _ _ _ _ _ (c .before .before .before .before .before .before .before .before .before .before .before .before .before .before .before .before .before .before .before .before .before .before .before .before .before .before .before .before .before .before .before .before .before .before .before .before .before .if2 .left) _ (e .0) lists (e .2) (c .before .tell .ensures .0) (c .before .tell .ensures .1))
+
+pub sawmauve-simulate-spec : {M : Type 1} → statement M
+sawmauve-simulate-spec =
+    tie.close
+    (tie.spec
+    head-of-requires
+    head-ok-requires
+    returns
+    returns-2
+    simulate-requires
+    tell-requires
+    same-length
+    same-length-2
+    same-length-3
+    same-length-4
+    same-length-5
+    same-length-6
+    same-length-7
+    same-length-8
+    same-length-9
+    same-length-10
+    same-length-11
+    same-length-12
+    returns-3)
