@@ -1,4 +1,4 @@
-/* The berth meter book for C: the fifteen exports of the crate host.
+/* The berth meter book for C: the sixteen exports of the crate host.
  *
  * A list is a pointer and its number of elements. The lists of one call must not overlap, and no other thread may write
  * them meanwhile: the proofs rest on it. A refused call changes no list.
@@ -23,6 +23,8 @@
  *   17  width over 9,999
  *   18  more than 64 pairs, a pair list of odd length, or another number of totals than of pairs
  *   19  a pair whose first day is not below its second, or whose second exceeds D
+ *   20  a seed of 0
+ *   21  a loss rate over 1000
  *   22  a table or its strips of another length than 6 N for 1 to 400 days, or an output of another length
  */
 #ifndef SAWMAUVE_H
@@ -188,6 +190,30 @@ uint64_t sawmauve_nem12(
     const uint8_t *created, size_t created_len,
     uint8_t two, uint8_t three, uint8_t five, uint8_t eighteen, uint8_t nineteen,
     uint8_t *out, size_t out_len);
+
+/* Places of the report that sawmauve_simulate gives. */
+#define SAWMAUVE_STATE 0      /* the span's state: 0 agrees, 1 scaled, 2 open, 3 disagrees */
+#define SAWMAUVE_DIFFERENCE 1 /* the published total minus the true total, in Wh */
+#define SAWMAUVE_REPORT 2     /* how many there are */
+
+/* Runs a berth on paper from a seed with `loss` of 1000 slots lost: opens the lists as sawmauve_open does, sends each slot, reads the dial at
+ * both ends, and writes the file, 6 N + 14 + 32 bytes, into the first bytes of out. 0 and the report; or 1, 2 (also where report_len is not
+ * 2), 7, 20, 21, and no list, byte or report is changed. */
+uint32_t sawmauve_simulate(
+    SAWMAUVE_HEAD,
+    uint32_t seed, uint32_t loss,
+    uint32_t *values, size_t values_len,
+    uint32_t *versions, size_t versions_len,
+    uint8_t *statuses, size_t statuses_len,
+    uint8_t *holidays, size_t holidays_len,
+    uint32_t *readings, size_t readings_len,
+    uint32_t *reads, size_t reads_len,
+    uint32_t *agreed, size_t agreed_len,
+    uint32_t *agreed_versions, size_t agreed_versions_len,
+    uint16_t *counts, size_t counts_len,
+    uint16_t *widths, size_t widths_len,
+    uint8_t *out, size_t out_len,
+    int64_t *report, size_t report_len);
 
 #ifdef __cplusplus
 }

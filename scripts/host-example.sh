@@ -3,7 +3,7 @@
 set -e
 cd "$(dirname "$0")/.."
 rt staticlib host
-for example in host charger; do
+for example in host charger berth; do
     gcc -Wall -Wextra -Werror -O2 -Iinclude "examples/$example.c" target/staticlib/libhost.a -o "target/$example-example"
     "target/$example-example"
 done
