@@ -1,6 +1,7 @@
 // 01's section Cases and those of 02 as run code: each case is a small book, filled and published by the public calls, and a line of output.
 mod answers;
 mod books;
+mod draws;
 mod exports;
 mod files;
 mod outcomes;
@@ -27,4 +28,5 @@ fn main() {
     answers::agreed();
     answers::limits();
     exports::days();
+    draws::first_ten();
 }
