@@ -213,10 +213,6 @@ unsafe extern "C" {
         out: *mut u8,
         out_len: usize,
     ) -> u64;
-}
-
-#[cfg(feature = "simulate")]
-unsafe extern "C" {
     fn sawmauve_simulate(
         year: u32,
         month: u32,
@@ -545,7 +541,6 @@ pub fn nem12(file: &[u8], texts: &Texts, codes: Codes, out: &mut [u8]) -> u64 {
     }
 }
 
-#[cfg(feature = "simulate")]
 pub fn simulate(
     head: Head,
     seed: u32,

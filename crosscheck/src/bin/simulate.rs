@@ -5,10 +5,10 @@ use std::process::ExitCode;
 use crosscheck::simulate_tries::{self, CLASSES, Simulate};
 use crosscheck::tries::Comparison;
 
-#[cfg(feature = "simulate")]
+#[cfg(feature = "host")]
 const OTHER: Option<Simulate> = Some(crosscheck::host::simulate);
 
-#[cfg(not(feature = "simulate"))]
+#[cfg(not(feature = "host"))]
 const OTHER: Option<Simulate> = None;
 
 fn main() -> ExitCode {
