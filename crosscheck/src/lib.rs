@@ -2,7 +2,7 @@
 //! and what is needed to compare it with another build.
 //!
 //! The build: `head`, `book`, `rules`, `file`, `reader`, `contents`, `line`;
-//! of 02: `dial`, `strips`, `stays`, `limits`, `market`, `simulate`.
+//! of 02: `dial`, `strips`, `stays`, `limits`, `market`, `simulate`, `reach`.
 //! What it is held against: `plain`, `definition`, `acceptance`, and `host` when linked.
 //! The comparison: `calls`, `random`, `heads`, `damage`, `side`, `run`, `shrink`, `counts`, `census`,
 //! `run_census`, `day_census`, `fit_census`, `range_census`;
@@ -40,6 +40,7 @@ pub mod nem12_reader;
 pub mod plain;
 pub mod random;
 pub mod range_census;
+pub mod reach;
 pub mod reader;
 pub mod refusal;
 pub mod rng;
