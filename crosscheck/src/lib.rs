@@ -7,7 +7,7 @@
 //! The comparison: `calls`, `random`, `heads`, `damage`, `side`, `run`, `shrink`, `counts`, `census`,
 //! `run_census`, `day_census`, `fit_census`, `range_census`;
 //! the smaller ones of 02: `tries`, `dial_tries`, `strips_tries`, `stays_tries`, `date_tries`,
-//! `limit_tries`, `simulate_tries`, `market_tries` with `market_files`, `market_back` and `nem12_reader`.
+//! `limit_tries`, `simulate_tries`, `reach_tries`, `market_tries` with `market_files`, `market_back` and `nem12_reader`.
 #![deny(unsafe_code)]
 
 pub mod acceptance;
@@ -41,6 +41,7 @@ pub mod plain;
 pub mod random;
 pub mod range_census;
 pub mod reach;
+pub mod reach_tries;
 pub mod reader;
 pub mod refusal;
 pub mod rng;
