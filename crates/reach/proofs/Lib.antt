@@ -1,0 +1,10 @@
+pub mod Alike
+pub mod Behind
+pub mod Before
+pub mod Weeks
+pub mod Fillings
+pub mod Spans
+pub mod Boundaries
+pub mod Outcomes
+pub mod Records
+pub mod OneLateFigure
