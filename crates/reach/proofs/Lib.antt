@@ -1,3 +1,4 @@
+pub mod Heads
 pub mod Alike
 pub mod Behind
 pub mod Before
@@ -8,3 +9,10 @@ pub mod Boundaries
 pub mod Outcomes
 pub mod Records
 pub mod OneLateFigure
+pub mod LastSlot
+pub mod Sparse
+pub mod Farthest
+pub mod Outside
+pub mod Answered
+pub mod OneDay
+pub mod Needed
