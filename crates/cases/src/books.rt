@@ -28,12 +28,15 @@ pub fn head_of(days: u32, interval: u32, kind: u32) -> Head {
     }
 }
 
-// The three sizes of book in use: a day of five minutes, 29 days of half hours, a day of half hours.
-fn slots_of(head: Head) -> usize
-    ensures { λ r. ⌜ r ≤ 1392 ⌝ }
+// The four sizes of book in use: a day of five minutes, 371 and 29 days of half hours, a day of half hours.
+pub fn slots_of(head: Head) -> usize
+    ensures { λ r. ⌜ r ≤ 17808 ⌝ }
 {
     if head.interval == 5 {
         return 288;
+    }
+    if head.days == 371 {
+        return 17808;
     }
     if head.days == 29 {
         return 1392;
@@ -42,8 +45,11 @@ fn slots_of(head: Head) -> usize
 }
 
 fn days_of(head: Head) -> usize
-    ensures { λ r. ⌜ r ≤ 29 ⌝ }
+    ensures { λ r. ⌜ r ≤ 371 ⌝ }
 {
+    if head.days == 371 {
+        return 371;
+    }
     if head.days == 29 {
         return 29;
     }
@@ -79,7 +85,44 @@ fn deliver_run(
     }
 }
 
-// One row of five numbers: 1 first end value status | 2 day 0 0 0 | 3 boundary version reading width | 4 slot version value 0.
+// A row 1 of a run, or 5 of one slot with its version.
+fn deliver_row(
+    head: Head,
+    values: &mut [u32],
+    versions: &mut [u32],
+    statuses: &mut [u8],
+    counts: &mut [u16],
+    row: [u32; 5],
+) {
+    let status = (row[4] % 256) as u8;
+    if row[0] == 5 {
+        book::deliver(
+            head,
+            values,
+            versions,
+            statuses,
+            counts,
+            row[1],
+            row[2],
+            row[3],
+            status,
+        );
+        return;
+    }
+    deliver_run(
+        head,
+        values,
+        versions,
+        statuses,
+        counts,
+        row[1],
+        row[2],
+        row[3],
+        status,
+    )
+}
+
+// One row of five numbers: 1 first end value status | 2 day 0 0 0 | 3 boundary version reading width | 4 slot version value 0 | 5 slot version value status.
 fn fill_row(
     head: Head,
     values: &mut [u32],
@@ -95,18 +138,7 @@ fn fill_row(
     row: [u32; 5],
 ) {
     if row[0] == 1 {
-        let status = (row[4] % 256) as u8;
-        return deliver_run(
-            head,
-            values,
-            versions,
-            statuses,
-            counts,
-            row[1],
-            row[2],
-            row[3],
-            status,
-        );
+        return deliver_row(head, values, versions, statuses, counts, row);
     }
     if row[0] == 2 {
         book::holiday(head, holidays, row[1]);
@@ -115,6 +147,9 @@ fn fill_row(
     if row[0] == 4 {
         book::agree(head, agreed, agreed_versions, row[1], row[2], row[3]);
         return;
+    }
+    if row[0] == 5 {
+        return deliver_row(head, values, versions, statuses, counts, row);
     }
     book::register(
         head,
@@ -259,16 +294,16 @@ fn publish_lent(
 
 // Publishes the book of a list of rows into `file`.
 pub fn publish_rows(head: Head, rows: &[[u32; 5]], file: &mut [u8]) -> Published {
-    let mut values = [0u32; 1392];
-    let mut versions = [0u32; 1392];
-    let mut statuses = [0u8; 1392];
-    let mut holidays = [0u8; 29];
-    let mut readings = [0u32; 30];
-    let mut reads = [0u32; 30];
-    let mut agreed = [0u32; 1392];
-    let mut agreed_versions = [0u32; 1392];
-    let mut counts = [0u16; 29];
-    let mut widths = [0u16; 30];
+    let mut values = [0u32; 17808];
+    let mut versions = [0u32; 17808];
+    let mut statuses = [0u8; 17808];
+    let mut holidays = [0u8; 371];
+    let mut readings = [0u32; 372];
+    let mut reads = [0u32; 372];
+    let mut agreed = [0u32; 17808];
+    let mut agreed_versions = [0u32; 17808];
+    let mut counts = [0u16; 371];
+    let mut widths = [0u16; 372];
     let n = slots_of(head);
     let d = days_of(head);
     publish_lent(

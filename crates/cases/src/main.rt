@@ -4,6 +4,7 @@ mod books;
 mod draws;
 mod exports;
 mod files;
+mod late;
 mod outcomes;
 mod say;
 
@@ -29,4 +30,5 @@ fn main() {
     answers::limits();
     exports::days();
     draws::first_ten();
+    late::reaches();
 }
