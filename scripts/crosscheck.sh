@@ -1,5 +1,5 @@
 #!/bin/sh
-# Compares the static library with the second build: random books call by call, damaged files, dials, strips, stays, tables of limits, exports, runs of a berth and every date.
+# Compares the static library with the second build: random books call by call, damaged files, dials, strips, stays, tables of limits, exports, runs of a berth, books before and after one more delivery, and every date.
 # Arguments, each with a default: seed, number of books, number of damaged files.
 set -e
 cd "$(dirname "$0")/.."
@@ -16,6 +16,7 @@ compare stays -- --seed "$seed"
 compare limits -- --seed "$seed"
 compare nem12 -- --seed "$seed"
 compare simulate -- --seed "$seed"
+compare reach -- --seed "$seed"
 rt check show publish nem12 > /dev/null
 compare dates -- target/bin/show
 # the sample month's export, read back by a reader that knows nothing of the writer
