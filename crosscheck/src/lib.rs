@@ -2,7 +2,7 @@
 //! and what is needed to compare it with another build.
 //!
 //! The build: `head`, `book`, `rules`, `file`, `reader`, `contents`, `line`;
-//! of 02: `dial`, `strips`, `stays`, `limits`, `market`, `simulate`, `reach`.
+//! of 02: `dial`, `strips`, `stays`, `limits`, `market`, `simulate`, `reach`; behind both: `explain`.
 //! What it is held against: `plain`, `definition`, `acceptance`, and `host` when linked.
 //! The comparison: `calls`, `random`, `heads`, `damage`, `side`, `run`, `shrink`, `counts`, `census`,
 //! `run_census`, `day_census`, `fit_census`, `range_census`;
@@ -22,6 +22,7 @@ pub mod day_census;
 pub mod definition;
 pub mod dial;
 pub mod dial_tries;
+pub mod explain;
 pub mod file;
 pub mod fit_census;
 pub mod head;
