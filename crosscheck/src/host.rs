@@ -4,6 +4,7 @@ use crate::book::Filed;
 use crate::calls::Lists;
 use crate::date_tries::Books;
 use crate::dial_tries::Dials;
+use crate::explain_tries::Explains;
 use crate::head::Head;
 use crate::market::{Codes, Texts};
 use crate::reader::Figures;
@@ -247,6 +248,38 @@ unsafe extern "C" {
         out_len: usize,
         report: *mut i64,
         report_len: usize,
+    ) -> u32;
+    fn sawmauve_explain(
+        year: u32,
+        month: u32,
+        day: u32,
+        days: u32,
+        interval: u32,
+        limit: u32,
+        tolerance: u32,
+        values: *const u32,
+        values_len: usize,
+        versions: *const u32,
+        versions_len: usize,
+        statuses: *const u8,
+        statuses_len: usize,
+        holidays: *const u8,
+        holidays_len: usize,
+        readings: *const u32,
+        readings_len: usize,
+        read_versions: *const u32,
+        read_versions_len: usize,
+        agreed: *const u32,
+        agreed_len: usize,
+        agreed_versions: *const u32,
+        agreed_versions_len: usize,
+        counts: *const u16,
+        counts_len: usize,
+        widths: *const u16,
+        widths_len: usize,
+        slot: u32,
+        fields: *mut u64,
+        fields_len: usize,
     ) -> u32;
 }
 
@@ -588,6 +621,43 @@ pub fn simulate(
     }
 }
 
+pub fn explain(head: Head, lists: &Lists, slot: u32, fields: &mut [u64]) -> u32 {
+    unsafe {
+        sawmauve_explain(
+            head.year,
+            head.month,
+            head.day,
+            head.days,
+            head.interval,
+            head.limit,
+            head.tolerance,
+            lists.values.as_ptr(),
+            lists.values.len(),
+            lists.versions.as_ptr(),
+            lists.versions.len(),
+            lists.statuses.as_ptr(),
+            lists.statuses.len(),
+            lists.holidays.as_ptr(),
+            lists.holidays.len(),
+            lists.readings.as_ptr(),
+            lists.readings.len(),
+            lists.read_versions.as_ptr(),
+            lists.read_versions.len(),
+            lists.agreed.as_ptr(),
+            lists.agreed.len(),
+            lists.agreed_versions.as_ptr(),
+            lists.agreed_versions.len(),
+            lists.counts.as_ptr(),
+            lists.counts.len(),
+            lists.widths.as_ptr(),
+            lists.widths.len(),
+            slot,
+            fields.as_mut_ptr(),
+            fields.len(),
+        )
+    }
+}
+
 /// The host as a side of the comparison.
 pub struct Host;
 
@@ -612,6 +682,12 @@ fn filed(code: u32) -> Answer {
 /// The host's opening and publishing.
 pub const BOOKS: Books = Books {
     open: |head, lists| Host.open(head, lists),
+    publish: |head, lists, out| Host.publish(head, lists, out),
+};
+
+/// The host's way of one slot, and its publishing.
+pub const EXPLAINS: Explains = Explains {
+    explain,
     publish: |head, lists, out| Host.publish(head, lists, out),
 };
 

@@ -7,7 +7,7 @@
 //! The comparison: `calls`, `random`, `heads`, `damage`, `side`, `run`, `shrink`, `counts`, `census`,
 //! `run_census`, `day_census`, `fit_census`, `range_census`;
 //! the smaller ones of 02: `tries`, `dial_tries`, `strips_tries`, `stays_tries`, `date_tries`,
-//! `limit_tries`, `simulate_tries`, `reach_tries`, `market_tries` with `market_files`, `market_back` and `nem12_reader`.
+//! `limit_tries`, `simulate_tries`, `reach_tries`, `explain_tries`, `market_tries` with `market_files`, `market_back` and `nem12_reader`.
 #![deny(unsafe_code)]
 
 pub mod acceptance;
@@ -23,6 +23,7 @@ pub mod definition;
 pub mod dial;
 pub mod dial_tries;
 pub mod explain;
+pub mod explain_tries;
 pub mod file;
 pub mod fit_census;
 pub mod head;
