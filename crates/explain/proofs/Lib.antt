@@ -1,0 +1,5 @@
+pub mod Searches
+pub mod Passing
+pub mod Holding
+pub mod Telling
+pub mod Answering

@@ -1,0 +1,241 @@
+-- The search for references week by week, with what is kept of each.
+use mathlib.Core.Bool.{Bool, true, false, cond}
+use mathlib.Core.List.{List, [], _∷_, _++_, map, append-assoc, append-nil}
+use mathlib.Core.Logic.{⊎-elim}
+use mathlib.Core.Path.{_≡_, refl, sym, ap, _∙_}
+use Prim.Native.Nat.{ℕ, zero, suc, _+_, _-_, _*_, _/_, _≤_, _<_}
+use native.Mathlib.Nat.{le-refl, add-mul-div-right, le-div-iff-mul-le, div-lt-iff-lt-mul}
+use native.Mathlib.Numerals.{add-one}
+use native.Mathlib.Omega.{arith}
+use borrow.Author.Tests.{lt-ltb, le-ltb, ltb-true, ltb-false}
+use lib.Dec.{lit<, ltb}
+use lib.ListN.{length, getD, take, set, length-set, List·getD-eq-default}
+use lib.Seq.{take-suc-set, take-nil, getD-take, getD-set-other, length-take-le, ext-getD}
+use Rattle.rules.specs.declared.Head.{Head}
+use Rattle.rules.specs.Opening.{Slots, slotsPerDay}
+use Rattle.rules.specs.Weeks.{firstBack, farthestBack, weeksWithin}
+use Rattle.rules.specs.Filling.{isReference, weeksBack, references}
+use Rattle.rules.specs.Inner.Ways.{InBook}
+use Rattle.rules.proofs.Bounds.{Bounded}
+use Rattle.rules.proofs.Logic.{either}
+use Rattle.explain.specs.References.{eachWeek, eachReference, inFour}
+
+-- of the references' values it is `weeksBack`, and so `references`
+module _ (h : Head) (s : Slots) (holidays : List ℕ) where
+  abbrev valueOf : ℕ → ℕ
+  valueOf j = getD (s .values) j 0
+
+  values-back : (days j k : ℕ) → eachWeek valueOf h s holidays days j k ≡ weeksBack h s holidays days j k
+  unfolding eachWeek weeksBack
+  values-back days j zero = refl
+  values-back days j (suc k) = rw (values-back 7 (j - days * slotsPerDay h) k)
+
+  pub values-each : (i : ℕ) → eachReference valueOf h s holidays i ≡ references h s holidays i
+  unfolding eachReference references
+  values-each i = rw (values-back (firstBack h holidays (i / slotsPerDay h)) i (weeksWithin (firstBack h holidays (i / slotsPerDay h)) (farthestBack holidays (i / slotsPerDay h))))
+
+take-map : (f : ℕ → ℕ) (k : ℕ) (xs : List ℕ) → take k (map f xs) ≡ map f (take k xs)
+take-map f zero xs = refl
+take-map f (suc k) [] = refl
+take-map f (suc k) (x ∷ xs) = ap (λ (ys : List ℕ). f x ∷ ys) (take-map f k xs)
+
+-- what is kept of a reference is of its slot: the day and the value at one place are of one slot
+module _ (f : ℕ → ℕ) (h : Head) (s : Slots) (holidays : List ℕ) where
+  week-map : (out found : Bool) (x : ℕ) (ys xs : List ℕ) → ys ≡ map f xs → cond out [] (cond found (f x ∷ ys) ys) ≡ map f (cond out [] (cond found (x ∷ xs) xs))
+  week-map true found x ys xs e = refl
+  week-map false true x ys xs e = ap (λ (zs : List ℕ). f x ∷ zs) e
+  week-map false false x ys xs e = e
+
+  weeks-map : (days j k : ℕ) → eachWeek f h s holidays days j k ≡ map f (eachWeek (λ i. i) h s holidays days j k)
+  unfolding eachWeek
+  weeks-map days j zero = refl
+  weeks-map days j (suc k) =
+      week-map (ltb j (days * slotsPerDay h)) (isReference h s holidays (j - days * slotsPerDay h)) (j - days * slotsPerDay h) _ _
+      (weeks-map 7 (j - days * slotsPerDay h) k)
+
+  pub of-their-slots : (i : ℕ) → eachReference f h s holidays i ≡ map f (eachReference (λ j. j) h s holidays i)
+  unfolding eachReference
+  of-their-slots i =
+      let first = firstBack h holidays (i / slotsPerDay h) in
+      let k = weeksWithin first (farthestBack holidays (i / slotsPerDay h)) in
+      ap (take 4) (weeks-map first i k) ∙ take-map f 4 (eachWeek (λ j. j) h s holidays first i k)
+
+-- where the search ends, and one week of it
+module _ (f : ℕ → ℕ) (h : Head) (s : Slots) (holidays : List ℕ) (days j : ℕ) where
+  abbrev earlier : ℕ
+  earlier = j - days * slotsPerDay h
+
+  each-none : eachWeek f h s holidays days j 0 ≡ []
+  unfolding eachWeek
+  each-none = refl
+
+  each-out : (k : ℕ) → j < days * slotsPerDay h → eachWeek f h s holidays days j k ≡ []
+  unfolding eachWeek
+  each-out zero p = refl
+  each-out (suc k) p = simp (lt-ltb _ _ p)
+
+  module _ (k : ℕ) (more : k ≡ 0 → ⊥) (inside : days * slotsPerDay h ≤ j) where
+    one-more : k ≡ suc (k - 1)
+    one-more = omega (arith, more)
+
+    each-found : isReference h s holidays earlier ≡ true → eachWeek f h s holidays days j k ≡ f earlier ∷ eachWeek f h s holidays 7 earlier (k - 1)
+    unfolding eachWeek
+    each-found e = ap (eachWeek f h s holidays days j) one-more ∙ simp (le-ltb _ _ inside, e)
+
+    each-passed : isReference h s holidays earlier ≡ false → eachWeek f h s holidays days j k ≡ eachWeek f h s holidays 7 earlier (k - 1)
+    unfolding eachWeek
+    each-passed e = ap (eachWeek f h s holidays days j) one-more ∙ simp (le-ltb _ _ inside, e)
+
+module _ (h : Head) (w : Bounded h) where
+  abbrev n : ℕ
+  n = slotsPerDay h
+
+  positive : 0 < n
+  positive = omega (arith, w .day-low)
+
+  days-low : (days at : ℕ) → days ≤ at / n → days * n ≤ at
+  days-low days at l = le-div-iff-mul-le positive .0 l
+
+  days-out : (days at : ℕ) → at / n < days → at < days * n
+  days-out days at l = div-lt-iff-lt-mul positive .0 l
+
+  days-on : (days at : ℕ) → days * n ≤ at → at / n ≡ (at - days * n) / n + days
+  days-on days at l =
+      let e : at ≡ at - days * n + days * n = omega arith in
+      ap (λ (x : ℕ). x / n) e ∙ add-mul-div-right (at - days * n) days positive
+
+  -- no week before the book's first is looked at
+  each-enough : (f : ℕ → ℕ) (s : Slots) (holidays : List ℕ) (r k days at : ℕ) → days + 7 * r ≤ at / n + 7 → r ≤ k → (r < k → at / n < days + 7 * r)
+      → eachWeek f h s holidays days at k ≡ eachWeek f h s holidays days at r
+  unfolding eachWeek
+  each-enough f s holidays zero zero days at p q o = refl
+  each-enough f s holidays zero (suc k) days at p q o = each-out f h s holidays days at (suc k) (days-out days at (omega (arith, o (omega arith))))
+  each-enough f s holidays (suc r) zero days at p q o = absurd (omega arith)
+  each-enough f s holidays (suc r) (suc k) days at p q o =
+      let l = days-low days at (omega arith) in
+      let d = days-on days at l in
+      let e = each-enough f s holidays r k 7 (at - days * n) (omega arith) (omega arith) (λ x. omega (arith, o (omega arith))) in
+      rw e
+
+-- c numbers are kept, and room is left for 4 - c of the list's
+pub kept : List ℕ → ℕ → List ℕ → List ℕ
+kept l c rest = take c l ++ take (4 - c) rest
+
+kept-more : (l rest : List ℕ) (c v : ℕ) → c < 4 → c < length l → kept l c (v ∷ rest) ≡ kept (set l c v) (c + 1) rest
+unfolding kept
+kept-more l rest c v p q =
+    let e : 4 - c ≡ suc (4 - suc c) = omega arith in
+    rw (e, add-one, take-suc-set l c v q) (sym (append-assoc (take c l) (v ∷ []) (take (4 - suc c) rest)))
+
+kept-nil : (l : List ℕ) (c : ℕ) → kept l c [] ≡ take c l
+unfolding kept
+kept-nil l c = simp (take-nil, append-nil)
+
+kept-full : (l rest : List ℕ) (c : ℕ) → c ≡ 4 → kept l c rest ≡ take c l
+unfolding kept
+kept-full l rest c e = rw e (simp append-nil)
+
+-- the first c of four places hold xs, and the others 0
+four-places : (l xs : List ℕ) (c : ℕ) → length l ≡ 4 → c ≤ 4 → ((k : ℕ) → c ≤ k → getD l k 0 ≡ 0) → take c l ≡ xs → (l ≡ inFour xs) × (c ≡ length xs)
+unfolding inFour
+four-places l xs c four low zeros e =
+    (ext-getD 0 l (inFour xs) four (λ k p. at k (omega arith)), long)
+  where
+    long : c ≡ length xs
+    long = sym (length-take-le c l (omega arith)) ∙ ap length e
+
+    each : (k : ℕ) → getD l k 0 ≡ getD xs k 0
+    each k =
+        ⊎-elim
+        (λ t. sym (getD-take c l k 0 (ltb-true k c t)) ∙ ap (λ (y : List ℕ). getD y k 0) e)
+        (λ t. zeros k (ltb-false k c t) ∙ sym (List·getD-eq-default xs 0 {n = k} (omega (arith, long, ltb-false k c t))))
+        (either (ltb k c))
+
+    at : (k : ℕ) → k < 4 → getD l k 0 ≡ getD (inFour xs) k 0
+    at zero p = each 0
+    at (suc zero) p = each 1
+    at (suc (suc zero)) p = each 2
+    at (suc (suc (suc zero))) p = each 3
+    at (suc (suc (suc (suc k)))) p = absurd (omega arith)
+
+-- what is kept of the references found so far, where the rest are `days` days before slot `at` and in the weeks before
+pub record Keeping (f : ℕ → ℕ) (h : Head) (s : Slots) (holidays : List ℕ) (slot : ℕ) (found : List ℕ) (count at days weeks : ℕ) : Type 0 where
+  pub four : length found ≡ 4
+  pub zeros : (k : ℕ) → count ≤ k → getD found k 0 ≡ 0
+  pub rest : kept found count (eachWeek f h s holidays days at weeks) ≡ eachReference f h s holidays slot
+
+-- where the search stands: `step` slots are `days` days, and slot `at` lies in day `day`
+pub record Standing (h : Head) (slot week count at day days step weeks : ℕ) : Type 0 where
+  pub room : count < 4
+  pub near : at ≤ slot
+  pub on : day ≡ at / slotsPerDay h
+  pub short : days ≤ 7
+  pub reach : days + 7 * weeks ≤ day + 7
+  pub seven : week ≡ 7 * slotsPerDay h
+  pub long : step ≡ days * slotsPerDay h
+
+zero-four : (k : ℕ) → _≡_ {A = ℕ} (getD (0 ∷ 0 ∷ 0 ∷ 0 ∷ []) k 0) 0
+zero-four zero = refl
+zero-four (suc zero) = refl
+zero-four (suc (suc zero)) = refl
+zero-four (suc (suc (suc zero))) = refl
+zero-four (suc (suc (suc (suc k)))) = refl
+
+module _ (h : Head) (w : Bounded h) (slot week : ℕ) where
+  module _ (holidays : List ℕ) (day first step weeks : ℕ) (d : day ≡ slot / slotsPerDay h) (e : first ≡ firstBack h holidays day) (b : InBook first (farthestBack holidays day) day weeks) where
+    pub stands-first : week ≡ 7 * slotsPerDay h → step ≡ first * slotsPerDay h → Standing h slot week 0 slot day first step weeks
+    stands-first v l =
+        record { room = lit< tt; near = le-refl slot; on = d; short = b .short; reach = b .inside; seven = v; long = l }
+
+    pub keeps-none : (f : ℕ → ℕ) (s : Slots) → Keeping f h s holidays slot (0 ∷ 0 ∷ 0 ∷ 0 ∷ []) 0 slot first weeks
+    unfolding kept eachReference
+    keeps-none f s =
+        let g = each-enough h w f s holidays weeks (weeksWithin first (farthestBack holidays day)) first slot (rw d at (b .inside)) (b .within) (λ x. rw d at (b .all x)) in
+        record { four = refl; zeros = λ k _. zero-four k; rest = rw (← d, ← e, g) }
+
+  module _ {count at day days step weeks : ℕ} (i : Standing h slot week count at day days step weeks) (more : weeks ≡ 0 → ⊥) where
+    abbrev next : ℕ
+    next = at - step
+
+    pub day-inside : days ≤ day
+    day-inside = omega (arith, i .reach)
+
+    within : days * slotsPerDay h ≤ at
+    within = days-low h w days at (rw (i .on) at day-inside)
+
+    pub slot-inside : step ≤ at
+    slot-inside = rw (i .long) within
+
+    pub day-on : day - days ≡ next / slotsPerDay h
+    day-on = rw (i .long, i .on) (omega (arith, days-on h w days at within))
+
+    pub stands-on : (c : ℕ) → c < 4 → Standing h slot week c next (day - days) 7 week (weeks - 1)
+    stands-on c l =
+        record { room = l; near = omega arith; on = day-on; short = le-refl 7; reach = omega (arith, i .reach); seven = i .seven; long = i .seven }
+
+    module _ {f : ℕ → ℕ} {s : Slots} {holidays found : List ℕ} (k : Keeping f h s holidays slot found count at days weeks) where
+      pub keeps-passed : isReference h s holidays next ≡ false → Keeping f h s holidays slot found count next 7 (weeks - 1)
+      keeps-passed e =
+          let e′ : isReference h s holidays (at - days * slotsPerDay h) ≡ false = rw (i .long) at e in
+          record { four = k .four; zeros = k .zeros; rest = rw (i .long, ← each-passed f h s holidays days at weeks more within e′) (k .rest) }
+
+      pub keeps-found : (v : ℕ) → v ≡ f next → isReference h s holidays next ≡ true → Keeping f h s holidays slot (set found count v) (count + 1) next 7 (weeks - 1)
+      keeps-found v q e =
+          let e′ : isReference h s holidays (at - days * slotsPerDay h) ≡ true = rw (i .long) at e in
+          let p : count < length found = omega (arith, k .four, i .room) in
+          record {
+            four = simp length-set (k .four);
+            zeros = λ j l. getD-set-other found count j v 0 (λ z. omega arith) ∙ k .zeros j (omega arith);
+            rest = rw (q, i .long) (sym (kept-more found _ count _ (i .room) p) ∙ (rw (each-found f h s holidays days at weeks more within e′) at (k .rest)));
+          }
+
+-- the search is over: four places, and their number
+module _ {f : ℕ → ℕ} {h : Head} {s : Slots} {holidays : List ℕ} {slot : ℕ} {found : List ℕ} {count at days weeks : ℕ} (k : Keeping f h s holidays slot found count at days weeks) where
+  pub keeps-spent : count < 4 → weeks ≡ 0 → (found ≡ inFour (eachReference f h s holidays slot)) × (count ≡ length (eachReference f h s holidays slot))
+  keeps-spent l z =
+      let e : kept found count (eachWeek f h s holidays days at 0) ≡ eachReference f h s holidays slot = rw z at (k .rest) in
+      four-places found _ count (k .four) (omega arith) (k .zeros) (sym (kept-nil found count) ∙ (rw (each-none f h s holidays days at) at e))
+
+  pub keeps-full : count ≡ 4 → (found ≡ inFour (eachReference f h s holidays slot)) × (count ≡ length (eachReference f h s holidays slot))
+  keeps-full z =
+      four-places found _ count (k .four) (omega arith) (k .zeros) (sym (kept-full found (eachWeek f h s holidays days at weeks) count z) ∙ k .rest)

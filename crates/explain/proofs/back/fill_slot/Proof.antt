@@ -1,0 +1,24 @@
+-- `back::fill_slot`: the pass before the slot fills it.
+use Rattle.rules.specs.Inner.Lent.{slots}
+use Rattle.explain.proofs.Passing.{fills-place, fills-known}
+use borrow.Author.Needs.{needs}
+use Rattle.explain.proofs.back.fill_slot.Statement.{statement}
+use Rattle.explain.proofs.back.fill_slot.Tie as tie
+
+fills-before-requires : tie.Need-fills-before-requires
+fills-before-requires c κs = search needs
+
+fill-requires : tie.Need-fill-requires
+fill-requires c κs = let a = (c .before .before .before .before .before .before .before) .args in
+    let s = slots (a .values .now) (a .versions .now) (a .statuses .now) in
+    let p = fills-place (a .head) s (a .agreed-versions .now) (c .fills-before .result) (a .at) (c .fills-before .ensures) in
+    ((c .before .before .before .before .before .before .before) .pre .0, (c .before .before .before .before .before .before .before) .pre .1, rw p ((c .before .before .before .before .before .before .before) .pre .2), fills-known (a .head) s (a .agreed-versions .now) (c .fills-before .result) (a .at) (c .fills-before .ensures))
+
+returns : tie.Need-returns
+returns c = let a = (c .before .before .before .before .before .before .before .before) .args in
+    let s = slots (a .values .now) (a .versions .now) (a .statuses .now) in
+    let p = fills-place (a .head) s (a .agreed-versions .now) (c .before .fills-before .result) (a .at) (c .before .fills-before .ensures) in
+    rw p at (c .fill .ensures)
+
+pub fill-slot-spec : {M : Type 1} → statement M
+fill-slot-spec = tie.close (tie.spec fills-before-requires fill-requires returns)

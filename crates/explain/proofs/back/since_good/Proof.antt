@@ -1,0 +1,52 @@
+-- `back::since_good`: the slots from `from` on have causes.
+use Prim.Native.Nat.{ℕ, _≤_, _<_}
+use mathlib.Core.Bool.{false}
+use mathlib.Core.Path.{_≡_, sym, _∙_}
+use native.Mathlib.Omega.{arith}
+use Rattle.rules.specs.Tests.{goodAt}
+use Rattle.rules.specs.Inner.Lent.{slots}
+use Rattle.explain.proofs.Passing.{since-on}
+use Rattle.explain.proofs.back.since_good.Statement.{statement}
+use Rattle.explain.proofs.back.since_good.Tie as tie
+
+abbrev Inv-loop : tie.InvT-loop
+Inv-loop head values versions statuses at from₀ from =
+    (from ≤ at) × ((k : ℕ) → from ≤ k → k < at → goodAt head (slots values versions statuses) k ≡ false)
+
+abbrev μ-loop : tie.MeasureT-loop
+μ-loop head values versions statuses at from₀ from = from
+
+loop-holds : tie.Need-loop-holds Inv-loop μ-loop
+loop-holds c = (omega arith, λ k l m. absurd (omega arith))
+
+sub-last : tie.Need-sub-last Inv-loop μ-loop
+sub-last c = omega arith
+
+is-good-requires : tie.Need-is-good-requires Inv-loop μ-loop
+is-good-requires c κs = ((c .before .before .before .before .before) .pre .0, omega arith)
+
+returns : tie.Need-returns Inv-loop μ-loop
+returns c = record { low = c .before .before .before .loop .inv .0; good = λ _. sym (c .before .is-good .ensures) ∙ c .if1 .taken; causes = c .before .before .before .loop .inv .1 }
+
+loop-less : tie.Need-loop-less Inv-loop μ-loop
+loop-less c = omega arith
+
+loop-again : tie.Need-loop-again Inv-loop μ-loop
+loop-again c = (omega arith, since-on _ _ _ _ (c .before .before .before .loop .inv .1) (sym (c .before .is-good .ensures) ∙ c .if1 .left))
+
+returns-2 : tie.Need-returns-2 Inv-loop μ-loop
+returns-2 c = record { low = c .before .loop .inv .0; good = λ z. absurd (z (omega arith)); causes = c .before .loop .inv .1 }
+
+pub since-good-spec : {M : Type 1} → statement M
+since-good-spec =
+    tie.close
+    (tie.spec
+    Inv-loop
+    μ-loop
+    loop-holds
+    sub-last
+    is-good-requires
+    returns
+    loop-less
+    loop-again
+    returns-2)

@@ -1,0 +1,118 @@
+-- `held::hold`: the boundaries with a reading on both sides, or no span.
+use borrow.Author.Needs.{needs}
+use mathlib.Core.Option.{none, some}
+use mathlib.Core.Path.{_≡_, sym, ap, _∙_}
+use Prim.Native.Nat.{_+_, _-_, _/_}
+use native.Mathlib.Omega.{arith}
+use Rattle.rules.specs.Opening.{slotsPerDay}
+use Rattle.rules.specs.Spans.{lastRead, nextRead}
+use Rattle.rules.specs.declared.stretch.Stretch.{Stretch}
+use Rattle.rules.specs.Inner.Lent.{slots, agreedLists, cells}
+use Rattle.rules.specs.Inner.Stretches.{nextMeant}
+use Rattle.rules.proofs.Bounds.{bounded, day-below}
+use Rattle.rules.proofs.Stretches.{next-behind}
+use Rattle.rules.proofs.Meeting.{stretch-versions}
+use Rattle.explain.proofs.Holding.{between-read, spanned-versions, outside-first, outside-last, inside-both}
+use Rattle.explain.proofs.held.hold.Statement.{statement}
+use Rattle.explain.proofs.held.hold.Tie as tie
+use Rattle.explain.proofs.held.hold.Reads as reads
+
+slots-per-day-requires : tie.Need-slots-per-day-requires
+slots-per-day-requires c κs = (c .before .before .before .before .before .before .before .before .before) .pre .0 .lent .fitted .head
+
+div-day : tie.Need-div-day
+div-day c = rw (c .slots-per-day .ensures) (omega (arith, bounded ((c .before .before .before .before .before .before .before .before .before .before) .args .head) ((c .before .before .before .before .before .before .before .before .before .before) .pre .0 .lent .fitted .head) .day-low))
+
+last-read-requires : tie.Need-last-read-requires
+last-read-requires c κs = let a = (c .before .before .before .before .before .before .before .before .before .before) .args in
+    let y = day-below (a .head) (bounded (a .head) ((c .before .before .before .before .before .before .before .before .before .before) .pre .0 .lent .fitted .head)) (a .slot) ((c .before .before .before .before .before .before .before .before .before .before) .pre .1) in
+    rw (c .slots-per-day .ensures, (c .before .before .before .before .before .before .before .before .before .before) .pre .0 .readVersions) (omega (arith, y))
+
+enum-known-first : tie.Need-enum-known-first
+enum-known-first c = search needs
+
+enum-told : tie.Need-enum-told
+enum-told c = search needs
+
+outside-requires : tie.Need-outside-requires
+outside-requires c κs = search needs
+
+returns : tie.Need-returns
+returns c = let a = (c .before .before .before .before .before .before .before .before .before .before .before .before .before .before) .args in
+    let b = cells (slots (a .values .now) (a .versions .now) (a .statuses .now)) (a .holidays .now) (a .readings .now) (a .reads .now) (agreedLists (a .agreed .now) (a .agreed-versions .now)) (a .widths .now) in
+    let e : lastRead (a .reads .now) (a .slot / slotsPerDay (a .head)) ≡ none = rw (c .before .before .before .before .slots-per-day .ensures) at (sym (c .before .before .before .last-read .ensures) ∙ ap nextMeant (c .before .enum-told .given .1)) in
+    let o = outside-first (a .head) b (a .slot) e in
+    (c .outside .ensures .0 ∙ o .0, c .outside .ensures .1 ∙ o .1)
+
+add-next-read : tie.Need-add-next-read
+add-next-read c = let a = (c .before .before .before .before .before .before .before .before .before .before .before .before .before .before) .args in
+    let y = day-below (a .head) (bounded (a .head) ((c .before .before .before .before .before .before .before .before .before .before .before .before .before .before) .pre .0 .lent .fitted .head)) (a .slot) ((c .before .before .before .before .before .before .before .before .before .before .before .before .before .before) .pre .1) in
+    rw (c .before .before .before .before .slots-per-day .ensures) (omega (arith, y, bounded (a .head) ((c .before .before .before .before .before .before .before .before .before .before .before .before .before .before) .pre .0 .lent .fitted .head) .days-high))
+
+next-read-requires : tie.Need-next-read-requires
+next-read-requires c κs = let a = (c .before .before .before .before .before .before .before .before .before .before .before .before .before .before) .args in
+    let y = day-below (a .head) (bounded (a .head) ((c .before .before .before .before .before .before .before .before .before .before .before .before .before .before) .pre .0 .lent .fitted .head)) (a .slot) ((c .before .before .before .before .before .before .before .before .before .before .before .before .before .before) .pre .1) in
+    rw (c .before .before .before .before .slots-per-day .ensures, (c .before .before .before .before .before .before .before .before .before .before .before .before .before .before) .pre .0 .readVersions) (omega (arith, y))
+
+enum-known-last : tie.Need-enum-known-last
+enum-known-last c = search needs
+
+enum-told-2 : tie.Need-enum-told-2
+enum-told-2 c = search needs
+
+outside-requires-2 : tie.Need-outside-requires-2
+outside-requires-2 c κs = search needs
+
+returns-2 : tie.Need-returns-2
+returns-2 c = let a = (c .before .before .before .before .before .before .before .before .before .before .before .before .before .before .before .before .before .before) .args in
+    let b = cells (slots (a .values .now) (a .versions .now) (a .statuses .now)) (a .holidays .now) (a .readings .now) (a .reads .now) (agreedLists (a .agreed .now) (a .agreed-versions .now)) (a .widths .now) in
+    let d = a .slot / slotsPerDay (a .head) in
+    let first = c .before .before .before .before .before .first .given .0 .0 in
+    let e : lastRead (a .reads .now) d ≡ some first = rw (c .before .before .before .before .before .before .before .before .slots-per-day .ensures) at (sym (c .before .before .before .before .before .before .before .last-read .ensures) ∙ ap nextMeant (c .before .before .before .before .before .first .given .1)) in
+    let f : nextRead (a .reads .now) (d + 1) (a .head .days - d) ≡ none = next-behind (a .head) (a .reads .now) d none ((c .before .before .before .before .before .before .before .before .before .before .before .before .before .before .before .before .before .before) .pre .0 .readVersions) (rw (c .before .before .before .before .before .before .before .before .slots-per-day .ensures) at (sym (c .before .before .before .next-read .ensures) ∙ ap nextMeant (c .before .enum-told2 .given .1))) in
+    let o = outside-last (a .head) b (a .slot) first e f in
+    (c .outside2 .ensures .0 ∙ o .0, c .outside2 .ensures .1 ∙ o .1)
+
+between-requires : tie.Need-between-requires
+between-requires c κs = let a = (c .before .before .before .before .before .before .before .before .before .before .before .before .before .before .before .before .before .before) .args in
+    let d = a .slot / slotsPerDay (a .head) in
+    let first = c .before .before .before .before .before .first .given .0 .0 in
+    let last = c .before .last .given .0 .0 in
+    let e : lastRead (a .reads .now) d ≡ some first = rw (c .before .before .before .before .before .before .before .before .slots-per-day .ensures) at (sym (c .before .before .before .before .before .before .before .last-read .ensures) ∙ ap nextMeant (c .before .before .before .before .before .first .given .1)) in
+    let f : nextRead (a .reads .now) (d + 1) (a .head .days - d) ≡ some last = next-behind (a .head) (a .reads .now) d (some last) ((c .before .before .before .before .before .before .before .before .before .before .before .before .before .before .before .before .before .before) .pre .0 .readVersions) (rw (c .before .before .before .before .before .before .before .before .slots-per-day .ensures) at (sym (c .before .before .before .next-read .ensures) ∙ ap nextMeant (c .before .last .given .1))) in
+    ((c .before .before .before .before .before .before .before .before .before .before .before .before .before .before .before .before .before .before) .pre .0 .lent, (c .before .before .before .before .before .before .before .before .before .before .before .before .before .before .before .before .before .before) .pre .0 .dialled, (c .before .before .before .before .before .before .before .before .before .before .before .before .before .before .before .before .before .before) .pre .0 .settled, (c .before .before .before .before .before .before .before .before .before .before .before .before .before .before .before .before .before .before) .pre .0 .widths, between-read (a .head) (bounded (a .head) ((c .before .before .before .before .before .before .before .before .before .before .before .before .before .before .before .before .before .before) .pre .0 .lent .fitted .head)) (a .reads .now) (a .slot) first last e f)
+
+returns-3 : tie.Need-returns-3
+returns-3 c = let a = (c .before .before .before .before .before .before .before .before .before .before .before .before .before .before .before .before .before .before .before) .args in
+    let s = slots (a .values .now) (a .versions .now) (a .statuses .now) in
+    let g = agreedLists (a .agreed .now) (a .agreed-versions .now) in
+    let b = cells s (a .holidays .now) (a .readings .now) (a .reads .now) g (a .widths .now) in
+    let d = a .slot / slotsPerDay (a .head) in
+    let first = c .before .before .before .before .before .before .first .given .0 .0 in
+    let last = c .before .before .last .given .0 .0 in
+    let e : lastRead (a .reads .now) d ≡ some first = rw (c .before .before .before .before .before .before .before .before .before .slots-per-day .ensures) at (sym (c .before .before .before .before .before .before .before .before .last-read .ensures) ∙ ap nextMeant (c .before .before .before .before .before .before .first .given .1)) in
+    let f : nextRead (a .reads .now) (d + 1) (a .head .days - d) ≡ some last = next-behind (a .head) (a .reads .now) d (some last) ((c .before .before .before .before .before .before .before .before .before .before .before .before .before .before .before .before .before .before .before) .pre .0 .readVersions) (rw (c .before .before .before .before .before .before .before .before .before .slots-per-day .ensures) at (sym (c .before .before .before .before .next-read .ensures) ∙ ap nextMeant (c .before .before .last .given .1))) in
+    let o = inside-both (a .head) b (a .slot) first last e f in (
+      c .between .ensures .0 ∙ spanned-versions (a .head) s (a .holidays .now) (a .readings .now) _ (a .reads .now) g (a .widths .now) first last ∙ o .0,
+      c .between .ensures .1 ∙ ap (λ (x : Stretch). x .by) (stretch-versions (a .head) s (a .holidays .now) (a .readings .now) _ (a .reads .now) g (a .widths .now) first last (a .slot) ∙ o .1),
+    )
+
+pub hold-spec : {M : Type 1} → statement M
+hold-spec =
+    tie.close
+    (tie.spec
+    slots-per-day-requires
+    div-day
+    last-read-requires
+    enum-known-first
+    enum-told
+    outside-requires
+    returns
+    add-next-read
+    next-read-requires
+    enum-known-last
+    enum-told-2
+    outside-requires-2
+    returns-2
+    between-requires
+    returns-3)

@@ -1,0 +1,70 @@
+-- `held::last_read`. From boundary d back the answer is that from the day.
+use borrow.Author.Needs.{needs}
+use Prim.Native.Nat.{_≤_}
+use mathlib.Core.Path.{_≡_, refl, sym, ap, _∙_}
+use native.Mathlib.Omega.{arith}
+use Rattle.rules.specs.Spans.{lastRead}
+use Rattle.rules.proofs.Stretches.{is-read, unread}
+use Rattle.explain.proofs.Holding.{last-at, last-on, last-none}
+use Rattle.explain.proofs.held.last_read.Statement.{statement}
+use Rattle.explain.proofs.held.last_read.Tie as tie
+use Rattle.explain.proofs.held.last_read.Reads as reads
+
+abbrev Inv-loop : tie.InvT-loop
+Inv-loop reads day d₀ d = (d ≤ day) × (lastRead reads day ≡ lastRead reads d)
+
+abbrev μ-loop : tie.MeasureT-loop
+μ-loop reads day d₀ d = d
+
+loop-holds : tie.Need-loop-holds Inv-loop μ-loop
+loop-holds c = (omega arith, refl)
+
+mul-if1 : tie.Need-mul-if1 Inv-loop μ-loop
+mul-if1 c = search needs
+
+shared-slice-read-if1 : tie.Need-shared-slice-read-if1 Inv-loop μ-loop
+shared-slice-read-if1 c = omega arith
+
+returns : tie.Need-returns Inv-loop μ-loop
+returns c = let r = (c .before .before .before .before) .args .reads .now in
+    sym (c .before .before .before .loop .inv .1 ∙ last-at r (c .before .before .before .loop .d) (is-read r (c .before .before .before .loop .d) (c .if1 .taken)))
+
+sub-d : tie.Need-sub-d Inv-loop μ-loop
+sub-d c = omega arith
+
+loop-less : tie.Need-loop-less Inv-loop μ-loop
+loop-less c = omega arith
+
+loop-again : tie.Need-loop-again Inv-loop μ-loop
+loop-again c = let r = (c .before .before .before .before) .args .reads .now in
+    (omega arith, c .before .before .before .loop .inv .1 ∙ last-on r (c .before .before .before .loop .d) (c .before .before .loop-test .taken) (unread r (c .before .before .before .loop .d) (c .if1 .left)))
+
+shared-slice-read-if2 : tie.Need-shared-slice-read-if2 Inv-loop μ-loop
+shared-slice-read-if2 c = omega arith
+
+returns-2 : tie.Need-returns-2 Inv-loop μ-loop
+returns-2 c = let r = (c .before .before .before .before) .args .reads .now in
+    let z : c .before .before .before .loop .d ≡ 0 = omega arith in
+    sym (c .before .before .before .loop .inv .1 ∙ ap (lastRead r) z ∙ last-at r 0 (is-read r 0 (c .if2 .taken)))
+
+returns-3 : tie.Need-returns-3 Inv-loop μ-loop
+returns-3 c = let r = (c .before .before .before .before) .args .reads .now in
+    let z : c .before .before .before .loop .d ≡ 0 = omega arith in
+    sym (c .before .before .before .loop .inv .1 ∙ ap (lastRead r) z ∙ last-none r (unread r 0 (c .if2 .left)))
+
+pub last-read-spec : {M : Type 1} → statement M
+last-read-spec =
+    tie.close
+    (tie.spec
+    Inv-loop
+    μ-loop
+    loop-holds
+    mul-if1
+    shared-slice-read-if1
+    returns
+    sub-d
+    loop-less
+    loop-again
+    shared-slice-read-if2
+    returns-2
+    returns-3)

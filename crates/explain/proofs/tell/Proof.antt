@@ -1,0 +1,68 @@
+-- `tell`: each part is what the rules say of the slot.
+use mathlib.Core.Path.{_∙_}
+use Rattle.rules.specs.Tests.{causeAt}
+use Rattle.rules.specs.Inner.Lent.{slots, agreedLists, cells}
+use Rattle.rules.proofs.Bounds.{bounded}
+use Rattle.explain.proofs.Telling.{fits-are, told-is}
+use borrow.Author.Needs.{needs}
+use Rattle.explain.proofs.tell.Statement.{statement}
+use Rattle.explain.proofs.tell.Tie as tie
+use Rattle.explain.proofs.tell.Reads as reads
+
+mul-cause-of : tie.Need-mul-cause-of
+mul-cause-of c = search needs
+
+shared-slice-read-cause-of : tie.Need-shared-slice-read-cause-of
+shared-slice-read-cause-of c = search needs
+
+mul-cause-of-2 : tie.Need-mul-cause-of-2
+mul-cause-of-2 c = search needs
+
+shared-slice-read-cause-of-2 : tie.Need-shared-slice-read-cause-of-2
+shared-slice-read-cause-of-2 c = search needs
+
+shared-slice-read-cause-of-3 : tie.Need-shared-slice-read-cause-of-3
+shared-slice-read-cause-of-3 c = search needs
+
+cause-of-requires : tie.Need-cause-of-requires
+cause-of-requires c κs = search needs
+
+fill-slot-requires : tie.Need-fill-slot-requires
+fill-slot-requires c κs = search needs
+
+rule-of-requires : tie.Need-rule-of-requires
+rule-of-requires c κs = search needs
+
+found-by-requires : tie.Need-found-by-requires
+found-by-requires c κs = ((c .before .before .before .before .before .before .before .before .before .before .before .before .before .before .before .before) .pre .0 .lent, (c .before .before .before .before .before .before .before .before .before .before .before .before .before .before .before .before) .pre .1)
+
+hold-requires : tie.Need-hold-requires
+hold-requires c κs = (c .before .before .before .before .before .before .before .before .before .before .before .before .before .before .before .before .before) .pre
+
+tell-with-requires : tie.Need-tell-with-requires
+tell-with-requires c κs = let a = (c .before .before .before .before .before .before .before .before .before .before .before .before .before .before .before .before .before .before) .args in
+    let b = cells (slots (a .values .now) (a .versions .now) (a .statuses .now)) (a .holidays .now) (a .readings .now) (a .reads .now) (agreedLists (a .agreed .now) (a .agreed-versions .now)) (a .widths .now) in
+    rw (c .before .before .before .before .fill-slot .ensures .0, c .before .before .before .before .fill-slot .ensures .1, c .hold .ensures .1) (fits-are (a .head) (bounded (a .head) ((c .before .before .before .before .before .before .before .before .before .before .before .before .before .before .before .before .before .before) .pre .0 .lent .fitted .head)) b (a .slot) ((c .before .before .before .before .before .before .before .before .before .before .before .before .before .before .before .before .before .before) .pre .0 .widths .low))
+
+returns : tie.Need-returns
+unfolding causeAt
+returns c = let a = (c .before .before .before .before .before .before .before .before .before .before .before .before .before .before .before .before .before .before .before) .args in
+    let b = cells (slots (a .values .now) (a .versions .now) (a .statuses .now)) (a .holidays .now) (a .readings .now) (a .reads .now) (agreedLists (a .agreed .now) (a .agreed-versions .now)) (a .widths .now) in
+    c .tell-with .ensures ∙ told-is (a .head) (bounded (a .head) ((c .before .before .before .before .before .before .before .before .before .before .before .before .before .before .before .before .before .before .before) .pre .0 .lent .fitted .head)) b (a .slot) _ (c .before .before .before .before .before .fill-slot .result) (c .before .before .found-by .result) (c .before .hold .result) (c .before .before .before .before .before .before .cause-of .ensures) (c .before .before .before .before .before .fill-slot .ensures .0) (c .before .before .before .before .before .fill-slot .ensures .1) (c .before .before .before .before .before .fill-slot .ensures .2) (rw (c .before .before .before .rule-of .ensures) at (c .before .before .found-by .ensures)) (c .before .hold .ensures .0) (c .before .hold .ensures .1)
+
+pub tell-spec : {M : Type 1} → statement M
+tell-spec =
+    tie.close
+    (tie.spec
+    mul-cause-of
+    shared-slice-read-cause-of
+    mul-cause-of-2
+    shared-slice-read-cause-of-2
+    shared-slice-read-cause-of-3
+    cause-of-requires
+    fill-slot-requires
+    rule-of-requires
+    found-by-requires
+    hold-requires
+    tell-with-requires
+    returns)

@@ -1,0 +1,28 @@
+-- `told::found_by` looks at the rule.
+use mathlib.Core.Path.{sym, _∙_}
+use borrow.Author.Tests.{not-true, not-false}
+use Rattle.explain.specs.Explain.{foundOf}
+use borrow.Author.Needs.{needs}
+use Rattle.explain.proofs.told.found_by.Statement.{statement}
+use Rattle.explain.proofs.told.found_by.Tie as tie
+
+is-same-day-requires : tie.Need-is-same-day-requires
+is-same-day-requires c κs = search needs
+
+none-found-requires : tie.Need-none-found-requires
+none-found-requires c κs = search needs
+
+returns : tie.Need-returns
+unfolding foundOf
+returns c = rw (sym (c .before .before .is-same-day .ensures) ∙ not-true _ (c .before .if1 .taken)) (c .none-found .ensures)
+
+find-requires : tie.Need-find-requires
+find-requires c κs = search needs
+
+returns-2 : tie.Need-returns-2
+unfolding foundOf
+returns-2 c = rw (sym (c .before .before .is-same-day .ensures) ∙ not-false _ (c .before .if1 .left)) (λ t. record { days = c .find .ensures .0 t; values = c .find .ensures .1 t; count = c .find .ensures .2 t })
+
+pub found-by-spec : {M : Type 1} → statement M
+found-by-spec =
+    tie.close (tie.spec is-same-day-requires none-found-requires returns find-requires returns-2)

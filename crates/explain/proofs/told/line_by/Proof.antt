@@ -1,0 +1,21 @@
+-- `told::line_by` looks at the rule.
+use mathlib.Core.Path.{sym, _∙_}
+use borrow.Author.Tests.{not-true, not-false}
+use borrow.Author.Needs.{needs}
+use Rattle.explain.proofs.told.line_by.Statement.{statement}
+use Rattle.explain.proofs.told.line_by.Tie as tie
+
+is-line-requires : tie.Need-is-line-requires
+is-line-requires c κs = search needs
+
+bare-requires : tie.Need-bare-requires
+bare-requires c κs = search needs
+
+returns : tie.Need-returns
+returns c = rw (sym (c .before .before .is-line .ensures) ∙ not-true _ (c .before .if1 .taken)) (c .bare .ensures)
+
+returns-2 : tie.Need-returns-2
+returns-2 c = rw (sym (c .before .is-line .ensures) ∙ not-false _ (c .if1 .left))
+
+pub line-by-spec : {M : Type 1} → statement M
+line-by-spec = tie.close (tie.spec is-line-requires bare-requires returns returns-2)

@@ -1,0 +1,38 @@
+-- `told::rule_of` tests as the specification does, one after the other.
+use mathlib.Core.Path.{sym, _∙_}
+use borrow.Author.Tests.{eq-eqb, ne-eqb}
+use Rattle.explain.specs.Inner.Telling.{ruleOf}
+use borrow.Author.Needs.{needs}
+use Rattle.explain.proofs.told.rule_of.Statement.{statement}
+use Rattle.explain.proofs.told.rule_of.Tie as tie
+
+returns : tie.Need-returns
+unfolding ruleOf
+returns c = rw (eq-eqb _ _ (c .if1 .taken))
+
+returns-2 : tie.Need-returns-2
+unfolding ruleOf
+returns-2 c = rw (ne-eqb _ _ (c .before .before .if1 .left), eq-eqb _ _ (c .if2 .taken))
+
+returns-3 : tie.Need-returns-3
+unfolding ruleOf
+returns-3 c = rw (ne-eqb _ _ (c .before .before .before .before .if1 .left), ne-eqb _ _ (c .before .before .if2 .left), eq-eqb _ _ (c .if3 .taken))
+
+returns-4 : tie.Need-returns-4
+unfolding ruleOf
+returns-4 c = rw (ne-eqb _ _ (c .before .before .before .before .before .before .if1 .left), ne-eqb _ _ (c .before .before .before .before .if2 .left), ne-eqb _ _ (c .before .before .if3 .left), eq-eqb _ _ (c .if4 .taken))
+
+is-none-requires : tie.Need-is-none-requires
+is-none-requires c κs = search needs
+
+returns-5 : tie.Need-returns-5
+unfolding ruleOf
+returns-5 c = rw (ne-eqb _ _ (c .before .before .before .before .before .before .before .before .if1 .left), ne-eqb _ _ (c .before .before .before .before .before .before .if2 .left), ne-eqb _ _ (c .before .before .before .before .if3 .left), ne-eqb _ _ (c .before .before .if4 .left), sym (c .before .is-none .ensures) ∙ c .if5 .taken)
+
+returns-6 : tie.Need-returns-6
+unfolding ruleOf
+returns-6 c = rw (ne-eqb _ _ (c .before .before .before .before .before .before .before .before .if1 .left), ne-eqb _ _ (c .before .before .before .before .before .before .if2 .left), ne-eqb _ _ (c .before .before .before .before .if3 .left), ne-eqb _ _ (c .before .before .if4 .left), sym (c .before .is-none .ensures) ∙ c .if5 .left)
+
+pub rule-of-spec : {M : Type 1} → statement M
+rule-of-spec =
+    tie.close (tie.spec returns returns-2 returns-3 returns-4 is-none-requires returns-5 returns-6)

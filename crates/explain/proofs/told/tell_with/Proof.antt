@@ -1,0 +1,25 @@
+-- `told::tell_with` puts the parts together.
+use Rattle.explain.specs.Inner.Telling.{toldWith}
+use borrow.Author.Needs.{needs}
+use Rattle.explain.proofs.told.tell_with.Statement.{statement}
+use Rattle.explain.proofs.told.tell_with.Tie as tie
+
+rule-of-requires : tie.Need-rule-of-requires
+rule-of-requires c κs = search needs
+
+fit-requires : tie.Need-fit-requires
+fit-requires c κs = search needs
+
+line-by-requires : tie.Need-line-by-requires
+line-by-requires c κs = search needs
+
+shares-by-requires : tie.Need-shares-by-requires
+shares-by-requires c κs = search needs
+
+returns : tie.Need-returns
+unfolding toldWith
+returns c = rw (c .before .line-by .ensures, c .before .before .before .before .before .before .before .before .before .before .rule-of .ensures, c .shares-by .ensures, c .before .before .before .before .before .fit .ensures .0, c .before .before .before .before .before .fit .ensures .1)
+
+pub tell-with-spec : {M : Type 1} → statement M
+tell-with-spec =
+    tie.close (tie.spec rule-of-requires fit-requires line-by-requires shares-by-requires returns)

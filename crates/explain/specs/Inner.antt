@@ -1,0 +1,4 @@
+-- What the contracts of inner functions say. No definition of 01's rules stands here.
+pub mod Looking
+pub mod Holding
+pub mod Telling

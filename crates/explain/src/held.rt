@@ -1,0 +1,259 @@
+// The span that a slot lies in, and how it is scaled before the slot (01, Spans).
+use crate::Spanned;
+use crate::back;
+use rules::Head;
+use rules::opening;
+use rules::range;
+use rules::readings;
+use rules::readings::Next;
+use rules::spans;
+use rules::spans::Scaling;
+use rules::spans::Summary;
+ghost use mathlib.Core.Bool.{cond};
+ghost use mathlib.Core.List.{[]};
+ghost use mathlib.Core.Option.{some};
+ghost use mathlib.Core.Path.{_≡_};
+ghost use Prim.Native.Nat.{_+_, _/_, _<_, _≤_};
+ghost use lib.Dec.{eqb};
+ghost use lib.ListN.{length};
+ghost use Rattle.rules.specs.Opening.{slotsPerDay, slotCount};
+ghost use Rattle.rules.specs.Spans.{lastRead};
+ghost use Rattle.rules.specs.Inner.Lent.{lentSlots, lentAgreed, lentCells, cells, Lent, Settled, Dialled, Widths, Whole};
+ghost use Rattle.rules.specs.Inner.Summaries.{summaryOf};
+ghost use Rattle.rules.specs.Inner.Stretches.{nextMeant, spanStretch, stretchAt};
+ghost use Rattle.explain.specs.Explain.{spannedBy, noneSpanned, earlier, later};
+ghost use Rattle.explain.specs.Inner.Holding.{unscaled, scalingWith, spannedWith, Between};
+
+// Where nothing is scaled, E is 0.
+pub struct Held {
+    pub span: Spanned,
+    pub by: Scaling,
+}
+
+// The last boundary up to `day` that has a reading.
+fn last_read(reads: &[u32], day: usize) -> Next
+    requires { ⌜ day < length (now reads) ⌝ }
+    ensures { λ r. ⌜ nextMeant r ≡ lastRead (now (reads .entry)) day ⌝ }
+{
+    let mut d = day;
+    while 0 < d {
+        if reads[d] != 0 {
+            return Next::At(d);
+        }
+        d -= 1;
+    }
+    if reads[0] != 0 {
+        return Next::At(0);
+    }
+    Next::Nowhere
+}
+
+// The sums of `count` slots from slot `start`.
+fn sums(
+    head: Head,
+    values: &[u32],
+    versions: &[u32],
+    statuses: &[u8],
+    holidays: &[u8],
+    agreed: &[u32],
+    agreed_versions: &[u32],
+    start: usize,
+    count: usize,
+) -> Summary
+    requires { ⌜ Lent head (lentSlots values versions statuses) (now holidays) × Settled head (lentAgreed agreed «agreed_versions») × (start < slotCount head) × (start + count ≤ slotCount head) ⌝ }
+    ensures { λ r. ⌜ r ≡ summaryOf head (lentSlots (values .entry) (versions .entry) (statuses .entry)) (lentAgreed (agreed .entry) («agreed_versions» .entry)) (now (holidays .entry)) start count ⌝ }
+{
+    let here = back::fills_before(head, values, versions, statuses, agreed_versions, start);
+    spans::summarise(
+        head,
+        values,
+        versions,
+        statuses,
+        holidays,
+        agreed,
+        agreed_versions,
+        here,
+        count,
+    )
+}
+
+fn no_scaling() -> Scaling
+    ensures { λ r. ⌜ r ≡ unscaled ⌝ }
+{
+    Scaling {
+        t: 0,
+        whole: 0,
+        extra: 0,
+        passed: 0,
+    }
+}
+
+// The scaling of a span with this state, these sums and this R, where the slots before a slot have the sums `before`.
+fn scaling_with(state: u8, sum: Summary, before: Summary, r: u64) -> Scaling
+    requires { ⌜ (state ≡ 1 → sum .actual ≤ r) ⌝ }
+    ensures { λ s. ⌜ s ≡ scalingWith state sum before r ⌝ }
+{
+    if state != 1 {
+        return no_scaling();
+    }
+    let by = spans::scaling_of(sum, r);
+    if sum.shapes == 0 {
+        return Scaling {
+            t: by.t,
+            whole: by.whole,
+            extra: by.extra,
+            passed: before.count,
+        };
+    }
+    Scaling {
+        t: by.t,
+        whole: by.whole,
+        extra: by.extra,
+        passed: before.shapes,
+    }
+}
+
+// A span's figures, from its sums.
+fn spanned(
+    head: Head,
+    readings: &[u32],
+    widths: &[u16],
+    first: usize,
+    last: usize,
+    sum: Summary,
+) -> Spanned
+    requires { ⌜ Dialled head (now readings) × Widths head (now widths) × (first ≤ head .days) × (last ≤ head .days) × (head .days ≤ 400) ⌝ }
+    ensures { λ r. ⌜ r ≡ spannedWith head (now (readings .entry)) (now (widths .entry)) first last sum ⌝ }
+{
+    let advance = spans::advanced(readings[first], readings[last]);
+    let range = range::range_of(advance, widths[first], widths[last]);
+    let r = range::least_in(range, sum.actual);
+    Spanned {
+        inside: true,
+        first: first as u32,
+        last: last as u32,
+        lowest: range.lowest,
+        highest: range.highest,
+        advance: r,
+        actual: sum.actual,
+        state: spans::state_of(sum, range, r, head.tolerance as u64),
+    }
+}
+
+// The span between two boundaries, before slot `slot` of it.
+fn between(
+    head: Head,
+    values: &[u32],
+    versions: &[u32],
+    statuses: &[u8],
+    holidays: &[u8],
+    readings: &[u32],
+    agreed: &[u32],
+    agreed_versions: &[u32],
+    widths: &[u16],
+    slot: usize,
+    first: usize,
+    last: usize,
+) -> Held
+    requires { ⌜ Lent head (lentSlots values versions statuses) (now holidays) × Dialled head (now readings) × Settled head (lentAgreed agreed «agreed_versions») × Widths head (now widths) × Between head slot first last ⌝ }
+    ensures { λ r. ⌜ (r .span ≡ spannedBy head (cells (lentSlots (values .entry) (versions .entry) (statuses .entry)) (now (holidays .entry)) (now (readings .entry)) [] (lentAgreed (agreed .entry) («agreed_versions» .entry)) (now (widths .entry))) (some first) (some last)) × (r .by ≡ spanStretch head (cells (lentSlots (values .entry) (versions .entry) (statuses .entry)) (now (holidays .entry)) (now (readings .entry)) [] (lentAgreed (agreed .entry) («agreed_versions» .entry)) (now (widths .entry))) first last slot .by) ⌝ }
+{
+    let day = opening::slots_per_day(head);
+    let start = first * day;
+    let sum = sums(
+        head,
+        values,
+        versions,
+        statuses,
+        holidays,
+        agreed,
+        agreed_versions,
+        start,
+        (last - first) * day,
+    );
+    let before = sums(
+        head,
+        values,
+        versions,
+        statuses,
+        holidays,
+        agreed,
+        agreed_versions,
+        start,
+        slot - start,
+    );
+    let span = spanned(head, readings, widths, first, last, sum);
+    Held {
+        span: span,
+        by: scaling_with(span.state, sum, before, span.advance),
+    }
+}
+
+pub fn no_span() -> Spanned
+    ensures { λ r. ⌜ r ≡ noneSpanned ⌝ }
+{
+    Spanned {
+        inside: false,
+        first: 0,
+        last: 0,
+        lowest: 0,
+        highest: 0,
+        advance: 0,
+        actual: 0,
+        state: 0,
+    }
+}
+
+// A slot that lies in no span.
+fn outside() -> Held
+    ensures { λ r. ⌜ (r .span ≡ noneSpanned) × (r .by ≡ unscaled) ⌝ }
+{
+    Held {
+        span: no_span(),
+        by: no_scaling(),
+    }
+}
+
+// The span that slot `slot` lies in.
+pub fn hold(
+    head: Head,
+    values: &[u32],
+    versions: &[u32],
+    statuses: &[u8],
+    holidays: &[u8],
+    readings: &[u32],
+    reads: &[u32],
+    agreed: &[u32],
+    agreed_versions: &[u32],
+    widths: &[u16],
+    slot: usize,
+) -> Held
+    requires { ⌜ Whole head (lentCells values versions statuses holidays readings reads agreed «agreed_versions» widths) × (slot < slotCount head) ⌝ }
+    ensures { λ r. ⌜
+        (let b = lentCells (values .entry) (versions .entry) (statuses .entry) (holidays .entry) (readings .entry) (reads .entry) (agreed .entry) («agreed_versions» .entry) (widths .entry) in
+        (r .span ≡ spannedBy head b (earlier b (slot / slotsPerDay head)) (later head b (slot / slotsPerDay head)))
+        × (r .by ≡ stretchAt head b slot .by))
+        ⌝ }
+{
+    let day = slot / opening::slots_per_day(head);
+    let Next::At(first) = last_read(reads, day) else {
+        return outside();
+    };
+    let Next::At(last) = readings::next_read(reads, day + 1) else {
+        return outside();
+    };
+    between(
+        head,
+        values,
+        versions,
+        statuses,
+        holidays,
+        readings,
+        agreed,
+        agreed_versions,
+        widths,
+        slot,
+        first,
+        last,
+    )
+}
