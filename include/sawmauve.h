@@ -135,6 +135,35 @@ uint64_t sawmauve_publish(
     const uint16_t *widths, size_t widths_len,
     uint8_t *out, size_t out_len);
 
+/* Explains a slot: 0 and its fields; or 1, 2, 3 or 11, the lowest that applies and 2 also where fields_len is not 34, and the fields stay
+ * as they were. Places of the fields, each 0 where it does not apply:
+ *    0      cause: 0 none, 1 gap, 2 time change, 3 partial, 4 demand
+ *    1      rule that applied: 0 delivered, 1 outage zero, 2 linear, 3 same day, 4 none, 5 agreed
+ *    2..4   outcome before scaling: value, quality letter as ASCII, method
+ *    5..8   where the rule is linear: the values before and after the run, the slot's place in it from 1, the run's slots
+ *    9      where the rule is same day: the number of references;
+ *   10..13  their days, counted from 0 in the book, nearest first; 14..17 their values
+ *   18      1 where the slot lies in a span; 19, 20 its boundaries, 21, 22 its lowest and highest advance, 23 the advance that it is held
+ *           to, 24 the sum of its A and F slots, 25 its state
+ *   26      1 where the slot is scaled; 27 what is shared out, 28 the sum of the shapes of the span's S slots, 29 that of those before the
+ *           slot, 30 that up to and with the slot
+ *   31..33  outcome, as published: value, quality letter, method */
+#define SAWMAUVE_FIELDS 34
+uint32_t sawmauve_explain(
+    SAWMAUVE_HEAD,
+    const uint32_t *values, size_t values_len,
+    const uint32_t *versions, size_t versions_len,
+    const uint8_t *statuses, size_t statuses_len,
+    const uint8_t *holidays, size_t holidays_len,
+    const uint32_t *readings, size_t readings_len,
+    const uint32_t *reads, size_t reads_len,
+    const uint32_t *agreed, size_t agreed_len,
+    const uint32_t *agreed_versions, size_t agreed_versions_len,
+    const uint16_t *counts, size_t counts_len,
+    const uint16_t *widths, size_t widths_len,
+    uint32_t slot,
+    uint64_t *fields, size_t fields_len);
+
 /* Reads a file: 0 and the figures; or 8 or 9, or 2 where figures_len is not 9, and the figures stay as they were. */
 uint32_t sawmauve_read(
     const uint8_t *bytes, size_t bytes_len,

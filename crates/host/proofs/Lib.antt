@@ -1,2 +1,3 @@
 pub mod Told
 pub mod Reporting
+pub mod Explaining

@@ -5,3 +5,4 @@ pub mod Stays
 pub mod Storage
 pub mod Limits
 pub mod Simulating
+pub mod Follow

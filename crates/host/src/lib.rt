@@ -1,6 +1,7 @@
 // The public calls for hosts in C and Rust: numbers, word lists and byte lists, each list a pointer and a length.
 mod chargers;
 mod files;
+mod follow;
 mod limits;
 mod nem12;
 mod simulating;

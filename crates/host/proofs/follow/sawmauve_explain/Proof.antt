@@ -1,0 +1,67 @@
+-- `sawmauve_explain`: 1, then 2 for the fields, then what explaining answers.
+use mathlib.Core.Path.{_∙_}
+use Rattle.book.specs.Inner.Lent.{lentBook}
+use Rattle.host.specs.Codes.{headOf}
+use Rattle.host.proofs.Explaining.{refused-head, refused-fields, refused-rest, explained}
+use borrow.Author.Needs.{needs}
+use Rattle.host.proofs.follow.sawmauve_explain.Statement.{statement}
+use Rattle.host.proofs.follow.sawmauve_explain.Tie as tie
+use Rattle.host.proofs.follow.sawmauve_explain.Reads as reads
+
+head-of-requires : tie.Need-head-of-requires
+head-of-requires c κs = search needs
+
+explain-requires : tie.Need-explain-requires
+explain-requires c κs = search needs
+
+returns : tie.Need-returns
+returns c = let a = (c .before .before .before .before .before .before .before .before .before .before .before .before .before .before .before) .args in
+    let h = headOf (a .year) (a .month) (a .day) (a .days) (a .interval) (a .limit) (a .tolerance) in
+    let b = lentBook (a .values) (a .versions) (a .statuses) (a .holidays) (a .readings) (a .reads) (a .agreed) (a .agreed-versions) (a .counts) (a .widths) in
+    refused-head h b (a .slot) (a .fields .now) (c .before .before .explain .result) (rw (c .before .before .before .head-of .ensures) at (c .before .before .explain .ensures)) (c .if1 .taken)
+
+returns-2 : tie.Need-returns-2
+returns-2 c = let a = (c .before .before .before .before .before .before .before .before .before .before .before .before .before .before .before .before) .args in
+    let h = headOf (a .year) (a .month) (a .day) (a .days) (a .interval) (a .limit) (a .tolerance) in
+    let b = lentBook (a .values) (a .versions) (a .statuses) (a .holidays) (a .readings) (a .reads) (a .agreed) (a .agreed-versions) (a .counts) (a .widths) in
+    refused-fields h b (a .slot) (a .fields .now) (c .before .before .before .explain .result) (rw (c .before .before .before .before .head-of .ensures) at (c .before .before .before .explain .ensures)) (c .before .if1 .left) (c .if2 .taken)
+
+cast-result : tie.Need-cast-result
+cast-result c = search needs
+
+returns-3 : tie.Need-returns-3
+returns-3 c = let a = (c .before .before .before .before .before .before .before .before .before .before .before .before .before .before .before .before .before .before .before) .args in
+    let h = headOf (a .year) (a .month) (a .day) (a .days) (a .interval) (a .limit) (a .tolerance) in
+    let b = lentBook (a .values) (a .versions) (a .statuses) (a .holidays) (a .readings) (a .reads) (a .agreed) (a .agreed-versions) (a .counts) (a .widths) in
+    refused-rest h b (a .slot) (a .fields .now) (c .before .before .before .before .before .before .explain .result) (rw (c .before .before .before .before .before .before .before .head-of .ensures) at (c .before .before .before .before .before .before .explain .ensures)) (c .before .before .before .if2 .left) (c .before .if3 .taken)
+
+fields-of-requires : tie.Need-fields-of-requires
+fields-of-requires c κs = search needs
+
+put-requires : tie.Need-put-requires
+put-requires c κs = c .before .before .before .before .if2 .left
+
+same-length : tie.Need-same-length
+same-length c = search needs
+
+returns-4 : tie.Need-returns-4
+returns-4 c = let a = (c .before .before .before .before .before .before .before .before .before .before .before .before .before .before .before .before .before .before .before .before .before .before .before) .args in
+    let h = headOf (a .year) (a .month) (a .day) (a .days) (a .interval) (a .limit) (a .tolerance) in
+    let b = lentBook (a .values) (a .versions) (a .statuses) (a .holidays) (a .readings) (a .reads) (a .agreed) (a .agreed-versions) (a .counts) (a .widths) in
+    let x = explained h b (a .slot) (a .fields .now) (c .before .before .before .before .before .before .before .before .before .before .explain .result) (rw (c .before .before .before .before .before .before .before .before .before .before .before .head-of .ensures) at (c .before .before .before .before .before .before .before .before .before .before .explain .ensures)) (c .before .before .before .before .before .before .before .if2 .left) (c .before .before .before .before .before .if3 .left) in
+    (x .0, c .before .before .put .ensures ∙ c .before .before .before .fields-of .ensures ∙ x .1)
+
+pub sawmauve-explain-spec : {M : Type 1} → statement M
+sawmauve-explain-spec =
+    tie.close
+    (tie.spec
+    head-of-requires
+    explain-requires
+    returns
+    returns-2
+    cast-result
+    returns-3
+    fields-of-requires
+    put-requires
+    same-length
+    returns-4)
