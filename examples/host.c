@@ -14,7 +14,7 @@
 static uint32_t values[SLOTS], versions[SLOTS], readings[DAYS + 1], reads[DAYS + 1], agreed[SLOTS], agreed_versions[SLOTS];
 static uint16_t counts[DAYS], widths[DAYS + 1];
 static uint8_t statuses[SLOTS], holidays[DAYS], out[LENGTH + 1];
-static uint64_t figures[SAWMAUVE_FIGURES];
+static uint64_t figures[SAWMAUVE_FIGURES], fields[SAWMAUVE_FIELDS];
 
 static uint32_t deliver(uint32_t slot, uint32_t version, uint32_t value)
 {
@@ -31,6 +31,13 @@ static uint64_t publish(size_t room)
     return sawmauve_publish(
         HEAD, values, SLOTS, versions, SLOTS, statuses, SLOTS, holidays, DAYS, readings, DAYS + 1, reads, DAYS + 1, agreed, SLOTS,
         agreed_versions, SLOTS, counts, DAYS, widths, DAYS + 1, out, room);
+}
+
+static uint32_t explain(uint32_t slot, size_t room)
+{
+    return sawmauve_explain(
+        HEAD, values, SLOTS, versions, SLOTS, statuses, SLOTS, holidays, DAYS, readings, DAYS + 1, reads, DAYS + 1, agreed, SLOTS,
+        agreed_versions, SLOTS, counts, DAYS, widths, DAYS + 1, slot, fields, room);
 }
 
 int main(void)
@@ -99,6 +106,15 @@ int main(void)
     EXPECT(strcmp(line, "8887 1 30 47 1 0 4800") == 0);
     EXPECT(figures[SAWMAUVE_LAYOUT] == 3);
 
+    /* Slot 10 is a gap that the line fills from 100 to 100, the first of one; it lies in no span. */
+    EXPECT(explain(10, SAWMAUVE_FIELDS - 1) == 2);
+    EXPECT(explain(SLOTS, SAWMAUVE_FIELDS) == 3);
+    EXPECT(fields[2] == 0);
+    EXPECT(explain(10, SAWMAUVE_FIELDS) == SAWMAUVE_DONE);
+    EXPECT(fields[0] == 1 && fields[1] == 2 && fields[2] == 100 && fields[3] == 'S' && fields[4] == 2);
+    EXPECT(fields[5] == 100 && fields[6] == 100 && fields[7] == 1 && fields[8] == 1 && fields[18] == 0);
+    EXPECT(fields[31] == 100 && fields[32] == 'S' && fields[33] == 2);
+
     /* Slot 10 is settled with the skipper; a good slot keeps what was delivered. */
     EXPECT(agree(10, 1, 100000000) == 12);
     EXPECT(agree(10, 2, 600) == SAWMAUVE_STORED);
@@ -110,5 +126,7 @@ int main(void)
     EXPECT(sawmauve_read(out, LENGTH, figures, SAWMAUVE_FIGURES) == SAWMAUVE_DONE);
     EXPECT(figures[SAWMAUVE_LAYOUT] == 3 && figures[SAWMAUVE_SUBSTITUTED] == 1 && figures[SAWMAUVE_SUM] == 5300);
     EXPECT(out[64] == 'F' && out[65] == 5);
+    EXPECT(explain(10, SAWMAUVE_FIELDS) == SAWMAUVE_DONE);
+    EXPECT(fields[1] == 5 && fields[31] == 600 && fields[32] == 'F' && fields[33] == 5);
     return 0;
 }

@@ -1,9 +1,9 @@
 #!/bin/sh
-# Builds publish, answers, days and show, plays the logs of examples/ and compares; then logs that are none, and logs that come
+# Builds publish, answers, days, follow and show, plays the logs of examples/ and compares; then logs that are none, and logs that come
 # in other pieces. Exits 1 on a difference.
 set -u
 cd "$(dirname "$0")/.."
-rt check publish answers days show > /dev/null || { echo "a program is not proved, or differs on its own input"; exit 1; }
+rt check publish answers days follow show > /dev/null || { echo "a program is not proved, or differs on its own input"; exit 1; }
 work=$(mktemp -d) || exit 2
 trap 'rm -rf "$work"' EXIT
 bad=0
@@ -131,6 +131,43 @@ target/bin/publish < "$work/large" > "$work/out" 2> "$work/err"
 same "$work/out" "$work/month.file" 'several MB: file'
 target/bin/answers < "$work/large" > "$work/out"
 if [ "$(wc -l < "$work/out")" -eq "$(grep -c '^[a-z]' "$work/large")" ]; then ok 'several MB: answers'; else differs 'several MB: answers'; fi
+
+# what README shows of follow, which is the slot's record in the file
+told() {
+    target/bin/follow "$1" "$2" < examples/month.log > "$work/out" 2> "$work/err"
+    awk -v command="    target/bin/follow $1 $2 < examples/month.log" '
+        $0 == command { on = 1; next }
+        on && /^    / { print substr($0, 5); seen = 1; next }
+        on && seen { exit }' README.md > "$work/want"
+    if [ -s "$work/out" ] && [ ! -s "$work/err" ] && cmp -s "$work/out" "$work/want"; then ok "follow $1 $2"; else differs "follow $1 $2"; fi
+    at=$(sed -n 's/^slot \([0-9]*\):.*/\1/p' "$work/out")
+    tail -c +$((6 * at + 1)) "$work/month.file" | od -An -v -N6 -tu1 | awk '{ printf "%d %c %d\n", $1 + 256 * ($2 + 256 * ($3 + 256 * $4)), $5, $6 }' > "$work/want"
+    sed -n 's/^published: //p' "$work/out" > "$work/line"
+    same "$work/line" "$work/want" "follow $1 $2: the slot's record"
+}
+told 2024-05-23 15:10
+told 2024-05-11 05:40
+
+# untold MESSAGE ARGUMENT..: nothing on standard output, one line on standard error
+untold() {
+    printf '%s\n' "$1" > "$work/want"
+    shift
+    target/bin/follow "$@" < "${log:-examples/month.log}" > "$work/out" 2> "$work/err"
+    if [ ! -s "$work/out" ] && cmp -s "$work/err" "$work/want"; then ok "untold: $*"; else differs "untold: $*"; fi
+}
+wants='follow wants a date and a time of day, as 2024-05-03 05:00'
+untold "$wants"
+untold "$wants" 2024-05-03
+untold "$wants" 2024-05-03 24:00
+untold "$wants" 2024-05-03 5:00
+untold "$wants" 2024-02-30 05:00
+untold "$wants" 2024-05-03 05:00 05:30
+untold 'no slot of this log' 2024-04-30 05:00
+untold 'no slot of this log' 2024-06-01 00:00
+{ echo "$open"; awk 'BEGIN { for (i = 1; i <= 2000; i++) print "delivery 0 " i " 100 0" }'; } > "$work/log"
+log=$work/log untold 'too many lines name the slot' 2024-05-01 00:00
+{ echo "$open"; echo 'delivery 0 1 100'; } > "$work/log"
+log=$work/log untold 'line 2: not a call' 2024-05-01 00:00
 
 for program in publish answers days; do
     "target/bin/$program" < / > "$work/out" 2> "$work/err"
