@@ -1,5 +1,5 @@
 #!/bin/sh
-# Compares the static library with the second build: random books call by call, damaged files, dials, strips, stays, tables of limits, exports, runs of a berth, books before and after one more delivery, and every date.
+# Compares the static library with the second build: random books call by call, damaged files, dials, strips, stays, tables of limits, exports, runs of a berth, books before and after one more delivery, ways of single slots, and every date.
 # Arguments, each with a default: seed, number of books, number of damaged files.
 set -e
 cd "$(dirname "$0")/.."
@@ -17,6 +17,7 @@ compare limits -- --seed "$seed"
 compare nem12 -- --seed "$seed"
 compare simulate -- --seed "$seed"
 compare reach -- --seed "$seed"
+compare explain -- --seed "$seed"
 rt check show publish nem12 > /dev/null
 compare dates -- target/bin/show
 # the sample month's export, read back by a reader that knows nothing of the writer
