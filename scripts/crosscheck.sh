@@ -1,12 +1,13 @@
 #!/bin/sh
 # Compares the static library with the second build: random books call by call, damaged files, dials, strips, stays, tables of limits, exports, runs of a berth, books before and after one more delivery, ways of single slots, and every date.
-# Arguments, each with a default: seed, number of books, number of damaged files.
+# Arguments, each with a default: seed, number of books, number of damaged files. Where SAWMAUVE_LIB names a folder, the archive in it is compared and none is built.
 set -e
 cd "$(dirname "$0")/.."
-rt staticlib host > /dev/null
+[ -n "${SAWMAUVE_LIB:-}" ] || rt staticlib host > /dev/null
+export SAWMAUVE_LIB="${SAWMAUVE_LIB:-$PWD/target/staticlib}"
 seed=${1:-1}
 compare() {
-    SAWMAUVE_LIB="$PWD/target/staticlib" cargo run --quiet --release --offline --features host \
+    cargo run --quiet --release --offline --features host \
         --manifest-path crosscheck/Cargo.toml --bin "$@"
 }
 compare compare -- --seed "$seed" --books "${2:-2000}" --damaged "${3:-20000}"
