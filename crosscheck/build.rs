@@ -1,4 +1,4 @@
-//! With the feature `host`, links `libhost.a` from the folder named by SAWMAUVE_LIB.
+//! With the feature `host`, links `libhost.a` and `libquestions.a` from the folder named by SAWMAUVE_LIB.
 
 use std::env;
 
@@ -9,8 +9,10 @@ fn main() {
         return;
     }
     let folder = env::var("SAWMAUVE_LIB")
-        .expect("the feature `host` needs SAWMAUVE_LIB, the folder that holds libhost.a");
-    println!("cargo:rerun-if-changed={folder}/libhost.a");
+        .expect("the feature `host` needs SAWMAUVE_LIB, the folder that holds both");
     println!("cargo:rustc-link-search=native={folder}");
-    println!("cargo:rustc-link-lib=static=host");
+    for library in ["host", "questions"] {
+        println!("cargo:rerun-if-changed={folder}/lib{library}.a");
+        println!("cargo:rustc-link-lib=static={library}");
+    }
 }

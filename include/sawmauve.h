@@ -135,7 +135,7 @@ uint64_t sawmauve_publish(
     const uint16_t *widths, size_t widths_len,
     uint8_t *out, size_t out_len);
 
-/* Explains a slot: 0 and its fields; or 1, 2, 3 or 11, the lowest that applies and 2 also where fields_len is not 34, and the fields stay
+/* In libquestions.a. Explains a slot: 0 and its fields; or 1, 2, 3 or 11, the lowest that applies and 2 also where fields_len is not 34, and the fields stay
  * as they were. Places of the fields, each 0 where it does not apply:
  *    0      cause: 0 none, 1 gap, 2 time change, 3 partial, 4 demand
  *    1      rule that applied: 0 delivered, 1 outage zero, 2 linear, 3 same day, 4 none, 5 agreed
@@ -225,7 +225,7 @@ uint64_t sawmauve_nem12(
 #define SAWMAUVE_DIFFERENCE 1 /* the published total minus the true total, in Wh */
 #define SAWMAUVE_REPORT 2     /* how many there are */
 
-/* Runs a berth on paper from a seed with `loss` of 1000 slots lost: opens the lists as sawmauve_open does, sends each slot, reads the dial at
+/* In libquestions.a. Runs a berth on paper from a seed with `loss` of 1000 slots lost: opens the lists as sawmauve_open does, sends each slot, reads the dial at
  * both ends, and writes the file, 6 N + 14 + 32 bytes, into the first bytes of out. 0 and the report; or 1, 2 (also where report_len is not
  * 2), 7, 20, 21, and no list, byte or report is changed. */
 uint32_t sawmauve_simulate(

@@ -1,9 +1,12 @@
 #!/bin/sh
-# Compares the static library with the second build: random books call by call, damaged files, dials, strips, stays, tables of limits, exports, runs of a berth, books before and after one more delivery, ways of single slots, and every date.
-# Arguments, each with a default: seed, number of books, number of damaged files. Where SAWMAUVE_LIB names a folder, the archive in it is compared and none is built.
+# Compares the static libraries with the second build: random books call by call, damaged files, dials, strips, stays, tables of limits, exports, runs of a berth, books before and after one more delivery, ways of single slots, and every date.
+# Arguments, each with a default: seed, number of books, number of damaged files. Where SAWMAUVE_LIB names a folder, the archives in it are compared and none is built.
 set -e
 cd "$(dirname "$0")/.."
-[ -n "${SAWMAUVE_LIB:-}" ] || rt staticlib host > /dev/null
+if [ -z "${SAWMAUVE_LIB:-}" ]; then
+    rt staticlib host > /dev/null
+    rt staticlib questions > /dev/null
+fi
 export SAWMAUVE_LIB="${SAWMAUVE_LIB:-$PWD/target/staticlib}"
 seed=${1:-1}
 compare() {

@@ -1,4 +1,4 @@
-//! The other build: `libhost.a`, behind safe functions. The only unsafe code.
+//! The other build: `libhost.a` and `libquestions.a`, behind safe functions. The only unsafe code.
 
 use crate::book::Filed;
 use crate::calls::Lists;

@@ -4,5 +4,3 @@ pub mod Market
 pub mod Stays
 pub mod Storage
 pub mod Limits
-pub mod Simulating
-pub mod Follow

@@ -1,10 +1,8 @@
 // The public calls for hosts in C and Rust: numbers, word lists and byte lists, each list a pointer and a length.
 mod chargers;
 mod files;
-mod follow;
 mod limits;
 mod nem12;
-mod simulating;
 mod stays;
 mod storage;
 

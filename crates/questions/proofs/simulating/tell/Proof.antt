@@ -7,10 +7,10 @@ use mir.Syntax.{w8, w64}
 use mir.Val.{Fits, SFits}
 use mir.ValLaws.{toZ-ofZ, toZ-pos}
 use mathlib.Core.Path.{refl}
-use Rattle.host.proofs.Reporting.{two-set}
+use Rattle.questions.proofs.Reporting.{two-set}
 use borrow.Author.Needs.{needs}
-use Rattle.host.proofs.simulating.tell.Statement.{statement}
-use Rattle.host.proofs.simulating.tell.Tie as tie
+use Rattle.questions.proofs.simulating.tell.Statement.{statement}
+use Rattle.questions.proofs.simulating.tell.Tie as tie
 
 enum-known-simulated : tie.Need-enum-known-simulated
 enum-known-simulated c = search needs

@@ -4,8 +4,8 @@ use rules::opening;
 ghost use mathlib.Core.Path.{_≡_};
 ghost use lib.ListN.{length};
 ghost use Rattle.book.specs.Inner.Lent.{lentBook, HoldBook};
 ghost use Rattle.host.specs.Codes.{headOf};
-ghost use Rattle.host.specs.Simulating.{hostAnswer, simulatedCode, reportIn, hostLists, hostBytes, hostReport};
+ghost use Rattle.questions.specs.Simulating.{hostAnswer, simulatedCode, reportIn, hostLists, hostBytes, hostReport};
 
 // The state and the difference into the report, and 0; else the refusal's number.
 fn tell(simulated: Simulated, report: &mut [i64]) -> u32
@@ -59,7 +59,7 @@ pub extern "C" fn sawmauve_simulate(
         × (now (report .exit) ≡ hostReport head seed loss book given told))
         ⌝ }
 {
-    let head = crate::head_of(year, month, day, days, interval, limit, tolerance);
+    let head = host::head_of(year, month, day, days, interval, limit, tolerance);
     if !opening::head_ok(head) {
         return 1;
     }

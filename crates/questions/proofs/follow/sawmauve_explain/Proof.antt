@@ -1,12 +1,12 @@
 -- `sawmauve_explain`: 1, then 2 for the fields, then what explaining answers.
 use mathlib.Core.Path.{_∙_}
 use Rattle.book.specs.Inner.Lent.{lentBook}
 use Rattle.host.specs.Codes.{headOf}
-use Rattle.host.proofs.Explaining.{refused-head, refused-fields, refused-rest, explained}
+use Rattle.questions.proofs.Explaining.{refused-head, refused-fields, refused-rest, explained}
 use borrow.Author.Needs.{needs}
-use Rattle.host.proofs.follow.sawmauve_explain.Statement.{statement}
-use Rattle.host.proofs.follow.sawmauve_explain.Tie as tie
-use Rattle.host.proofs.follow.sawmauve_explain.Reads as reads
+use Rattle.questions.proofs.follow.sawmauve_explain.Statement.{statement}
+use Rattle.questions.proofs.follow.sawmauve_explain.Tie as tie
+use Rattle.questions.proofs.follow.sawmauve_explain.Reads as reads
 
 head-of-requires : tie.Need-head-of-requires
 head-of-requires c κs = search needs

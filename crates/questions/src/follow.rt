@@ -1,15 +1,15 @@
 // The export that explains a slot, its fields as numbers.
-use crate::head_of;
 use explain::Explanation;
 use explain::Rule;
+use host::head_of;
 use rules::Quality;
 use rules::tests::Cause;
 ghost use mathlib.Core.Path.{_≡_};
 ghost use lib.ListN.{length};
 ghost use Rattle.book.specs.Inner.Lent.{lentBook};
 ghost use Rattle.file.specs.Layout.{letter};
 ghost use Rattle.host.specs.Codes.{headOf};
-ghost use Rattle.host.specs.Follow.{causeCode, ruleCode, bit, fieldsOf, explainCode, fieldsAfter};
+ghost use Rattle.questions.specs.Follow.{causeCode, ruleCode, bit, fieldsOf, explainCode, fieldsAfter};
 
 fn cause_code(cause: Cause) -> u64
     ensures { λ r. ⌜ r ≡ causeCode cause ⌝ }

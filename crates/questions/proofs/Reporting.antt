@@ -13,7 +13,7 @@ use Rattle.book.specs.Cells.{Book}
 use Rattle.berth.specs.declared.Simulated.{Simulated}
 use Rattle.berth.specs.Run.{simulateAnswer, simulateLists, simulateBytes}
 use Rattle.berth.proofs.Lists.{SameLists, one-by-one}
-use Rattle.host.specs.Simulating.{hostAnswer, simulatedCode, reportIn, hostLists, hostBytes, hostReport}
+use Rattle.questions.specs.Simulating.{hostAnswer, simulatedCode, reportIn, hostLists, hostBytes, hostReport}
 
 -- both places of a report
 pub two-set : (l : List ℤ) (x y : ℤ) → length l ≡ 2 → set (set l 0 x) 1 y ≡ x ∷ y ∷ []

@@ -1,9 +1,9 @@
 -- `follow::fields_of`: each place holds its field.
 use mathlib.Core.List.{[], _∷_}
-use Rattle.host.specs.Follow.{fieldsOf}
+use Rattle.questions.specs.Follow.{fieldsOf}
 use borrow.Author.Needs.{needs}
-use Rattle.host.proofs.follow.fields_of.Statement.{statement}
-use Rattle.host.proofs.follow.fields_of.Tie as tie
+use Rattle.questions.proofs.follow.fields_of.Statement.{statement}
+use Rattle.questions.proofs.follow.fields_of.Tie as tie
 
 cause-code-requires : tie.Need-cause-code-requires
 cause-code-requires c κs = search needs

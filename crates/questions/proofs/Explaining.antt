@@ -12,7 +12,7 @@ use Rattle.rules.specs.Opening.{headOk, slotCount}
 use Rattle.book.specs.Cells.{Book, bookFits, bookOk}
 use Rattle.explain.specs.declared.Explained.{Explained}
 use Rattle.explain.specs.Explain.{explanationOf, explainRefusal, explainAnswer}
-use Rattle.host.specs.Follow.{fieldsOf, explainCode, fieldsAfter}
+use Rattle.questions.specs.Follow.{fieldsOf, explainCode, fieldsAfter}
 
 -- the tests in their order: head, lists, fields, slot, cells
 abbrev without : Bool → Bool → Bool → Bool → ℕ

@@ -2,10 +2,10 @@
 use mathlib.Core.Path.{sym, _∙_}
 use borrow.Author.Tests.{not-true, not-false}
 use Rattle.replay.proofs.Claim.{same-lists}
-use Rattle.host.proofs.Reporting.{each, bad-head, bad-report, run-told}
+use Rattle.questions.proofs.Reporting.{each, bad-head, bad-report, run-told}
 use borrow.Author.Needs.{needs}
-use Rattle.host.proofs.simulating.sawmauve_simulate.Statement.{statement}
-use Rattle.host.proofs.simulating.sawmauve_simulate.Tie as tie
+use Rattle.questions.proofs.simulating.sawmauve_simulate.Statement.{statement}
+use Rattle.questions.proofs.simulating.sawmauve_simulate.Tie as tie
 
 head-of-requires : tie.Need-head-of-requires
 head-of-requires c κs = search needs

@@ -6,8 +6,8 @@ use native.Mathlib.Numerals.{add-one}
 use native.Mathlib.Omega.{arith}
 use lib.ListN.{length, take, getD, length-set}
 use lib.Seq.{take-suc, take-suc-set, take-all}
-use Rattle.host.proofs.follow.put.Statement.{statement}
-use Rattle.host.proofs.follow.put.Tie as tie
+use Rattle.questions.proofs.follow.put.Statement.{statement}
+use Rattle.questions.proofs.follow.put.Tie as tie
 
 abbrev Inv-loop : tie.InvT-loop
 Inv-loop fields₀ from i₀ fields i = (i ≤ 34) × (length fields ≡ 34) × (take i fields ≡ take i from)
