@@ -12,7 +12,7 @@ use Rattle.rules.specs.declared.spans.Summary.{Summary}
 use Rattle.rules.specs.Lists.{sum}
 use Rattle.rules.specs.Opening.{Slots, Agreed, Cells, slotsPerDay}
 use Rattle.rules.specs.Spans.{leastIn, isNear, stateBy, filled, shape, start, slotsIn, G, range, R, actual, stateOf, T, allZero, e, E, P, spanOf, isS}
-use Rattle.rules.specs.Inner.Lent.{cells}
+use Rattle.rules.specs.Lent.{cells}
 use Rattle.rules.specs.Inner.Summaries.{summaryOf, scalingOf}
 use Rattle.rules.specs.Inner.Stretches.{scalingAt, spanStretch, stretchBy}
 use Rattle.rules.proofs.Shapes.{shape-of-s}

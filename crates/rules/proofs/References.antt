@@ -1,22 +1,24 @@
 -- The search for references week by week, and what is made of them.
-use mathlib.Core.Bool.{true, false}
+use mathlib.Core.Bool.{Bool, true, false, cond}
 use mathlib.Core.List.{List, [], _∷_, _++_, append-assoc, append-nil}
+use mathlib.Core.Logic.{⊎-elim}
 use mathlib.Core.Path.{_≡_, refl, sym, ap, _∙_}
 use Prim.Native.Nat.{ℕ, zero, suc, _+_, _-_, _*_, _/_, _≤_, _<_}
 use native.Mathlib.Numerals.{add-one, sub-one}
 use native.Mathlib.Omega.{arith}
-use borrow.Author.Tests.{lt-ltb, le-ltb, eq-eqb, ne-eqb}
-use lib.Dec.{lit<}
+use borrow.Author.Tests.{lt-ltb, le-ltb, ltb-true, ltb-false, leb-true, leb-false, le-leb, lt-leb, eq-eqb, ne-eqb}
+use lib.Dec.{lit<, leb, ltb}
 use lib.ListN.{length, getD, take, set, length-set}
-use native.Mathlib.Nat.{le-refl, add-mul-div-right, le-div-iff-mul-le, div-lt-iff-lt-mul}
+use native.Mathlib.Nat.{le-refl, add-mul, mul-le-mul-right, add-mul-div-right, le-div-iff-mul-le, div-lt-iff-lt-mul}
 use lib.Seq.{take-suc-set, take-nil}
 use Rattle.rules.specs.declared.Head.{Head}
 use Rattle.rules.specs.declared.Quality.the-variants.{S, N}
 use Rattle.rules.specs.Opening.{Slots, slotsPerDay}
 use Rattle.rules.specs.Weeks.{firstBack, farthestBack, weeksWithin}
-use Rattle.rules.specs.Filling.{total, isReference, weeksBack, references, meanOf, fromReferences}
-use Rattle.rules.specs.Inner.Ways.{InBook}
+use Rattle.rules.specs.Filling.{total, isReference, weekBack, weeksBack, references, meanOf, fromReferences}
+use Rattle.rules.specs.Inner.Ways.{searched, InBook}
 use Rattle.rules.proofs.Bounds.{Bounded}
+use Rattle.rules.proofs.Logic.{either}
 
 -- one more element
 total-suc : (l : List ℕ) (i : ℕ) → total (take i l) + getD l i 0 ≡ total (take (suc i) l)
@@ -44,24 +46,101 @@ module _ (h : Head) (s : Slots) (holidays : List ℕ) (days j : ℕ) where
   abbrev earlier : ℕ
   earlier = j - days * slotsPerDay h
 
-  weeks-none : weeksBack h s holidays days j 0 ≡ []
-  unfolding weeksBack
+  weeks-none : searched h s holidays days j 0 ≡ []
+  unfolding searched
   weeks-none = refl
 
-  weeks-out : (k : ℕ) → j < days * slotsPerDay h → weeksBack h s holidays days j k ≡ []
-  unfolding weeksBack
+  weeks-out : (k : ℕ) → j < days * slotsPerDay h → searched h s holidays days j k ≡ []
+  unfolding searched
   weeks-out zero p = refl
   weeks-out (suc k) p = simp (lt-ltb _ _ p)
 
-  weeks-found : (k : ℕ) → (k ≡ 0 → ⊥) → days * slotsPerDay h ≤ j → isReference h s holidays earlier ≡ true → weeksBack h s holidays days j k ≡ getD (s .values) earlier 0 ∷ weeksBack h s holidays 7 earlier (k - 1)
-  unfolding weeksBack
+  weeks-found : (k : ℕ) → (k ≡ 0 → ⊥) → days * slotsPerDay h ≤ j → isReference h s holidays earlier ≡ true → searched h s holidays days j k ≡ getD (s .values) earlier 0 ∷ searched h s holidays 7 earlier (k - 1)
+  unfolding searched
   weeks-found zero n p e = absurd (n refl)
   weeks-found (suc k) n p e = simp (le-ltb _ _ p, e, sub-one)
 
-  weeks-passed : (k : ℕ) → (k ≡ 0 → ⊥) → days * slotsPerDay h ≤ j → isReference h s holidays earlier ≡ false → weeksBack h s holidays days j k ≡ weeksBack h s holidays 7 earlier (k - 1)
-  unfolding weeksBack
+  weeks-passed : (k : ℕ) → (k ≡ 0 → ⊥) → days * slotsPerDay h ≤ j → isReference h s holidays earlier ≡ false → searched h s holidays days j k ≡ searched h s holidays 7 earlier (k - 1)
+  unfolding searched
   weeks-passed zero n p e = absurd (n refl)
   weeks-passed (suc k) n p e = simp (le-ltb _ _ p, e, sub-one)
+
+-- ---- A search week by week finds the values of the weeks at their places
+
+-- an element more, or none
+piece : (t : Bool) (x : ℕ) (xs : List ℕ) → cond t (x ∷ xs) xs ≡ cond t (x ∷ []) [] ++ xs
+piece true x xs = refl
+piece false x xs = refl
+
+module _ (h : Head) (s : Slots) (holidays : List ℕ) where
+  abbrev week : ℕ → ℕ → ℕ → List ℕ
+  week days j k = weekBack h s holidays days j k
+
+  abbrev search : ℕ → ℕ → ℕ → List ℕ
+  search days j k = searched h s holidays days j k
+
+  -- k weeks behind 7 days before the slot `days` days before slot j are k + 1 weeks behind those days before slot j
+  week-later : (days j k : ℕ) → days * slotsPerDay h ≤ j → week 7 (j - days * slotsPerDay h) k ≡ week days j (suc k)
+  unfolding weekBack
+  week-later days j k l =
+      let n : ℕ = slotsPerDay h in
+      let sum : days + 7 * suc k ≡ days + (7 + 7 * k) = omega arith in
+      let split : (days + 7 * suc k) * n ≡ days * n + (7 + 7 * k) * n = rw (sum, add-mul days (7 + 7 * k) n) in
+      let place : j - days * n - (7 + 7 * k) * n ≡ j - (days + 7 * suc k) * n = omega arith in
+      ⊎-elim
+      (λ t.
+      let inside = leb-true ((days + 7 * suc k) * n) j t in
+      rw (t, place, le-leb ((7 + 7 * k) * n) (j - days * n) (omega arith)))
+      (λ t.
+      let out = leb-false ((days + 7 * suc k) * n) j t in
+      rw (t, lt-leb ((7 + 7 * k) * n) (j - days * n) (omega arith)))
+      (either (leb ((days + 7 * suc k) * n) j))
+
+  week-out : (days j k : ℕ) → j < days * slotsPerDay h → week days j k ≡ []
+  unfolding weekBack
+  week-out days j k l =
+      let more : days ≤ days + 7 * k = omega arith in
+      rw (lt-leb ((days + 7 * k) * slotsPerDay h) j (omega (arith, mul-le-mul-right (slotsPerDay h) more)))
+
+  -- the first week of a search, and its last
+  search-first : (days j k : ℕ) → days * slotsPerDay h ≤ j → search days j (suc k) ≡ week days j 0 ++ search 7 (j - days * slotsPerDay h) k
+  unfolding searched weekBack
+  search-first days j k l =
+      let none : days + 7 * 0 ≡ days = omega arith in
+      rw (none, le-ltb j (days * slotsPerDay h) l, le-leb (days * slotsPerDay h) j l)
+      (piece (isReference h s holidays (j - days * slotsPerDay h)) _ _)
+
+  -- where it looks at no slot
+  last-out : (k days j : ℕ) → j < days * slotsPerDay h → search days j (suc k) ≡ search days j k ++ week days j k
+  last-out k days j l = rw (weeks-out h s holidays days j (suc k) l, weeks-out h s holidays days j k l, week-out days j k l)
+
+  search-last : (k days j : ℕ) → search days j (suc k) ≡ search days j k ++ week days j k
+  search-last zero days j =
+      ⊎-elim (λ t. last-out 0 days j (ltb-true _ _ t))
+      (λ t.
+      search-first days j 0 (ltb-false _ _ t)
+      ∙ rw (weeks-none h s holidays 7 (j - days * slotsPerDay h), weeks-none h s holidays days j) (append-nil (week days j 0)))
+      (either (ltb j (days * slotsPerDay h)))
+  search-last (suc k) days j =
+      ⊎-elim (λ t. last-out (suc k) days j (ltb-true _ _ t))
+      (λ t.
+      let l : days * slotsPerDay h ≤ j = ltb-false _ _ t in
+      search-first days j (suc k) l
+      ∙ rw (search-first days j k l, search-last k 7 (j - days * slotsPerDay h), week-later days j k l)
+      (sym (append-assoc (week days j 0) (search 7 (j - days * slotsPerDay h) k) (week days j (suc k)))))
+      (either (ltb j (days * slotsPerDay h)))
+
+  weeks-are : (first i k : ℕ) → weeksBack h s holidays first i k ≡ search first i k
+  unfolding weeksBack searched
+  weeks-are first i zero = refl
+  weeks-are first i (suc k) = ap (λ (xs : List ℕ). xs ++ week first i k) (weeks-are first i k) ∙ sym (search-last k first i)
+
+  -- the references that are searched for
+  pub references-searched : (i : ℕ) → references h s holidays i
+      ≡ take 4 (search (firstBack h holidays (i / slotsPerDay h)) i
+      (weeksWithin (firstBack h holidays (i / slotsPerDay h)) (farthestBack holidays (i / slotsPerDay h))))
+  unfolding references
+  references-searched i = ap (take 4) (weeks-are _ i _)
 
 -- some days before a slot
 days-before : (n days at : ℕ) → 0 < n → days * n ≤ at → at / n ≡ (at - days * n) / n + days
@@ -86,8 +165,8 @@ module _ (h : Head) (w : Bounded h) where
   days-on days at l = days-before n days at positive l
 
   -- no week before the book's first is looked at
-  weeks-enough : (s : Slots) (holidays : List ℕ) (r k days at : ℕ) → days + 7 * r ≤ at / n + 7 → r ≤ k → (r < k → at / n < days + 7 * r) → weeksBack h s holidays days at k ≡ weeksBack h s holidays days at r
-  unfolding weeksBack
+  weeks-enough : (s : Slots) (holidays : List ℕ) (r k days at : ℕ) → days + 7 * r ≤ at / n + 7 → r ≤ k → (r < k → at / n < days + 7 * r) → searched h s holidays days at k ≡ searched h s holidays days at r
+  unfolding searched
   weeks-enough s holidays zero zero days at p q o = refl
   weeks-enough s holidays zero (suc k) days at p q o = weeks-out h s holidays days at (suc k) (days-out days at (omega (arith, o (omega arith))))
   weeks-enough s holidays (suc r) zero days at p q o = absurd (omega arith)
@@ -125,20 +204,20 @@ pub record Searching (h : Head) (s : Slots) (holidays : List ℕ) (slot week : �
   pub seven : week ≡ 7 * slotsPerDay h
   pub long : step ≡ days * slotsPerDay h
   pub four : length found ≡ 4
-  pub rest : kept found count (weeksBack h s holidays days at weeks) ≡ references h s holidays slot
+  pub rest : kept found count (searched h s holidays days at weeks) ≡ references h s holidays slot
 
 module _ (h : Head) (w : Bounded h) (s : Slots) (holidays : List ℕ) (slot week : ℕ) where
   pub search-starts : (day first step weeks : ℕ) → week ≡ 7 * slotsPerDay h → step ≡ first * slotsPerDay h → day ≡ slot / slotsPerDay h → first ≡ firstBack h holidays day → InBook first (farthestBack holidays day) day weeks
       → Searching h s holidays slot week (0 ∷ 0 ∷ 0 ∷ 0 ∷ []) 0 slot day first step weeks
-  unfolding kept references
+  unfolding kept
   search-starts day first step weeks v l d e b =
       let f = weeks-enough h w s holidays weeks (weeksWithin first (farthestBack holidays day)) first slot (rw d at (b .inside)) (b .within) (λ x. rw d at (b .all x)) in
-      record { room = lit< tt; near = le-refl slot; on = d; short = b .short; reach = b .inside; seven = v; long = l; four = refl; rest = rw (← d, ← e, f) }
+      record { room = lit< tt; near = le-refl slot; on = d; short = b .short; reach = b .inside; seven = v; long = l; four = refl; rest = rw (references-searched h s holidays slot, ← d, ← e, f) }
 
   module _ {found : List ℕ} {count at day days step weeks : ℕ} (i : Searching h s holidays slot week found count at day days step weeks) where
     pub search-spent : weeks ≡ 0 → take count found ≡ references h s holidays slot
     search-spent z =
-        let e : kept found count (weeksBack h s holidays days at 0) ≡ references h s holidays slot = rw z at (i .rest) in
+        let e : kept found count (searched h s holidays days at 0) ≡ references h s holidays slot = rw z at (i .rest) in
         sym (kept-nil found count) ∙ (rw (weeks-none h s holidays days at) at e)
 
     module _ (more : weeks ≡ 0 → ⊥) where
@@ -162,7 +241,7 @@ module _ (h : Head) (w : Bounded h) (s : Slots) (holidays : List ℕ) (slot week
           let e′ : isReference h s holidays (at - days * slotsPerDay h) ≡ false = rw (i .long) at e in
           record { room = i .room; near = omega arith; on = day-on; short = le-refl 7; reach = omega (arith, i .reach); seven = i .seven; long = i .seven; four = i .four; rest = rw (i .long, ← weeks-passed h s holidays days at weeks more within e′) (i .rest) }
 
-      found-rest : isReference h s holidays next ≡ true → kept (set found count (getD (s .values) next 0)) (count + 1) (weeksBack h s holidays 7 next (weeks - 1)) ≡ references h s holidays slot
+      found-rest : isReference h s holidays next ≡ true → kept (set found count (getD (s .values) next 0)) (count + 1) (searched h s holidays 7 next (weeks - 1)) ≡ references h s holidays slot
       found-rest e =
           let e′ : isReference h s holidays (at - days * slotsPerDay h) ≡ true = rw (i .long) at e in
           let p : count < length found = omega arith in
@@ -172,7 +251,7 @@ module _ (h : Head) (w : Bounded h) (s : Slots) (holidays : List ℕ) (slot week
       search-found e x = record { room = omega arith; near = omega arith; on = day-on; short = le-refl 7; reach = omega (arith, i .reach); seven = i .seven; long = i .seven; four = simp length-set (i .four); rest = found-rest e }
 
       pub search-ended : isReference h s holidays next ≡ true → count + 1 ≡ 4 → take (count + 1) (set found count (getD (s .values) next 0)) ≡ references h s holidays slot
-      search-ended e x = sym (kept-full (set found count (getD (s .values) next 0)) (weeksBack h s holidays 7 next (weeks - 1)) (count + 1) x) ∙ found-rest e
+      search-ended e x = sym (kept-full (set found count (getD (s .values) next 0)) (searched h s holidays 7 next (weeks - 1)) (count + 1) x) ∙ found-rest e
 
 -- no reference, or the mean
 pub from-none : (xs : List ℕ) → length xs ≡ 0 → fromReferences xs ≡ record { value = 0; quality = N; method = 0 }

@@ -1,20 +1,20 @@
 -- A good or S value is at most what an interval holds at 1,000,000 W, a shape 12 times as much, any filled value 99,999,999.
-use mathlib.Core.Bool.{Bool, true, false, cond, false≢true}
-use mathlib.Core.List.{List, [], _∷_}
+use mathlib.Core.Bool.{Bool, true, false, cond, _&&_, false≢true}
+use mathlib.Core.List.{List, [], _∷_, _++_}
 use mathlib.Core.Logic.{⊎-elim}
 use mathlib.Core.Path.{_≡_, refl}
-use Prim.Native.Nat.{ℕ, zero, suc, _-_, _*_, _/_, _≤_, zero-le}
+use Prim.Native.Nat.{ℕ, zero, suc, _+_, _-_, _*_, _/_, _≤_, zero-le}
 use native.Mathlib.Nat.{div-le-of-le-mul, suc-mul, add-comm, add-le-add, mul-le-mul-left}
 use native.Mathlib.Omega.{arith}
 use borrow.Author.Tests.{ltb-false}
-use lib.Dec.{ltb, eqb}
+use lib.Dec.{leb, ltb, eqb}
 use lib.ListN.{length, getD, take}
 use Rattle.rules.specs.declared.Head.{Head}
 use Rattle.rules.specs.declared.tests.Cause.the-variants.{Nothing, Gap, TimeChange, Partial, Demand}
 use Rattle.rules.specs.Opening.{Slots, Agreed, slotsPerDay}
 use Rattle.rules.specs.Tests.{isGood, timeChangeBit, partialBit, causeOf, causeAt, goodAt}
 use Rattle.rules.specs.Weeks.{firstBack, farthestBack, weeksWithin}
-use Rattle.rules.specs.Filling.{isReference, weeksBack, references, total, meanOf, isLinear, linearValue, fromReferences, filledAt, shapeOf, shapeAt}
+use Rattle.rules.specs.Filling.{isReference, weekBack, weeksBack, references, total, meanOf, isLinear, linearValue, fromReferences, filledAt, shapeOf, shapeAt}
 use Rattle.rules.specs.Inner.Lent.{AgreedLow}
 use Rattle.rules.proofs.Logic.{and-parts, either}
 use Rattle.rules.proofs.Bounds.{Bounded, cap, cap-high, good-cap}
@@ -44,6 +44,10 @@ small-take m zero xs p = tt
 small-take m (suc n) [] p = tt
 small-take m (suc n) (x ∷ xs) p = (p .0, small-take m n xs (p .1))
 
+small-join : (m : ℕ) (xs ys : List ℕ) → small m xs → small m ys → small m (xs ++ ys)
+small-join m [] ys p q = q
+small-join m (x ∷ xs) ys p q = (p .0, small-join m xs ys (p .1) q)
+
 small-total : (m : ℕ) (xs : List ℕ) → small m xs → total xs ≤ length xs * m
 unfolding total
 small-total m [] p = zero-le
@@ -69,16 +73,20 @@ module _ (h : Head) (b : Bounded h) (s : Slots) where
     unfolding isReference
     reference-small j e = good-small j (and-parts _ _ (and-parts _ _ e .0) .0)
 
-    weeks-small : (k days j : ℕ) → small (cap h) (weeksBack h s holidays days j k)
+    week-small : (first i k : ℕ) → small (cap h) (weekBack h s holidays first i k)
+    unfolding weekBack
+    week-small first i k =
+        let back = (first + 7 * k) * slotsPerDay h in
+        let found : Bool = leb back i && isReference h s holidays (i - back) in
+        ⊎-elim (λ e. rw e (reference-small (i - back) (and-parts (leb back i) (isReference h s holidays (i - back)) e .1), tt))
+        (λ e. rw e tt)
+        (either found)
+
+    weeks-small : (first i k : ℕ) → small (cap h) (weeksBack h s holidays first i k)
     unfolding weeksBack
-    weeks-small zero days j = tt
-    weeks-small (suc k) days j =
-        let i = j - days * slotsPerDay h in
-        let r = weeks-small k 7 i in
-        ⊎-elim (λ e. rw e tt) (λ e. rw e (
-        ⊎-elim (λ f. rw f (reference-small i f, r)) (λ f. rw f r)
-        (either (isReference h s holidays i))))
-        (either (ltb j (days * slotsPerDay h)))
+    weeks-small first i zero = tt
+    weeks-small first i (suc k) =
+        small-join (cap h) (weeksBack h s holidays first i k) (weekBack h s holidays first i k) (weeks-small first i k) (week-small first i k)
 
     mean-small : (xs : List ℕ) → small (cap h) xs → fromReferences xs .value ≤ cap h
     unfolding fromReferences meanOf
@@ -96,7 +104,7 @@ module _ (h : Head) (b : Bounded h) (s : Slots) where
         let d = i / slotsPerDay h in
         let first = firstBack h holidays d in
         let k = weeksWithin first (farthestBack holidays d) in
-        small-take (cap h) 4 (weeksBack h s holidays first i k) (weeks-small k first i)
+        small-take (cap h) 4 (weeksBack h s holidays first i k) (weeks-small first i k)
 
   module _ (a : Agreed) (holidays : List ℕ) (i : ℕ) where
     pub shape-small : shapeAt h s a holidays i ≤ 12 * cap h

@@ -1,6 +1,6 @@
 -- The outcome of a slot before its span is scaled, and its shape (01, Filling; 02, W1, W2 and W7).
 use mathlib.Core.Bool.{Bool, false, cond, not, _&&_, _||_}
-use mathlib.Core.List.{List, [], _∷_}
+use mathlib.Core.List.{List, [], _∷_, _++_}
 use Prim.Native.Nat.{ℕ, zero, suc, _+_, _-_, _*_, _/_}
 use lib.Dec.{leb, ltb, eqb}
 use lib.IntN.{ℤ, pos, negsuc, natAbs, _+ℤ_, _-ℤ_, _*ℤ_}
@@ -92,13 +92,16 @@ unfoldable pub isReference : Head → Slots → List ℕ → ℕ → Bool
 isReference h s holidays j =
     goodAt h s j && not (outageBit (getD (s .statuses) j 0)) && eqb (getD holidays (j / slotsPerDay h) 0) 0
 
--- the values of the references `days` days before slot j and each week before that, k weeks in all, in the book, nearest first
+-- slot i − (first + 7k) × n, of slot i's position first + 7k days earlier: its value, where it lies in the book and can be a reference
+unfoldable pub weekBack : Head → Slots → List ℕ → ℕ → ℕ → ℕ → List ℕ
+weekBack h s holidays first i k =
+    let back = (first + 7 * k) * slotsPerDay h in
+    cond (leb back i && isReference h s holidays (i - back)) (getD (s .values) (i - back) 0 ∷ []) []
+
+-- those of k = 0, 1, .., so many weeks, nearest first
 unfoldable pub weeksBack : Head → Slots → List ℕ → ℕ → ℕ → ℕ → List ℕ
-weeksBack h s holidays days j zero = []
-weeksBack h s holidays days j (suc k) =
-    let i = j - days * slotsPerDay h in
-    let rest = weeksBack h s holidays 7 i k in
-    cond (ltb j (days * slotsPerDay h)) [] (cond (isReference h s holidays i) (getD (s .values) i 0 ∷ rest) rest)
+weeksBack h s holidays first i zero = []
+weeksBack h s holidays first i (suc k) = weeksBack h s holidays first i k ++ weekBack h s holidays first i k
 
 -- the nearest four, from the days that the slot's own day decides
 unfoldable pub references : Head → Slots → List ℕ → ℕ → List ℕ

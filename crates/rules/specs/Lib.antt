@@ -1,5 +1,6 @@
 pub mod Lists
 pub mod Opening
+pub mod Lent
 pub mod Limits
 pub mod Tests
 pub mod Weeks

@@ -14,7 +14,8 @@ ghost use lib.ListN.{take};
 ghost use Rattle.rules.specs.Opening.{slotsPerDay, slotCount};
 ghost use Rattle.rules.specs.Tests.{goodAt};
 ghost use Rattle.rules.specs.Filling.{isReference, references, total, meanOf, fromReferences, isOutageZero, filledAt, shapeOf, shapeAt};
-ghost use Rattle.rules.specs.Inner.Lent.{lentSlots, lentAgreed, Lent, Settled};
+ghost use Rattle.rules.specs.Lent.{lentSlots, lentAgreed};
+ghost use Rattle.rules.specs.Inner.Lent.{Lent, Settled};
 ghost use Rattle.rules.specs.Inner.Fills.{actualOf, agreedOf, lineAt, lineBefore};
 
 // Up to four values of the same position on earlier weeks, nearest first.

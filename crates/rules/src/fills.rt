@@ -10,7 +10,8 @@ ghost use Prim.Native.Nat.{_+_, _-_, _<_, _≤_};
 ghost use lib.ListN.{length};
 ghost use Rattle.rules.specs.Opening.{slotCount};
 ghost use Rattle.rules.specs.Filling.{outageAfter, filledAt, shapeAt};
-ghost use Rattle.rules.specs.Inner.Lent.{lentSlots, lentAgreed, Lent, Settled};
+ghost use Rattle.rules.specs.Lent.{lentSlots, lentAgreed};
+ghost use Rattle.rules.specs.Inner.Lent.{Lent, Settled};
 ghost use Rattle.rules.specs.Inner.Fills.{zeroAt, zeroBefore, fillsAt};
 
 // What is known at slot `at` of the slot before it: whether outage zero applies to it, and its line.

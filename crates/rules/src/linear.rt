@@ -9,7 +9,8 @@ ghost use lib.ListN.{length};
 ghost use Rattle.rules.specs.Opening.{slotCount};
 ghost use Rattle.rules.specs.Tests.{goodAt};
 ghost use Rattle.rules.specs.Filling.{isOutageZero, inRun, runBefore, floorOver, lineValue};
-ghost use Rattle.rules.specs.Inner.Lent.{lentSlots, Fitted};
+ghost use Rattle.rules.specs.Lent.{lentSlots};
+ghost use Rattle.rules.specs.Inner.Lent.{Fitted};
 ghost use Rattle.rules.specs.Inner.Fills.{bareLine, lineAt, lineBefore, lengthWithin, Drawn};
 
 // A slot's place j in its run and, where the line fills the run, its length g and the values l and r beside it; a slot in no run has place 0.

@@ -13,7 +13,8 @@ ghost use mathlib.Core.Path.{_≡_};
 ghost use Prim.Native.Nat.{_<_};
 ghost use Rattle.rules.specs.declared.Head.{Head};
 ghost use Rattle.rules.specs.Opening.{Cells, slotCount};
-ghost use Rattle.rules.specs.Inner.Lent.{lentCells, Whole};
+ghost use Rattle.rules.specs.Lent.{lentCells};
+ghost use Rattle.rules.specs.Inner.Lent.{Whole};
 ghost use Rattle.rules.specs.Inner.Stretches.{Fits};
 ghost use Rattle.rules.specs.Inner.Passes.{passAt, settled, SteppedAt};
 

@@ -13,7 +13,8 @@ ghost use mathlib.Core.Path.{_≡_};
 ghost use Prim.Native.Nat.{_+_, _-_, _^_, _<_, _≤_};
 ghost use Rattle.rules.specs.Opening.{slotCount};
 ghost use Rattle.rules.specs.Spans.{isS, advance, stateBy, share};
-ghost use Rattle.rules.specs.Inner.Lent.{lentSlots, lentAgreed, Lent, Settled};
+ghost use Rattle.rules.specs.Lent.{lentSlots, lentAgreed};
+ghost use Rattle.rules.specs.Inner.Lent.{Lent, Settled};
 ghost use Rattle.rules.specs.Inner.Fills.{fillsAt};
 ghost use Rattle.rules.specs.Inner.Summaries.{summaryOf, actualAdded, addedTo, scalingOf, scaledBy, Scales};
 

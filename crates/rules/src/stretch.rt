@@ -16,7 +16,8 @@ ghost use mathlib.Core.Path.{_≡_};
 ghost use Prim.Native.Nat.{_≤_};
 ghost use Rattle.rules.specs.declared.stretch.Begins.the-variants.{Nothing};
 ghost use Rattle.rules.specs.Spans.{spanOf};
-ghost use Rattle.rules.specs.Inner.Lent.{lentSlots, lentAgreed, lentCells, cells, Lent, Settled, Dialled, Widths, Whole};
+ghost use Rattle.rules.specs.Lent.{lentSlots, lentAgreed, lentCells, cells};
+ghost use Rattle.rules.specs.Inner.Lent.{Lent, Settled, Dialled, Widths, Whole};
 ghost use Rattle.rules.specs.Inner.Stretches.{unscaledTo, spanStretch, stretchBy, beginsWith, stretchFrom, beginsAt, stretchAt, fitOutcome, fitNext, Fits, Starts, Before};
 
 // Where the stretch ends, and how it is scaled.

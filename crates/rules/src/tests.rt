@@ -4,7 +4,8 @@ ghost use mathlib.Core.Path.{_≡_};
 ghost use Prim.Native.Nat.{_<_};
 ghost use Rattle.rules.specs.Opening.{slotCount};
 ghost use Rattle.rules.specs.Tests.{causeOf, isGood, goodAt, outageBit};
-ghost use Rattle.rules.specs.Inner.Lent.{lentSlots, Fitted};
+ghost use Rattle.rules.specs.Lent.{lentSlots};
+ghost use Rattle.rules.specs.Inner.Lent.{Fitted};
 
 // The first test that applies to a slot; nothing, where the slot is good.
 pub enum Cause {

@@ -3,7 +3,7 @@ use mathlib.Core.Path.{sym, _∙_}
 use native.Mathlib.Nat.{mul-le-mul}
 use native.Mathlib.Omega.{arith}
 use borrow.Author.Needs.{needs}
-use Rattle.rules.specs.Inner.Lent.{slots}
+use Rattle.rules.specs.Lent.{slots}
 use Rattle.rules.proofs.Bounds.{bounded, count-high, day-below}
 use Rattle.rules.proofs.References.{Searching, search-starts, search-spent, day-inside, slot-inside, day-on, search-passed, search-found, search-ended}
 use Rattle.rules.proofs.filling.find_references.Statement.{statement}

@@ -2,7 +2,7 @@
 use mathlib.Core.Path.{sym, _∙_}
 use borrow.Author.Tests.{lt-ltb, le-ltb}
 use Rattle.rules.specs.Filling.{isAgreed, shapeOf}
-use Rattle.rules.specs.Inner.Lent.{slots, agreedLists}
+use Rattle.rules.specs.Lent.{slots, agreedLists}
 use Rattle.rules.proofs.Bounds.{bounded}
 use Rattle.rules.proofs.Runs.{run-holds}
 use Rattle.rules.proofs.Lines.{line-fills, line-leaves}

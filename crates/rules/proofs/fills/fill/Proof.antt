@@ -2,7 +2,7 @@ use Rattle.rules.proofs.Shapes.{shape-good}
 -- `fills::fill`: a good slot has its value, another is filled.
 use mathlib.Core.Path.{_∙_, sym, refl}
 use native.Mathlib.Omega.{arith}
-use Rattle.rules.specs.Inner.Lent.{slots, agreedLists}
+use Rattle.rules.specs.Lent.{slots, agreedLists}
 use Rattle.rules.proofs.Runs.{run-good}
 use Rattle.rules.proofs.Outages.{zero-none, zero-applies, good-delivered, filled-good}
 use Rattle.rules.proofs.Lines.{line-none, fills-outage, fills-line, fills-next}

@@ -4,7 +4,7 @@ use Prim.Native.Nat.{_+_, _<_}
 use native.Mathlib.Omega.{arith}
 use borrow.Author.Tests.{not-true, not-false}
 use Rattle.rules.specs.Opening.{slotCount}
-use Rattle.rules.specs.Inner.Lent.{slots}
+use Rattle.rules.specs.Lent.{slots}
 use Rattle.rules.proofs.Bounds.{bounded, count-high}
 use Rattle.rules.proofs.Lines.{line-first-slot, line-no-left, line-no-right, line-ends, line-found}
 use borrow.Author.Needs.{needs}

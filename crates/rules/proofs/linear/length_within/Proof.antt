@@ -9,7 +9,7 @@ use native.Mathlib.Omega.{arith}
 use lib.Dec.{lit<}
 use Rattle.rules.specs.Opening.{slotCount}
 use Rattle.rules.specs.Filling.{runFrom}
-use Rattle.rules.specs.Inner.Lent.{slots}
+use Rattle.rules.specs.Lent.{slots}
 use Rattle.rules.specs.Inner.Fills.{zeroBefore}
 use Rattle.rules.proofs.Bounds.{bounded}
 use Rattle.rules.proofs.Runs.{run-agreed, run-zeroed, run-holds, from-on, run-on, within-last, within-good, within-broken, within-long}

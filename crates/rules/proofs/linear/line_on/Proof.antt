@@ -1,7 +1,7 @@
 -- `linear::line_on`: inside a run the line stands; at its first slot it is looked for.
 use mathlib.Core.Path.{_∙_}
 use native.Mathlib.Omega.{arith}
-use Rattle.rules.specs.Inner.Lent.{slots}
+use Rattle.rules.specs.Lent.{slots}
 use Rattle.rules.proofs.Bounds.{bounded, count-high}
 use Rattle.rules.proofs.Runs.{run-holds, run-agreed, run-zeroed}
 use Rattle.rules.proofs.Lines.{line-none, line-fresh, line-place, line-kept}

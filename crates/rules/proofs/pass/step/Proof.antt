@@ -1,7 +1,7 @@
 -- `pass::step`: enter the stretch, fill the slot, settle it.
 use mathlib.Core.Path.{ap}
 use Rattle.rules.specs.declared.pass.Pass.{Pass}
-use Rattle.rules.specs.Inner.Lent.{slots, agreedLists, cells}
+use Rattle.rules.specs.Lent.{slots, agreedLists, cells}
 use Rattle.rules.specs.Inner.Passes.{passAt}
 use Rattle.rules.proofs.Bounds.{bounded}
 use Rattle.rules.proofs.Steps.{step-fits, step-done}

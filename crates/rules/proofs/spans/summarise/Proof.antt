@@ -8,7 +8,7 @@ use native.Mathlib.Nat.{add-zero}
 use native.Mathlib.Omega.{arith}
 use Rattle.rules.specs.Lists.{sum, any}
 use Rattle.rules.specs.Opening.{slotCount}
-use Rattle.rules.specs.Inner.Lent.{slots, agreedLists}
+use Rattle.rules.specs.Lent.{slots, agreedLists}
 use Rattle.rules.specs.Inner.Fills.{zeroBefore, lineBefore}
 use Rattle.rules.specs.Inner.Summaries.{summaryOf}
 use Rattle.rules.proofs.Bounds.{bounded, count-high}

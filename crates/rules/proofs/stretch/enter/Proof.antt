@@ -6,7 +6,7 @@ use native.Mathlib.Omega.{arith}
 use Rattle.rules.specs.declared.stretch.Stretch.{Stretch}
 use Rattle.rules.specs.Opening.{slotsPerDay}
 use Rattle.rules.specs.Spans.{nextRead}
-use Rattle.rules.specs.Inner.Lent.{slots, agreedLists, cells}
+use Rattle.rules.specs.Lent.{slots, agreedLists, cells}
 use Rattle.rules.specs.Inner.Stretches.{nextMeant}
 use Rattle.rules.proofs.Bounds.{bounded, day-below}
 use Rattle.rules.proofs.Boundaries.{next-tells}

@@ -7,7 +7,7 @@ use native.Mathlib.Omega.{arith}
 use lib.ListN.{getD}
 use Rattle.rules.specs.Opening.{slotsPerDay}
 use Rattle.rules.specs.Spans.{start, slotsIn, G, range}
-use Rattle.rules.specs.Inner.Lent.{slots, agreedLists, cells}
+use Rattle.rules.specs.Lent.{slots, agreedLists, cells}
 use Rattle.rules.specs.Inner.Summaries.{summaryOf}
 use Rattle.rules.proofs.Bounds.{bounded}
 use Rattle.rules.proofs.Places.{slots-within}

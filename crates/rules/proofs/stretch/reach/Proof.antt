@@ -5,7 +5,7 @@ use Rattle.rules.specs.declared.stretch.Begins.the-variants.{Span}
 use Prim.Native.Nat.{_≤_}
 use native.Mathlib.Nat.{mul-le-mul}
 use native.Mathlib.Omega.{arith}
-use Rattle.rules.specs.Inner.Lent.{slots, agreedLists}
+use Rattle.rules.specs.Lent.{slots, agreedLists}
 use Rattle.rules.specs.Inner.Stretches.{beginsWith, stretchFrom}
 use Rattle.rules.proofs.Bounds.{bounded}
 use Rattle.rules.proofs.Meeting.{span-versions, stretch-versions}
