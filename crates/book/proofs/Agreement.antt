@@ -136,8 +136,9 @@ answers-from : (h : Head) (kept cs : List Call) → Kept h kept → answers h (l
 unfolding answers plainAnswers
 answers-from h kept [] ok = refl
 answers-from h kept (c ∷ cs) ok =
-    rw (answer-agrees h kept c ok, after-agrees h kept c ok)
-    (ap {B = List Answer} (λ l. plainAnswer h kept c ∷ l) (answers-from h (keep h kept c) cs (keep-kept h kept c ok)))
+    let rest : answers h (after h (listsOf h kept) c) cs ≡ plainAnswers h (keep h kept c) cs =
+    rw (after-agrees h kept c ok) (answers-from h (keep h kept c) cs (keep-kept h kept c ok)) in
+    λ t. answer-agrees h kept c ok t ∷ rest t
 
 lists-from : (h : Head) (kept cs : List Call) → Kept h kept → afterAll h (listsOf h kept) cs ≡ listsOf h (keptOf h kept cs)
 unfolding afterAll keptOf

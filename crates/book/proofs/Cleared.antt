@@ -1,10 +1,15 @@
--- A loop that sets a list to zeros, one place a turn.
+-- A loop that sets a list to zeros, one place a turn, and the ten lists that opening sets to zeros.
 use mathlib.Core.Path.{_≡_, ap, _∙_}
 use mathlib.Core.List.{List, _++_, append-nil}
-use Prim.Native.Nat.{ℕ, _+_, _≤_, _<_}
+use Prim.Native.Nat.{ℕ, suc, _+_, _≤_, _<_}
 use native.Mathlib.Omega.{arith}
 use lib.ListN.{length, set, drop, replicate, length-set, drop-of-length-le}
 use borrow.Author.Fill.{fill-more}
+use Rattle.rules.specs.declared.Head.{Head}
+use Rattle.rules.specs.Opening.{slotCount}
+use Rattle.rules.specs.Lent.{slots, agreedLists, cells}
+use Rattle.book.specs.Opening.{opened}
+use Rattle.book.proofs.EachCall.{book}
 
 -- the list d after i turns
 pub record Cleared (d : List ℕ) (list : List ℕ) (i : ℕ) : Type 0 where
@@ -29,3 +34,23 @@ cleared-all d list i c le =
     let e : i ≡ length d = omega arith in
     let over : length d ≤ i = omega arith in
     c .cells ∙ rw (drop-of-length-le d {i = i} over, append-nil, e)
+
+-- ten lists of zeros are those of an opened book
+pub opened-lists : (h : Head) {values versions statuses holidays readings reads agreed agreed-versions counts widths : List ℕ}
+    → values ≡ replicate (slotCount h) 0 → versions ≡ replicate (slotCount h) 0 → statuses ≡ replicate (slotCount h) 0
+    → holidays ≡ replicate (h .days) 0 → readings ≡ replicate (suc (h .days)) 0 → reads ≡ replicate (suc (h .days)) 0
+    → agreed ≡ replicate (slotCount h) 0 → agreed-versions ≡ replicate (slotCount h) 0
+    → counts ≡ replicate (h .days) 0 → widths ≡ replicate (suc (h .days)) 0
+    → book (cells (slots values versions statuses) holidays readings reads (agreedLists agreed agreed-versions) widths) counts ≡ opened h
+unfolding opened
+opened-lists h values versions statuses holidays readings reads agreed agreed-versions counts widths = λ t. record {
+  cells = record {
+    slots = record { values = values t; versions = versions t; statuses = statuses t };
+    holidays = holidays t;
+    readings = readings t;
+    readVersions = reads t;
+    agreed = record { values = agreed t; versions = agreed-versions t };
+    widths = widths t;
+  };
+  counts = counts t;
+}

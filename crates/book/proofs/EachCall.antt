@@ -4,12 +4,13 @@ use mathlib.Core.Path.{_≡_}
 use Prim.Native.Nat.{ℕ}
 use Rattle.rules.specs.declared.Head.{Head}
 use Rattle.rules.specs.Opening.{Cells}
-use Rattle.rules.specs.Inner.Lent.{slots, agreedLists, cells}
+use Rattle.rules.specs.Lent.{slots, agreedLists, cells}
 use Rattle.book.specs.declared.calls.Call.{Call}
 use Rattle.book.specs.declared.calls.Call.the-variants.{Delivery, Holiday, Register, Agreed}
 use Rattle.book.specs.Answers.{Answer}
 use Rattle.book.specs.Arguments.{callMeant}
 use Rattle.book.specs.Cells.{Book, readsOf}
+use Rattle.book.specs.Lent.{readLists}
 use Rattle.book.specs.Filling.{deliverAnswer, deliverAfter, countsAfter, holidayAnswer, holidayAfter, registerAnswer, registerAfter, agreeAnswer, agreeAfter, answer, after}
 
 -- the lists of a book
@@ -19,19 +20,17 @@ book b counts = record { cells = b; counts = counts }
 module _ (h : Head) (b : Cells) (counts : List ℕ) (call : Call) (a : Answer) where
   pub delivered : (slot version value status : ℕ) (values versions statuses after-counts : List ℕ) → call ≡ Delivery slot version value status
       → a ≡ deliverAnswer h (b .slots) counts slot version value status
-      → values ≡ deliverAfter h (b .slots) counts slot version value status .values
-      → versions ≡ deliverAfter h (b .slots) counts slot version value status .versions
-      → statuses ≡ deliverAfter h (b .slots) counts slot version value status .statuses
+      → slots values versions statuses ≡ deliverAfter h (b .slots) counts slot version value status
       → after-counts ≡ countsAfter h (b .slots) counts slot version value status
       → (a ≡ answer h (book b counts) (callMeant call))
       × (book (cells (slots values versions statuses) (b .holidays) (b .readings) (b .readVersions) (b .agreed) (b .widths)) after-counts ≡ after h (book b counts) (callMeant call))
   unfolding answer after
-  delivered slot version value status values versions statuses after-counts k e p q r s =
+  delivered slot version value status values versions statuses after-counts k e p s =
       rw k (
         e,
         λ t. record {
           cells = record {
-            slots = record { values = p t; versions = q t; statuses = r t };
+            slots = p t;
             holidays = b .holidays;
             readings = b .readings;
             readVersions = b .readVersions;
@@ -65,23 +64,21 @@ module _ (h : Head) (b : Cells) (counts : List ℕ) (call : Call) (a : Answer) w
 
   pub registered : (boundary version reading width : ℕ) (readings reads widths : List ℕ) → call ≡ Register boundary version reading width
       → a ≡ registerAnswer h (readsOf b) boundary version reading width
-      → readings ≡ registerAfter h (readsOf b) boundary version reading width .readings
-      → reads ≡ registerAfter h (readsOf b) boundary version reading width .readVersions
-      → widths ≡ registerAfter h (readsOf b) boundary version reading width .widths
+      → readLists readings reads widths ≡ registerAfter h (readsOf b) boundary version reading width
       → (a ≡ answer h (book b counts) (callMeant call))
       × (book (cells (b .slots) (b .holidays) readings reads (b .agreed) widths) counts ≡ after h (book b counts) (callMeant call))
   unfolding answer after
-  registered boundary version reading width readings reads widths k e p q r =
+  registered boundary version reading width readings reads widths k e p =
       rw k (
         e,
         λ t. record {
           cells = record {
             slots = b .slots;
             holidays = b .holidays;
-            readings = p t;
-            readVersions = q t;
+            readings = p t .readings;
+            readVersions = p t .readVersions;
             agreed = b .agreed;
-            widths = r t;
+            widths = p t .widths;
           };
           counts = counts;
         },
@@ -89,12 +86,11 @@ module _ (h : Head) (b : Cells) (counts : List ℕ) (call : Call) (a : Answer) w
 
   pub settled : (slot version value : ℕ) (values versions : List ℕ) → call ≡ Agreed slot version value
       → a ≡ agreeAnswer h (b .agreed) slot version value
-      → values ≡ agreeAfter h (b .agreed) slot version value .values
-      → versions ≡ agreeAfter h (b .agreed) slot version value .versions
+      → agreedLists values versions ≡ agreeAfter h (b .agreed) slot version value
       → (a ≡ answer h (book b counts) (callMeant call))
       × (book (cells (b .slots) (b .holidays) (b .readings) (b .readVersions) (agreedLists values versions) (b .widths)) counts ≡ after h (book b counts) (callMeant call))
   unfolding answer after
-  settled slot version value values versions k e p q =
+  settled slot version value values versions k e p =
       rw k (
         e,
         λ t. record {
@@ -103,7 +99,7 @@ module _ (h : Head) (b : Cells) (counts : List ℕ) (call : Call) (a : Answer) w
             holidays = b .holidays;
             readings = b .readings;
             readVersions = b .readVersions;
-            agreed = record { values = p t; versions = q t };
+            agreed = p t;
             widths = b .widths;
           };
           counts = counts;

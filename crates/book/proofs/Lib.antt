@@ -7,6 +7,7 @@ pub mod Next
 pub mod Counting
 pub mod Agreement
 pub mod Order
+pub mod AnyOrder
 pub mod Soundness
 pub mod Cleared
 pub mod Fits

@@ -2,7 +2,7 @@
 use mathlib.Core.Path.{_≡_, refl, sym, ap, _∙_}
 use mathlib.Core.Bool.{Bool, true, false, cond, _&&_}
 use mathlib.Core.List.{List, [], _∷_, List·Memᴰ, List·Memᴰ·not-nil}
-use Prim.Native.Nat.{ℕ, suc, _<_}
+use Prim.Native.Nat.{ℕ, suc, _<_, _≤_}
 use lib.Dec.{eqb}
 use borrow.Author.Tests.{eqb-true}
 use Rattle.rules.specs.declared.Head.{Head}
@@ -12,7 +12,7 @@ use Rattle.book.specs.Arguments.{Call}
 use Rattle.book.specs.Arguments.Call.{delivery, holiday, register, agreed}
 use Rattle.book.specs.Plain.{Said, Measured, DialRead, deliveries, reads, agreements, named, highest, slotVersion, slotContent, readVersion, readContent, agreedVersion, agreedContent, againstKept, plainAnswer, keptOf, bookOf}
 use Rattle.book.proofs.Tables.{upTo-same}
-use Rattle.book.proofs.Said.{latest, AllFair, fair-next, ruled, ruled-same, same-said}
+use Rattle.book.proofs.Said.{latest, AllFair, fair-next, ruled, ruled-same, same-said, highest-within}
 use Rattle.book.proofs.Kept.{Kept, accepted, keptOf-kept}
 use Rattle.book.proofs.Members.{deliveries-from, deliveries-of, reads-from, reads-of, agreements-from, agreements-of, named-from, named-of}
 use Rattle.book.proofs.Next.{same-measured, same-read}
@@ -97,27 +97,52 @@ same-tests false false sub sup = refl
 abbrev pub Within : List Call → List Call → Type 0
 Within kept other = (c : Call) → List·Memᴰ c kept → List·Memᴰ c other
 
-module _ (h : Head) (kept other : List Call) (ok : Kept h kept) (ok′ : Kept h other) (sub : Within kept other) (sup : Within other kept) where
+-- one list of calls goes as far as the other: no highest version of a place is lower, and every holiday is named
+pub record AsFar (kept other : List Call) : Type 0 where
+  pub slots : (i : ℕ) → slotVersion kept i ≤ slotVersion other i
+  pub days : (d : ℕ) → named d kept ≡ true → named d other ≡ true
+  pub boundaries : (d : ℕ) → readVersion kept d ≤ readVersion other d
+  pub agreed : (i : ℕ) → agreedVersion kept i ≤ agreedVersion other i
+
+module _ (kept other : List Call) (sub : Within kept other) where
+  delivered-in : (i : ℕ) (s : Said Measured) → List·Memᴰ s (deliveries i kept) → List·Memᴰ s (deliveries i other)
+  delivered-in i s m = deliveries-of i other s (sub _ (deliveries-from i kept s m))
+
+  read-in : (d : ℕ) (s : Said DialRead) → List·Memᴰ s (reads d kept) → List·Memᴰ s (reads d other)
+  read-in d s m = reads-of d other s (sub _ (reads-from d kept s m))
+
+  agreed-in : (i : ℕ) (s : Said ℕ) → List·Memᴰ s (agreements i kept) → List·Memᴰ s (agreements i other)
+  agreed-in i s m = agreements-of i other s (sub _ (agreements-from i kept s m))
+
+  pub as-far : AsFar kept other
+  as-far = record {
+    slots = λ i. highest-within (record { value = 0; status = 0 }) (deliveries i kept) (deliveries i other) (delivered-in i);
+    days = λ d e. named-of d other (sub _ (named-from d kept e));
+    boundaries = λ d. highest-within (record { reading = 0; width = 0 }) (reads d kept) (reads d other) (read-in d);
+    agreed = λ i. highest-within 0 (agreements i kept) (agreements i other) (agreed-in i);
+  }
+
+-- calls among kept calls that go as far as these amount to the same book
+module _ (h : Head) (kept other : List Call) (ok : Kept h other) (sub : Within kept other) (far : AsFar other kept) where
   same-slot : (i : ℕ) → (slotVersion kept i ≡ slotVersion other i) × (slotContent kept i ≡ slotContent other i)
   same-slot i =
-      same-said (record { value = 0; status = 0 }) (deliveries i kept) (deliveries i other) (fair-deliveries h i kept ok) (fair-deliveries h i other ok′)
-      (λ s m. deliveries-of i other s (sub _ (deliveries-from i kept s m))) (λ s m. deliveries-of i kept s (sup _ (deliveries-from i other s m)))
+      same-said (record { value = 0; status = 0 }) (deliveries i kept) (deliveries i other) (fair-deliveries h i other ok)
+      (delivered-in kept other sub i) (far .slots i)
 
   same-day : (d : ℕ) → named d kept ≡ named d other
-  same-day d = same-tests (named d kept) (named d other) (λ e. named-of d other (sub _ (named-from d kept e))) (λ e. named-of d kept (sup _ (named-from d other e)))
+  same-day d = same-tests (named d kept) (named d other) (as-far kept other sub .days d) (far .days d)
 
   same-boundary : (d : ℕ) → (readVersion kept d ≡ readVersion other d) × (readContent kept d ≡ readContent other d)
   same-boundary d =
-      same-said (record { reading = 0; width = 0 }) (reads d kept) (reads d other) (fair-reads h d kept ok) (fair-reads h d other ok′)
-      (λ s m. reads-of d other s (sub _ (reads-from d kept s m))) (λ s m. reads-of d kept s (sup _ (reads-from d other s m)))
+      same-said (record { reading = 0; width = 0 }) (reads d kept) (reads d other) (fair-reads h d other ok)
+      (read-in kept other sub d) (far .boundaries d)
 
   same-agreed : (i : ℕ) → (agreedVersion kept i ≡ agreedVersion other i) × (agreedContent kept i ≡ agreedContent other i)
   same-agreed i =
-      same-said 0 (agreements i kept) (agreements i other) (fair-agreements h i kept ok) (fair-agreements h i other ok′)
-      (λ s m. agreements-of i other s (sub _ (agreements-from i kept s m))) (λ s m. agreements-of i kept s (sup _ (agreements-from i other s m)))
+      same-said 0 (agreements i kept) (agreements i other) (fair-agreements h i other ok)
+      (agreed-in kept other sub i) (far .agreed i)
 
-  -- the book depends on which calls were kept alone
-  same-book : bookOf h kept ≡ bookOf h other
+  pub same-book : bookOf h kept ≡ bookOf h other
   unfolding bookOf
   same-book = λ t. record {
     slots = record {
@@ -139,4 +164,5 @@ module _ (h : Head) (kept other : List Call) (ok : Kept h kept) (ok′ : Kept h 
 pub order-does-not-matter : (h : Head) (cs ds : List Call)
     → Within (keptOf h [] cs) (keptOf h [] ds) → Within (keptOf h [] ds) (keptOf h [] cs)
     → bookOf h (keptOf h [] cs) ≡ bookOf h (keptOf h [] ds)
-order-does-not-matter h cs ds = same-book h (keptOf h [] cs) (keptOf h [] ds) (keptOf-kept h [] cs tt) (keptOf-kept h [] ds tt)
+order-does-not-matter h cs ds sub sup =
+    same-book h (keptOf h [] cs) (keptOf h [] ds) (keptOf-kept h [] ds tt) sub (as-far (keptOf h [] ds) (keptOf h [] cs) sup)

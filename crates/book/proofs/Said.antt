@@ -4,7 +4,7 @@ use mathlib.Core.Bool.{Bool, true, false, cond, false≢true}
 use mathlib.Core.List.{List, [], _∷_, List·Memᴰ, List·Memᴰ·head, List·Memᴰ·tail}
 use mathlib.Core.Logic.{⊎-elim}
 use Prim.Native.Nat.{ℕ, max, _≤_, _<_, zero-le}
-use native.Mathlib.Nat.{le-antisymm, le-of-lt, max-eq-left, max-eq-right}
+use native.Mathlib.Nat.{le-antisymm, le-of-lt, le-trans, le-max-left, le-max-right, max-eq-left, max-eq-right}
 use native.Mathlib.Omega.{arith}
 use lib.Dec.{ltb}
 use borrow.Author.Tests.{ltb-true, ltb-false, eq-eqb, ne-eqb}
@@ -46,6 +46,12 @@ ruled-same (equal d q) ok e = q
 ruled-same conflict ok e = absurd (false≢true ok)
 
 module _ {A : Type 0} (zeros : A) where
+  -- no call has a version above the highest, and more calls have no lower one
+  pub member-low : (s : Said A) (ss : List (Said A)) → List·Memᴰ s ss → s .version ≤ highest ss
+  unfolding highest
+  member-low s (t ∷ ss) (List·Memᴰ·head e) = rw e (le-max-left (t .version) (highest ss))
+  member-low s (t ∷ ss) (List·Memᴰ·tail m) = le-trans (member-low s ss m) (le-max-right (t .version) (highest ss))
+
   -- one more call, with no lower version than the others, or with a lower one
   newest : (s : Said A) (ss : List (Said A)) (Q : ℕ → A → Type 0) → highest ss ≤ s .version
       → Q (s .version) (s .content) → Q (highest (s ∷ ss)) (latest zeros (s ∷ ss))
@@ -70,6 +76,9 @@ module _ {A : Type 0} (zeros : A) where
       let rest = from ss Q none (λ t m. some t (List·Memᴰ·tail m)) in
       ⊎-elim (λ e. older s ss Q (ltb-true _ _ e) rest) (λ e. newest s ss Q (ltb-false _ _ e) (some s (List·Memᴰ·head refl)))
       (either (ltb (s .version) (highest ss)))
+
+  pub highest-within : (ss ts : List (Said A)) → ((s : Said A) → List·Memᴰ s ss → List·Memᴰ s ts) → highest ss ≤ highest ts
+  highest-within ss ts sub = from ss (λ v a. v ≤ highest ts) zero-le (λ s m. member-low s ts (sub s m))
 
   -- an accepted call leaves what the answer says: its version and content, or those before
   pub step : (s : Said A) (ss : List (Said A)) (same : Bool) → (same ≡ true → s .content ≡ latest zeros ss)
@@ -125,19 +134,15 @@ module _ {A : Type 0} (zeros : A) where
       }))
       (either (ltb (t .version) (highest ss)))
 
-  -- lists with the same calls have the same highest version and content
-  pub same-said : (ss ts : List (Said A)) → AllFair ss → AllFair ts
-      → ((s : Said A) → List·Memᴰ s ss → List·Memᴰ s ts) → ((s : Said A) → List·Memᴰ s ts → List·Memᴰ s ss)
-      → (highest ss ≡ highest ts) × (latest zeros ss ≡ latest zeros ts)
-  same-said ss ts fair-s fair-t sub sup =
+  -- calls among others, with no lower highest version, have the same highest version and content
+  pub same-said : (ss ts : List (Said A)) → AllFair ts → ((s : Said A) → List·Memᴰ s ss → List·Memᴰ s ts)
+      → highest ts ≤ highest ss → (highest ss ≡ highest ts) × (latest zeros ss ≡ latest zeros ts)
+  same-said ss ts fair-t sub down =
       let e = le-antisymm up down in
       (e, from ss (λ v a. v ≡ highest ts → a ≡ latest zeros ts) none (λ s m. fair-t s (sub s m) .agreed) e)
     where
       up : highest ss ≤ highest ts
       up = from ss (λ v a. v ≤ highest ts) zero-le (λ s m. fair-t s (sub s m) .bounded)
-
-      down : highest ts ≤ highest ss
-      down = from ts (λ v a. v ≤ highest ss) zero-le (λ s m. fair-s s (sup s m) .bounded)
 
       none : 0 ≡ highest ts → zeros ≡ latest zeros ts
       none = from ts (λ v a. 0 ≡ v → zeros ≡ a) (λ z. refl) (λ s m z. let pos = fair-t s m .positive in absurd (omega arith))

@@ -1,3 +1,3 @@
--- How the contracts name lent lists. No definition of 01's rules stands here.
+-- What the contracts of inner functions say.
 pub mod Lent
 pub mod Numbers

@@ -5,14 +5,14 @@ ghost use mathlib.Core.Path.{_≡_};
 ghost use Rattle.book.specs.Answers.{filedMeant};
 ghost use Rattle.book.specs.Arguments.{callMeant};
 ghost use Rattle.book.specs.Filling.{answer, after};
-ghost use Rattle.book.specs.Inner.Lent.{lentBook};
+ghost use Rattle.book.specs.Lent.{lentBook};
 
 pub enum Call {
     Delivery {
         slot: u32,
         version: u32,
         value: u32,
-        status: u8,
+        status: u32,
     },
     Holiday(u32),
     Register {

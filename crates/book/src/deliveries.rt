@@ -8,10 +8,10 @@ ghost use mathlib.Core.Path.{_≡_};
 ghost use Prim.Native.Nat.{_+_, _/_};
 ghost use lib.Dec.{eqb};
 ghost use Rattle.rules.specs.Opening.{headOk, slotsPerDay};
-ghost use Rattle.rules.specs.Inner.Lent.{lentSlots};
+ghost use Rattle.rules.specs.Lent.{lentSlots};
 ghost use Rattle.book.specs.Answers.{filedMeant};
 ghost use Rattle.book.specs.Filling.{isFull, againstDelivery, slotsWith, countsWith};
-ghost use Rattle.book.specs.Inner.Lent.{HoldSlots, Deliverable};
+ghost use Rattle.book.specs.Inner.Lent.{Deliverable};
 
 // The day of a slot: a division by each of the three numbers of slots a day is a multiplication.
 fn day_of(head: Head, slot: usize) -> usize
@@ -65,7 +65,8 @@ pub fn file_delivery(
         (let slots = lentSlots (values .entry) (versions .entry) (statuses .entry) in
         let found = againstDelivery head slots (now (counts .entry)) slot version value status in
         (filedMeant r ≡ found)
-        × HoldSlots (values .exit) (versions .exit) (statuses .exit) (slotsWith found slots slot version value status)
+        × (lentSlots (values .exit) (versions .exit) (statuses .exit)
+        ≡ slotsWith found slots slot version value status)
         × (now (counts .exit) ≡ countsWith found (now (versions .entry)) (now (counts .entry)) slot (slot / slotsPerDay head)))
         ⌝ }
 {

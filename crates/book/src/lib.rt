@@ -13,11 +13,11 @@ mod zeros;
 use rules::Head;
 use rules::opening;
 ghost use mathlib.Core.Path.{_≡_};
-ghost use Rattle.rules.specs.Inner.Lent.{lentSlots, lentAgreed};
+ghost use Rattle.rules.specs.Lent.{lentSlots, lentAgreed};
 ghost use Rattle.book.specs.Answers.{openedMeant, filedMeant};
 ghost use Rattle.book.specs.Opening.{openAnswer, openAfter};
 ghost use Rattle.book.specs.Filling.{deliverAnswer, deliverAfter, countsAfter, holidayAnswer, holidayAfter, registerAnswer, registerAfter, agreeAnswer, agreeAfter};
-ghost use Rattle.book.specs.Inner.Lent.{lentReads, lentBook, HoldSlots, HoldReads, HoldAgreed, HoldBook};
+ghost use Rattle.book.specs.Lent.{lentReads, lentBook};
 
 // What opening answers.
 pub enum Opened {
@@ -50,8 +50,8 @@ pub fn open(
         (let book =
         lentBook (values .entry) (versions .entry) (statuses .entry) (holidays .entry) (readings .entry) («read_versions» .entry) (agreed .entry) («agreed_versions» .entry) (counts .entry) (widths .entry) in
         (openedMeant r ≡ openAnswer head book)
-        × HoldBook (values .exit) (versions .exit) (statuses .exit) (holidays .exit) (readings .exit) («read_versions» .exit) (agreed .exit) («agreed_versions» .exit) (counts .exit) (widths .exit)
-        (openAfter head book))
+        × (lentBook (values .exit) (versions .exit) (statuses .exit) (holidays .exit) (readings .exit) («read_versions» .exit) (agreed .exit) («agreed_versions» .exit) (counts .exit) (widths .exit)
+        ≡ openAfter head book))
         ⌝ }
 {
     if !opening::head_ok(head) {
@@ -95,12 +95,13 @@ pub fn deliver(
     slot: u32,
     version: u32,
     value: u32,
-    status: u8,
+    status: u32,
 ) -> Filed
     ensures { λ r. ⌜
         (let slots = lentSlots (values .entry) (versions .entry) (statuses .entry) in
         (filedMeant r ≡ deliverAnswer head slots (now (counts .entry)) slot version value status)
-        × HoldSlots (values .exit) (versions .exit) (statuses .exit) (deliverAfter head slots (now (counts .entry)) slot version value status)
+        × (lentSlots (values .exit) (versions .exit) (statuses .exit)
+        ≡ deliverAfter head slots (now (counts .entry)) slot version value status)
         × (now (counts .exit) ≡ countsAfter head slots (now (counts .entry)) slot version value status))
         ⌝ }
 {
@@ -135,7 +136,7 @@ pub fn deliver(
         at,
         version,
         value,
-        status,
+        status as u8,
     )
 }
 
@@ -175,7 +176,8 @@ pub fn register(
     ensures { λ r. ⌜
         (let reads = lentReads (readings .entry) («read_versions» .entry) (widths .entry) in
         (filedMeant r ≡ registerAnswer head reads boundary version reading width)
-        × HoldReads (readings .exit) («read_versions» .exit) (widths .exit) (registerAfter head reads boundary version reading width))
+        × (lentReads (readings .exit) («read_versions» .exit) (widths .exit)
+        ≡ registerAfter head reads boundary version reading width))
         ⌝ }
 {
     if !opening::head_ok(head) {
@@ -206,7 +208,8 @@ pub fn agree(
     ensures { λ r. ⌜
         (let a = lentAgreed (agreed .entry) («agreed_versions» .entry) in
         (filedMeant r ≡ agreeAnswer head a slot version value)
-        × HoldAgreed (agreed .exit) («agreed_versions» .exit) (agreeAfter head a slot version value))
+        × (lentAgreed (agreed .exit) («agreed_versions» .exit)
+        ≡ agreeAfter head a slot version value))
         ⌝ }
 {
     if !opening::head_ok(head) {

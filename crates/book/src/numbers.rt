@@ -3,9 +3,8 @@ use crate::Filed;
 use crate::filing;
 ghost use mathlib.Core.Path.{_≡_};
 ghost use lib.ListN.{length};
-ghost use Rattle.rules.specs.Inner.Lent.{lentAgreed};
+ghost use Rattle.rules.specs.Lent.{lentAgreed};
 ghost use Rattle.book.specs.Answers.{filedMeant};
-ghost use Rattle.book.specs.Inner.Lent.{HoldAgreed};
 ghost use Rattle.book.specs.Inner.Numbers.{numberAnswer, numberAfter};
 
 pub fn file_number(
@@ -19,7 +18,8 @@ pub fn file_number(
     ensures { λ r. ⌜
         (let lent = lentAgreed (numbers .entry) (versions .entry) in
         (filedMeant r ≡ numberAnswer lent place version number)
-        × HoldAgreed (numbers .exit) (versions .exit) (numberAfter lent place version number))
+        × (lentAgreed (numbers .exit) (versions .exit)
+        ≡ numberAfter lent place version number))
         ⌝ }
 {
     let at = place as usize;

@@ -4,7 +4,7 @@ use crate::filing;
 ghost use mathlib.Core.Path.{_≡_};
 ghost use lib.ListN.{length};
 ghost use Rattle.book.specs.Answers.{filedMeant};
-ghost use Rattle.book.specs.Inner.Lent.{lentReads, HoldReads};
+ghost use Rattle.book.specs.Lent.{lentReads};
 ghost use Rattle.book.specs.Inner.Numbers.{readAnswer, readAfter};
 
 pub fn file_register(
@@ -20,7 +20,8 @@ pub fn file_register(
     ensures { λ r. ⌜
         (let lent = lentReads (readings .entry) (versions .entry) (widths .entry) in
         (filedMeant r ≡ readAnswer lent boundary version reading width)
-        × HoldReads (readings .exit) (versions .exit) (widths .exit) (readAfter lent boundary version reading width))
+        × (lentReads (readings .exit) (versions .exit) (widths .exit)
+        ≡ readAfter lent boundary version reading width))
         ⌝ }
 {
     let at = boundary as usize;

@@ -9,9 +9,9 @@ ghost use lib.Dec.{ltb};
 ghost use lib.ListN.{length, getD};
 ghost use Rattle.rules.specs.Lists.{sum, any};
 ghost use Rattle.rules.specs.Opening.{headOk, slotCount};
-ghost use Rattle.rules.specs.Inner.Lent.{lentSlots, lentAgreed, lentCells};
+ghost use Rattle.rules.specs.Lent.{lentSlots, lentAgreed, lentCells};
 ghost use Rattle.book.specs.Cells.{slotFaultAt, dayFaultAt, readFaultAt, agreedFaultAt, countFaultAt, cellsFit, cellsOk, bookFits, bookOk};
-ghost use Rattle.book.specs.Inner.Lent.{lentReads, lentBook};
+ghost use Rattle.book.specs.Lent.{lentReads, lentBook};
 
 fn bad_slot(values: &[u32], versions: &[u32], statuses: &[u8]) -> bool
     requires { ⌜ (length (now versions) ≡ length (now values)) × (length (now statuses) ≡ length (now values)) ⌝ }

@@ -4,7 +4,7 @@ use mathlib.Core.Path.{_≡_, refl, sym, _∙_}
 use borrow.Author.Tests.{not-true, not-false}
 use borrow.Author.Needs.{needs}
 use Rattle.rules.specs.Opening.{headOk}
-use Rattle.rules.specs.Inner.Lent.{lentAgreed}
+use Rattle.rules.specs.Lent.{lentAgreed}
 use Rattle.book.specs.Cells.{agreedFits}
 use Rattle.book.specs.Filling.{agreeAnswer, agreeAfter}
 use Rattle.book.specs.Inner.Numbers.{numberAfter}
@@ -18,7 +18,7 @@ head-ok-requires c κs = search needs
 
 returns : tie.Need-returns
 unfolding agreeAnswer agreeAfter
-returns c = rw (sym (c .before .head-ok .ensures) ∙ not-true _ (c .if1 .taken)) (refl, (refl, refl))
+returns c = rw (sym (c .before .head-ok .ensures) ∙ not-true _ (c .if1 .taken)) (refl, refl)
 
 agreed-fit-requires : tie.Need-agreed-fit-requires
 agreed-fit-requires c κs = sym (c .before .head-ok .ensures) ∙ not-false _ (c .if1 .left)
@@ -29,7 +29,7 @@ returns-2 c =
     let a = c .before .before .before .before .before .before .args in
     let ok : headOk (a .head) ≡ true = sym (c .before .before .before .head-ok .ensures) ∙ not-false _ (c .before .before .if1 .left) in
     let unfit : agreedFits (a .head) (lentAgreed (a .agreed) (a .agreed-versions)) ≡ false = sym (c .before .agreed-fit .ensures) ∙ not-true _ (c .if2 .taken) in
-    rw (ok, unfit) (refl, (refl, refl))
+    rw (ok, unfit) (refl, refl)
 
 file-number-requires : tie.Need-file-number-requires
 file-number-requires c κs =

@@ -7,7 +7,7 @@ use lib.ListN.{drop}
 use borrow.Author.Tests.{not-true, not-false, le-leb, lt-leb, lt-ltb, le-ltb, eq-eqb, ne-eqb}
 use borrow.Author.Needs.{needs}
 use Rattle.rules.specs.Opening.{headOk, slotCount, Slots}
-use Rattle.rules.specs.Inner.Lent.{lentSlots}
+use Rattle.rules.specs.Lent.{lentSlots}
 use Rattle.rules.proofs.Logic.{and-parts}
 use Rattle.rules.proofs.opening.head_ok.Reads as head-ok-reads
 use Rattle.rules.proofs.opening.slot_count.Reads as slot-count-reads
@@ -132,7 +132,7 @@ head-ok-requires c κs = search needs
 
 returns : tie.Need-returns
 unfolding deliverAnswer deliverAfter countsAfter
-returns c = rw (sym (c .before .head-ok .ensures) ∙ not-true _ (c .if1 .taken)) (refl, (refl, refl, refl), refl)
+returns c = rw (sym (c .before .head-ok .ensures) ∙ not-true _ (c .if1 .taken)) (refl, refl, refl)
 
 delivery-fits-requires : tie.Need-delivery-fits-requires
 delivery-fits-requires c κs = head-passed c
@@ -140,7 +140,7 @@ delivery-fits-requires c κs = head-passed c
 returns-2 : tie.Need-returns-2
 unfolding deliverAfter countsAfter
 returns-2 c =
-    rw (past-1 (c .before .before), fit-found (c .before) ∙ not-true _ (c .if2 .taken)) (refl, (refl, refl, refl), refl)
+    rw (past-1 (c .before .before), fit-found (c .before) ∙ not-true _ (c .if2 .taken)) (refl, refl, refl)
 
 slot-count-requires : tie.Need-slot-count-requires
 slot-count-requires c κs = head-passed (c .before .before)
@@ -150,17 +150,20 @@ unfolding deliverAfter countsAfter argumentRules
 returns-3 c =
     let over : slotCount (from2 (c .before .before) .args .head) ≤ from2 (c .before .before) .args .slot =
     omega (arith, c .before .slot-count .ensures, c .if3 .taken) in
-    rw (past-2 (c .before .before), le-leb _ _ over) (refl, (refl, refl, refl), refl)
+    rw (past-2 (c .before .before), le-leb _ _ over) (refl, refl, refl)
 
 returns-4 : tie.Need-returns-4
 unfolding deliverAfter countsAfter argumentRules
-returns-4 c = rw (past-3 (c .before), eq-eqb _ _ (c .if4 .taken)) (refl, (refl, refl, refl), refl)
+returns-4 c = rw (past-3 (c .before), eq-eqb _ _ (c .if4 .taken)) (refl, refl, refl)
 
 returns-5 : tie.Need-returns-5
 unfolding deliverAfter countsAfter argumentRules
 returns-5 c =
     let over : 7 < from3 (c .before .before) .args .status = omega (arith, c .if5 .taken) in
-    rw (past-4 (c .before), lt-ltb _ _ over) (refl, (refl, refl, refl), refl)
+    rw (past-4 (c .before), lt-ltb _ _ over) (refl, refl, refl)
+
+cast-file-delivery : tie.Need-cast-file-delivery
+cast-file-delivery c = search needs
 
 file-delivery-requires : tie.Need-file-delivery-requires
 file-delivery-requires c κs = deliverable (c .before .before .before .before .before .before)
@@ -195,6 +198,7 @@ deliver-spec =
     returns-3
     returns-4
     returns-5
+    cast-file-delivery
     file-delivery-requires
     same-length
     same-length-2

@@ -1,4 +1,4 @@
--- `open`: the first broken rule is given; the nine clears leave zeros of the right lengths.
+-- `open`: the first broken rule is given; the ten clears leave zeros of the right lengths.
 use mathlib.Core.List.{List}
 use mathlib.Core.Bool.{true, false}
 use mathlib.Core.Path.{_≡_, refl, sym, ap, _∙_}
@@ -6,9 +6,10 @@ use Prim.Native.Nat.{ℕ}
 use lib.ListN.{replicate}
 use borrow.Author.Tests.{not-true, not-false}
 use Rattle.book.specs.Cells.{slotsFit, daysFit, readsFit, agreedFits, cellsFit, countsFit, bookFits}
-use Rattle.book.specs.Inner.Lent.{lentBook}
+use Rattle.book.specs.Lent.{lentBook}
 use Rattle.book.specs.Opening.{opened, openAnswer, openAfter}
 use Rattle.book.proofs.Fits.{lengths-of, fits-of}
+use Rattle.book.proofs.Cleared.{opened-lists}
 use borrow.Author.Needs.{needs}
 use Rattle.book.proofs.open.Statement.{statement}
 use Rattle.book.proofs.open.Tie as tie
@@ -18,7 +19,7 @@ head-ok-requires c κs = search needs
 
 returns : tie.Need-returns
 unfolding openAnswer openAfter
-returns c = rw (sym (c .before .head-ok .ensures) ∙ not-true _ (c .if1 .taken)) (refl, (refl, refl, refl, refl, refl, refl, refl, refl, refl, refl))
+returns c = rw (sym (c .before .head-ok .ensures) ∙ not-true _ (c .if1 .taken)) (refl, refl)
 
 book-fits-requires : tie.Need-book-fits-requires
 book-fits-requires c κs = sym (c .before .head-ok .ensures) ∙ not-false _ (c .if1 .left)
@@ -29,7 +30,7 @@ returns-2 c = let a = c .before .before .before .before .before .before .before 
     let broken : bookFits (a .head) (lentBook (a .values) (a .versions) (a .statuses) (a .holidays) (a .readings) (a .read-versions) (a .agreed) (a .agreed-versions) (a .counts) (a .widths)) ≡ false =
     sym (c .before .book-fits .ensures) ∙ not-true _ (c .if2 .taken) in
     rw (sym (c .before .before .before .head-ok .ensures) ∙ not-false _ (c .before .before .if1 .left), broken)
-    (refl, (refl, refl, refl, refl, refl, refl, refl, refl, refl, refl))
+    (refl, refl)
 
 clear-words-requires : tie.Need-clear-words-requires
 clear-words-requires c κs = search needs
@@ -101,18 +102,17 @@ returns-3 c = let a = c .before .before .before .before .before .before .before 
     let zeros : ℕ → List ℕ = λ n. replicate n 0 in
     rw (sym (c .before .before .before .before .before .before .before .before .before .before .before .before .before .before .before .before .before .before .before .before .before .before .before .before .before .before .before .before .before .before .before .before .before .before .before .before .before .before .before .before .before .before .before .head-ok .ensures) ∙ not-false _ (c .before .before .before .before .before .before .before .before .before .before .before .before .before .before .before .before .before .before .before .before .before .before .before .before .before .before .before .before .before .before .before .before .before .before .before .before .before .before .before .before .before .before .if1 .left), fit) (
       refl,
-      (
-        c .before .before .before .before .before .before .before .before .before .before .before .before .before .before .before .before .before .before .before .before .before .before .before .before .before .before .before .before .before .before .before .before .before .before .before .before .before .before .clear-words .ensures ∙ ap zeros (long .values),
-        c .before .before .before .before .before .before .before .before .before .before .before .before .before .before .before .before .before .before .before .before .before .before .before .before .before .before .before .before .before .before .before .before .before .before .clear-words2 .ensures ∙ ap zeros (long .versions),
-        c .before .before .before .before .before .before .before .before .before .before .before .before .before .before .before .before .before .before .before .before .before .before .before .before .before .before .before .before .before .before .clear-bytes .ensures ∙ ap zeros (long .statuses),
-        c .before .before .before .before .before .before .before .before .before .before .before .before .before .before .before .before .before .before .before .before .before .before .before .before .before .before .clear-bytes2 .ensures ∙ ap zeros (long .holidays),
-        c .before .before .before .before .before .before .before .before .before .before .before .before .before .before .before .before .before .before .before .before .before .before .clear-words3 .ensures ∙ ap zeros (long .readings),
-        c .before .before .before .before .before .before .before .before .before .before .before .before .before .before .before .before .before .before .clear-words4 .ensures ∙ ap zeros (long .readVersions),
-        c .before .before .before .before .before .before .before .before .before .before .before .before .before .before .clear-words5 .ensures ∙ ap zeros (long .agreed),
-        c .before .before .before .before .before .before .before .before .before .before .clear-words6 .ensures ∙ ap zeros (long .agreedVersions),
-        c .before .before .before .before .before .before .clear-counts .ensures ∙ ap zeros (fits .1),
-        c .before .before .clear-counts2 .ensures ∙ ap zeros (long .widths),
-      ),
+      opened-lists (a .head)
+          (c .before .before .before .before .before .before .before .before .before .before .before .before .before .before .before .before .before .before .before .before .before .before .before .before .before .before .before .before .before .before .before .before .before .before .before .before .before .before .clear-words .ensures ∙ ap zeros (long .values))
+          (c .before .before .before .before .before .before .before .before .before .before .before .before .before .before .before .before .before .before .before .before .before .before .before .before .before .before .before .before .before .before .before .before .before .before .clear-words2 .ensures ∙ ap zeros (long .versions))
+          (c .before .before .before .before .before .before .before .before .before .before .before .before .before .before .before .before .before .before .before .before .before .before .before .before .before .before .before .before .before .before .clear-bytes .ensures ∙ ap zeros (long .statuses))
+          (c .before .before .before .before .before .before .before .before .before .before .before .before .before .before .before .before .before .before .before .before .before .before .before .before .before .before .clear-bytes2 .ensures ∙ ap zeros (long .holidays))
+          (c .before .before .before .before .before .before .before .before .before .before .before .before .before .before .before .before .before .before .before .before .before .before .clear-words3 .ensures ∙ ap zeros (long .readings))
+          (c .before .before .before .before .before .before .before .before .before .before .before .before .before .before .before .before .before .before .clear-words4 .ensures ∙ ap zeros (long .readVersions))
+          (c .before .before .before .before .before .before .before .before .before .before .before .before .before .before .clear-words5 .ensures ∙ ap zeros (long .agreed))
+          (c .before .before .before .before .before .before .before .before .before .before .clear-words6 .ensures ∙ ap zeros (long .agreedVersions))
+          (c .before .before .before .before .before .before .clear-counts .ensures ∙ ap zeros (fits .1))
+          (c .before .before .clear-counts2 .ensures ∙ ap zeros (long .widths)),
     )
 
 pub open-spec : {M : Type 1} → statement M

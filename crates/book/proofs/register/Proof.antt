@@ -4,7 +4,7 @@ use mathlib.Core.Path.{_≡_, refl, sym, _∙_}
 use borrow.Author.Tests.{not-true, not-false}
 use borrow.Author.Needs.{needs}
 use Rattle.rules.specs.Opening.{headOk}
-use Rattle.book.specs.Inner.Lent.{lentReads}
+use Rattle.book.specs.Lent.{lentReads}
 use Rattle.book.specs.Cells.{readsFit}
 use Rattle.book.specs.Filling.{registerAnswer, registerAfter}
 use Rattle.book.specs.Inner.Numbers.{readAfter}
@@ -18,7 +18,7 @@ head-ok-requires c κs = search needs
 
 returns : tie.Need-returns
 unfolding registerAnswer registerAfter
-returns c = rw (sym (c .before .head-ok .ensures) ∙ not-true _ (c .if1 .taken)) (refl, (refl, refl, refl))
+returns c = rw (sym (c .before .head-ok .ensures) ∙ not-true _ (c .if1 .taken)) (refl, refl)
 
 reads-fit-requires : tie.Need-reads-fit-requires
 reads-fit-requires c κs = search needs
@@ -29,7 +29,7 @@ returns-2 c =
     let a = c .before .before .before .before .before .before .before .args in
     let ok : headOk (a .head) ≡ true = sym (c .before .before .before .head-ok .ensures) ∙ not-false _ (c .before .before .if1 .left) in
     let unfit : readsFit (a .head) (lentReads (a .readings) (a .read-versions) (a .widths)) ≡ false = sym (c .before .reads-fit .ensures) ∙ not-true _ (c .if2 .taken) in
-    rw (ok, unfit) (refl, (refl, refl, refl))
+    rw (ok, unfit) (refl, refl)
 
 file-register-requires : tie.Need-file-register-requires
 file-register-requires c κs =

@@ -42,7 +42,7 @@ same-length-4 c = search needs
 
 returns : tie.Need-returns
 returns c = let e = c .before .before .before .before .before .before .before .before .deliver .ensures in
-    delivered _ _ _ _ _ _ _ _ _ _ _ _ _ (c .before .before .before .before .before .before .before .before .before .before .before .before .before .before .call .given .1) (e .0) (e .1 .0) (e .1 .1) (e .1 .2) (e .2)
+    delivered _ _ _ _ _ _ _ _ _ _ _ _ _ (c .before .before .before .before .before .before .before .before .before .before .before .before .before .before .call .given .1) (e .0) (e .1) (e .2)
 
 same-length-5 : tie.Need-same-length-5
 same-length-5 c = search needs
@@ -61,7 +61,7 @@ same-length-8 c = search needs
 
 returns-3 : tie.Need-returns-3
 returns-3 c = let e = c .before .before .before .before .before .before .register .ensures in
-    registered _ _ _ _ _ _ _ _ _ _ _ _ (c .before .before .before .before .before .before .before .before .before .before .before .call3 .given .1) (e .0) (e .1 .0) (e .1 .1) (e .1 .2)
+    registered _ _ _ _ _ _ _ _ _ _ _ _ (c .before .before .before .before .before .before .before .before .before .before .before .call3 .given .1) (e .0) (e .1)
 
 same-length-9 : tie.Need-same-length-9
 same-length-9 c = search needs
@@ -71,7 +71,7 @@ same-length-10 c = search needs
 
 returns-4 : tie.Need-returns-4
 returns-4 c = let e = c .before .before .before .before .agree .ensures in
-    settled _ _ _ _ _ _ _ _ _ _ (c .before .before .before .before .before .before .before .before .call4 .given .1) (e .0) (e .1 .0) (e .1 .1)
+    settled _ _ _ _ _ _ _ _ _ _ (c .before .before .before .before .before .before .before .before .call4 .given .1) (e .0) (e .1)
 
 pub fill-spec : {M : Type 1} → statement M
 fill-spec =

@@ -61,7 +61,7 @@ returns : tie.Need-returns
 unfolding againstDelivery
 returns c = let full : isFull (c .before .before .before .before .before .before .before .before .before .args .head) (getD (c .before .before .before .before .before .before .before .before .before .args .versions .now) (c .before .before .before .before .before .before .before .before .before .args .slot) 0) (getD (c .before .before .before .before .before .before .before .before .before .args .counts .now) (c .before .before .before .before .before .before .before .before .before .args .slot / slotsPerDay (c .before .before .before .before .before .before .before .before .before .args .head)) 0) ≡ true =
     rw (c .before .before .before .before .day-of .ensures) at (sym (c .before .is-full .ensures) ∙ c .if1 .taken) in
-    rw full (refl, (refl, refl, refl), refl)
+    rw full (refl, refl, refl)
 
 slice-read-old-status : tie.Need-slice-read-old-status
 slice-read-old-status c = search needs
@@ -118,13 +118,13 @@ returns-2 : tie.Need-returns-2
 unfolding againstDelivery
 returns-2 c = let full : isFull (c .before .before .before .before .before .before .before .before .before .before .before .before .before .before .before .args .head) (getD (c .before .before .before .before .before .before .before .before .before .before .before .before .before .before .before .args .versions .now) (c .before .before .before .before .before .before .before .before .before .before .before .before .before .before .before .args .slot) 0) (getD (c .before .before .before .before .before .before .before .before .before .before .before .before .before .before .before .args .counts .now) (c .before .before .before .before .before .before .before .before .before .before .before .before .before .before .before .args .slot / slotsPerDay (c .before .before .before .before .before .before .before .before .before .before .before .before .before .before .before .args .head)) 0) ≡ false =
     rw (c .before .before .before .before .before .before .before .before .before .before .day-of .ensures) at (sym (c .before .before .before .before .before .before .before .is-full .ensures) ∙ c .before .before .before .before .before .before .if1 .left) in
-    rw (full, sym (c .before .before .before .against-slot .ensures), sym (c .before .before .is-stored .ensures) ∙ c .before .if2 .taken, c .raised .ensures, c .before .before .before .before .before .before .before .before .before .before .day-of .ensures) (refl, (refl, refl, refl), refl)
+    rw (full, sym (c .before .before .before .against-slot .ensures), sym (c .before .before .is-stored .ensures) ∙ c .before .if2 .taken, c .raised .ensures, c .before .before .before .before .before .before .before .before .before .before .day-of .ensures) (refl, refl, refl)
 
 returns-3 : tie.Need-returns-3
 unfolding againstDelivery
 returns-3 c = let full : isFull (c .before .before .before .before .before .before .before .before .before .before .before .before .before .before .args .head) (getD (c .before .before .before .before .before .before .before .before .before .before .before .before .before .before .args .versions .now) (c .before .before .before .before .before .before .before .before .before .before .before .before .before .before .args .slot) 0) (getD (c .before .before .before .before .before .before .before .before .before .before .before .before .before .before .args .counts .now) (c .before .before .before .before .before .before .before .before .before .before .before .before .before .before .args .slot / slotsPerDay (c .before .before .before .before .before .before .before .before .before .before .before .before .before .before .args .head)) 0) ≡ false =
     rw (c .before .before .before .before .before .before .before .before .before .day-of .ensures) at (sym (c .before .before .before .before .before .before .is-full .ensures) ∙ c .before .before .before .before .before .if1 .left) in
-    rw (full, sym (c .before .before .against-slot .ensures), sym (c .before .is-stored .ensures) ∙ c .if2 .left) (refl, (refl, refl, refl), refl)
+    rw (full, sym (c .before .before .against-slot .ensures), sym (c .before .is-stored .ensures) ∙ c .if2 .left) (refl, refl, refl)
 
 pub file-delivery-spec : {M : Type 1} → statement M
 file-delivery-spec =

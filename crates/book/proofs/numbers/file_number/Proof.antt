@@ -6,7 +6,7 @@ use lib.ListN.{length}
 use borrow.Author.Tests.{le-leb, lt-leb, lt-ltb, eq-eqb, ne-eqb}
 use borrow.Author.Needs.{needs}
 use Rattle.book.specs.Answers.{Answer, filedMeant}
-use Rattle.rules.specs.Inner.Lent.{lentAgreed}
+use Rattle.rules.specs.Lent.{lentAgreed}
 use Rattle.book.specs.Inner.Numbers.{numberAnswer, numberAfter}
 use Rattle.book.proofs.OneNumber.{number-sound}
 use Rattle.book.proofs.filing.against_agreed.Reads as against-agreed-reads
@@ -30,17 +30,17 @@ returns : tie.Need-returns
 unfolding numberAnswer numberAfter
 returns c =
     let beyond : length (c .before .before .before .args .numbers .now) ≤ c .before .before .before .args .place = omega (arith, c .if1 .taken) in
-    rw (le-leb _ _ beyond) (refl, (refl, refl))
+    rw (le-leb _ _ beyond) (refl, refl)
 
 returns-2 : tie.Need-returns-2
 unfolding numberAnswer numberAfter
-returns-2 c = rw (lt-leb _ _ (inside (c .before)), eq-eqb _ _ (c .if2 .taken)) (refl, (refl, refl))
+returns-2 c = rw (lt-leb _ _ (inside (c .before)), eq-eqb _ _ (c .if2 .taken)) (refl, refl)
 
 returns-3 : tie.Need-returns-3
 unfolding numberAnswer numberAfter
 returns-3 c =
     let large : 99999999 < c .before .before .before .before .before .args .number = omega (arith, c .if3 .taken) in
-    rw (lt-leb _ _ (inside (c .before .before)), ne-eqb _ _ (c .before .if2 .left), lt-ltb _ _ large) (refl, (refl, refl))
+    rw (lt-leb _ _ (inside (c .before .before)), ne-eqb _ _ (c .before .if2 .left), lt-ltb _ _ large) (refl, refl)
 
 mul-against-agreed : tie.Need-mul-against-agreed
 mul-against-agreed c = search needs
@@ -86,11 +86,11 @@ found c =
 
 returns-4 : tie.Need-returns-4
 unfolding numberAfter
-returns-4 c = rw (found (c .before .before), sym (c .before .is-stored .ensures) ∙ c .if4 .taken) (refl, (refl, refl))
+returns-4 c = rw (found (c .before .before), sym (c .before .is-stored .ensures) ∙ c .if4 .taken) (refl, refl)
 
 returns-5 : tie.Need-returns-5
 unfolding numberAfter
-returns-5 c = rw (found (c .before .before), sym (c .before .is-stored .ensures) ∙ c .if4 .left) (refl, (refl, refl))
+returns-5 c = rw (found (c .before .before), sym (c .before .is-stored .ensures) ∙ c .if4 .left) (refl, refl)
 
 pub file-number-spec : {M : Type 1} → statement M
 file-number-spec =

@@ -6,7 +6,7 @@ use lib.ListN.{length}
 use borrow.Author.Tests.{le-leb, lt-leb, lt-ltb, le-ltb, eq-eqb, ne-eqb}
 use borrow.Author.Needs.{needs}
 use Rattle.book.specs.Answers.{Answer, filedMeant}
-use Rattle.book.specs.Inner.Lent.{lentReads}
+use Rattle.book.specs.Lent.{lentReads}
 use Rattle.book.specs.Inner.Numbers.{readAnswer, readAfter}
 use Rattle.book.proofs.OneNumber.{read-sound}
 use Rattle.book.proofs.filing.against_boundary.Reads as against-boundary-reads
@@ -30,24 +30,24 @@ returns : tie.Need-returns
 unfolding readAnswer readAfter
 returns c =
     let beyond : length (c .before .before .before .before .args .readings .now) ≤ c .before .before .before .before .args .boundary = omega (arith, c .if1 .taken) in
-    rw (le-leb _ _ beyond) (refl, (refl, refl, refl))
+    rw (le-leb _ _ beyond) (refl, refl)
 
 returns-2 : tie.Need-returns-2
 unfolding readAnswer readAfter
-returns-2 c = rw (lt-leb _ _ (inside (c .before)), eq-eqb _ _ (c .if2 .taken)) (refl, (refl, refl, refl))
+returns-2 c = rw (lt-leb _ _ (inside (c .before)), eq-eqb _ _ (c .if2 .taken)) (refl, refl)
 
 returns-3 : tie.Need-returns-3
 unfolding readAnswer readAfter
 returns-3 c =
     let large : 99999999 < c .before .before .before .before .before .before .args .reading = omega (arith, c .if3 .taken) in
-    rw (lt-leb _ _ (inside (c .before .before)), ne-eqb _ _ (c .before .if2 .left), lt-ltb _ _ large) (refl, (refl, refl, refl))
+    rw (lt-leb _ _ (inside (c .before .before)), ne-eqb _ _ (c .before .if2 .left), lt-ltb _ _ large) (refl, refl)
 
 returns-4 : tie.Need-returns-4
 unfolding readAnswer readAfter
 returns-4 c =
     let small : c .before .before .before .before .before .before .before .args .reading ≤ 99999999 = omega (arith, c .before .if3 .left) in
     let wide : 9999 < c .before .before .before .before .before .before .before .args .width = omega (arith, c .if4 .taken) in
-    rw (lt-leb _ _ (inside (c .before .before .before)), ne-eqb _ _ (c .before .before .if2 .left), le-ltb _ _ small, lt-ltb _ _ wide) (refl, (refl, refl, refl))
+    rw (lt-leb _ _ (inside (c .before .before .before)), ne-eqb _ _ (c .before .before .if2 .left), le-ltb _ _ small, lt-ltb _ _ wide) (refl, refl)
 
 mul-against-boundary : tie.Need-mul-against-boundary
 mul-against-boundary c = search needs
@@ -112,11 +112,11 @@ found c =
 
 returns-5 : tie.Need-returns-5
 unfolding readAfter
-returns-5 c = rw (found (c .before .before), sym (c .before .is-stored .ensures) ∙ c .if5 .taken) (refl, (refl, refl, refl))
+returns-5 c = rw (found (c .before .before), sym (c .before .is-stored .ensures) ∙ c .if5 .taken) (refl, refl)
 
 returns-6 : tie.Need-returns-6
 unfolding readAfter
-returns-6 c = rw (found (c .before .before), sym (c .before .is-stored .ensures) ∙ c .if5 .left) (refl, (refl, refl, refl))
+returns-6 c = rw (found (c .before .before), sym (c .before .is-stored .ensures) ∙ c .if5 .left) (refl, refl)
 
 pub file-register-spec : {M : Type 1} → statement M
 file-register-spec =

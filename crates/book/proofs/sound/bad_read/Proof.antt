@@ -7,7 +7,7 @@ use native.Mathlib.Omega.{arith}
 use lib.ListN.{length}
 use Rattle.rules.specs.Lists.{any}
 use Rattle.book.specs.Cells.{readFaultAt}
-use Rattle.book.specs.Inner.Lent.{readLists}
+use Rattle.book.specs.Lent.{readLists}
 use Rattle.rules.proofs.Looked.{none-yet, none-on, one-found}
 use Rattle.book.proofs.sound.bad_read.Statement.{statement}
 use Rattle.book.proofs.sound.bad_read.Tie as tie

@@ -2,7 +2,7 @@
 use mathlib.Core.Path.{_≡_, sym, _∙_}
 use Rattle.rules.specs.Lists.{any}
 use Rattle.book.specs.Cells.{countFaultAt, bookOk}
-use Rattle.book.specs.Inner.Lent.{lentBook}
+use Rattle.book.specs.Lent.{lentBook}
 use Rattle.book.proofs.Fits.{lengths-of, fits-of}
 use borrow.Author.Tests.{not-true, not-false}
 use Rattle.book.proofs.sound.book_ok.Statement.{statement}

@@ -4,7 +4,7 @@ use mathlib.Core.Path.{_≡_, sym, _∙_}
 use Prim.Native.Nat.{suc}
 use Rattle.rules.specs.Lists.{any}
 use Rattle.rules.specs.Opening.{slotCount}
-use Rattle.rules.specs.Inner.Lent.{slots, agreedLists, cells}
+use Rattle.rules.specs.Lent.{slots, agreedLists, cells}
 use Rattle.book.specs.Cells.{slotFaultAt, dayFaultAt, readFaultAt, agreedFaultAt, readsOf, cellsOk}
 use Rattle.book.proofs.Fits.{lengths-of}
 use borrow.Author.Needs.{needs}
