@@ -2,7 +2,6 @@
 use mathlib.Core.Path.{_≡_, refl, sym, ap, ap₂, _∙_}
 use mathlib.Core.Bool.{Bool}
 use mathlib.Core.List.{List, [], _∷_, _++_}
-use mathlib.Core.Logic.{_↔_}
 use Prim.Native.Nat.{ℕ, _+_, _*_, _≤_, _<_}
 use native.Mathlib.Nat.{zero-add}
 use native.Mathlib.Omega.{arith}
@@ -20,6 +19,7 @@ use Rattle.file.specs.declared.Verdict.the-variants.{Accepted}
 use Rattle.file.specs.Layout.{Content, letter, total, one, row, table, slotRow, spanRow, ranged, spanWidth, trailerRow, figuresOf, tablesOf, fileOf}
 use Rattle.file.specs.Reader.{num, byte, slotAt, spanAt, trailerAt, figures, layoutFits, slotCount, tablesAt, countOf, trailerTests, tableTests, figureTests, spanTests, spanOk, trailerOk, tablesOk, figuresOk, readFile, partOf, tablesPart}
 use Rattle.file.specs.Contents.{Bytes, WellFormed, slot, span, noSlot, slotRecord, spanRecord, recordsOf, qualityOf, outcomeOf, spanOf, contentOf}
+use Rattle.file.specs.Claim.{FileOf, Exactly, Canonical}
 use Rattle.file.proofs.Numbers.{num-one, num-lt, num-take, byte-take}
 use Rattle.file.proofs.Rows.{reads, row-reads, table-reads}
 use Rattle.file.proofs.Lists.{length-upTo, getD-upTo, upTo-cong}
@@ -28,7 +28,9 @@ use Rattle.file.proofs.Records.{record-tells}
 use Rattle.file.proofs.SpanRecords.{record-within, from-exact, from-take, span-written}
 use Rattle.file.proofs.Agree.{Agree, count-agree, sum-agree, tables-agree}
 use Rattle.file.proofs.Answers.{Passed, ready, tests-passed}
-use Rattle.file.proofs.Accepted.{Tests, testsA, testsS, testsF, testsN, count-own, sum-own, accepted}
+use Rattle.file.proofs.Accepted.{Tests, testsA, testsS, testsF, testsN, count-own, sum-own, accepted, tables-back}
+use Rattle.file.proofs.Content.{file-bytes, injective}
+use Rattle.file.proofs.Fitting.{fitting}
 
 module _ (bs : List ℕ) (b : Bytes bs) (p : Passed bs (figures bs)) where
   abbrev g : Figures
@@ -210,27 +212,40 @@ module _ (bs : List ℕ) (b : Bytes bs) (p : Passed bs (figures bs)) where
       upTo-cong _ _ 0 m (λ j l. ap spanOf (span-same j (omega arith))) in
       λ k. record { layout = g .layout; first = g .first; days = g .days; interval = g .interval; slots = slots k; spans = spans k }
 
+-- a content's tables are those that the reader hands back of its file
+tables-same : (f : Content) → WellFormed f → (bs : List ℕ) → fileOf f ≡ bs → tablesOf f ≡ tablesPart bs
+tables-same f w bs e = sym (tables-back f w) ∙ ap tablesPart e
+
 -- what the reader accepts is the file of a well-formed content: the one that its answers, figures and tables, hold
-pub canonical : (bs : List ℕ) → Bytes bs → (g : Figures) → readFile bs ≡ Accepted g
-    → (fileOf (contentOf g (tablesPart bs)) ≡ bs) × (figuresOf (contentOf g (tablesPart bs)) ≡ g) × WellFormed (contentOf g (tablesPart bs))
-unfolding tablesPart
+pub canonical : Canonical
 canonical bs b g e =
     let (k, same) = tests-passed bs g e in
     let p : Passed bs (figures bs) = rw same k in
-    let content : contentOf g (partOf (readFile bs) bs) ≡ contentOf (figures bs) bs =
-    ap (λ (v : Verdict). contentOf g (partOf v bs)) e ∙ ap (λ (x : Figures). contentOf x (take (trailerAt bs) bs)) (sym same) ∙ part-same bs b p in
-    rw content (file-right bs b p, figures-right bs b p ∙ same, well-formed bs b p)
+    let part : tablesPart bs ≡ take (trailerAt bs) bs = unfold tablesPart in ap (λ (v : Verdict). partOf v bs) e in
+    let content : contentOf g (tablesPart bs) ≡ contentOf (figures bs) bs =
+    ap (contentOf g) part ∙ ap (λ (x : Figures). contentOf x (take (trailerAt bs) bs)) (sym same) ∙ part-same bs b p in
+    rw content (record {
+      formed = well-formed bs b p;
+      file = file-right bs b p;
+      figures = figures-right bs b p ∙ same;
+      tables = tables-same (contentOf (figures bs) bs) (well-formed bs b p) bs (file-right bs b p);
+    })
 
 -- figures and tables together determine the file
 pub determined : (bs cs : List ℕ) → Bytes bs → Bytes cs → (g : Figures) → readFile bs ≡ Accepted g → readFile cs ≡ Accepted g
     → tablesPart bs ≡ tablesPart cs → bs ≡ cs
 determined bs cs b c g d e s =
-    sym (canonical bs b g d .0) ∙ ap (λ (x : List ℕ). fileOf (contentOf g x)) s ∙ canonical cs c g e .0
+    sym (canonical bs b g d .file) ∙ ap (λ (x : List ℕ). fileOf (contentOf g x)) s ∙ canonical cs c g e .file
 
--- the reader accepts exactly the files of well-formed contents, with their figures
-pub exactly : (bs : List ℕ) → Bytes bs → (g : Figures)
-    → (readFile bs ≡ Accepted g) ↔ ((f : Content) × WellFormed f × (fileOf f ≡ bs) × (figuresOf f ≡ g))
-exactly bs b g = (
-  λ e. let k = canonical bs b g e in (contentOf g (tablesPart bs), k .2, k .0, k .1),
-  λ c. ap readFile (sym (c .2)) ∙ accepted (c .0) (c .1) ∙ ap Accepted (c .3),
+-- the reader accepts exactly the files of well-formed contents, with their figures and tables
+pub exactly : Exactly
+exactly bs b g part = (
+  λ e. (contentOf g (tablesPart bs), rw (← e .1) (canonical bs b g (e .0))),
+  λ (f, w). (ap readFile (sym (w .file)) ∙ accepted f (w .formed) ∙ ap Accepted (w .figures), sym (tables-same f (w .formed) bs (w .file)) ∙ w .tables),
 )
+
+-- the figures and tables of a well-formed content hold it
+pub content-back : (f : Content) → WellFormed f → contentOf (figuresOf f) (tablesOf f) ≡ f
+content-back f w =
+    let k = canonical (fileOf f) (file-bytes f) (figuresOf f) (accepted f w) in
+    rw (tables-back f w) at (injective (contentOf (figuresOf f) (tablesPart (fileOf f))) f (fitting _ (k .formed)) (fitting f w) (k .file))

@@ -12,9 +12,9 @@ use Rattle.rules.specs.declared.Quality.the-variants.{A, S, F, N}
 use Rattle.rules.specs.Spans.{noSpan, upTo}
 use Rattle.file.specs.Layout.{Content, row, table, letter, slotRow, ranged, spanRow, spanWidth, trailerRow, figuresOf, tablesOf, fileOf}
 use Rattle.file.specs.Reader.{num, byte, slotAt, spanAt, trailerAt, figures, distance, slotCount}
-use Rattle.file.specs.Contents.{Fitting, slot, span, noSlot, slotRecord, spanRecord, qualityOf, outcomeOf, spanOf, contentOf}
+use Rattle.file.specs.Contents.{Bytes, Fitting, slot, span, noSlot, slotRecord, spanRecord, qualityOf, outcomeOf, spanOf, contentOf}
 use Rattle.file.proofs.Numbers.{num-skip, num-one}
-use Rattle.file.proofs.Rows.{before, field, field-at, length-row, length-table, table-field}
+use Rattle.file.proofs.Rows.{before, field, field-at, length-row, length-table, table-field, joined-bytes, row-bytes, table-bytes}
 use Rattle.file.proofs.Lists.{upTo-list}
 use Rattle.file.proofs.SpanRecords.{Stands, span-wide, span-read, width-le}
 
@@ -52,6 +52,13 @@ module _ (f : Content) where
       ap length parts ∙ length-append slotPart (spanPart ++ row trailer)
       ∙ ap (λ (n : ℕ). length slotPart + n) (length-append spanPart (row trailer))
       ∙ omega (arith, length-slots, length-spans, length-row trailer)
+
+  pub file-bytes : Bytes (fileOf f)
+  unfolding fileOf tablesOf
+  file-bytes =
+      joined-bytes (tablesOf f) (row trailer)
+      (joined-bytes (table slotRow (f .slots)) (table (spanRow r) (f .spans)) (table-bytes slotRow (f .slots)) (table-bytes (spanRow r) (f .spans)))
+      (row-bytes trailer)
 
   pub trailer-place : trailerAt (fileOf f) ≡ 6 * length (f .slots) + w * length (f .spans)
   trailer-place = omega (arith, length-file)

@@ -8,7 +8,7 @@ use native.Mathlib.Omega.{arith}
 use borrow.Author.Tests.{eq-eqb, ne-eqb}
 use lib.Dec.{eqb}
 use Rattle.rules.proofs.Logic.{or-parts}
-use Rattle.file.specs.Lists.{some}
+use Rattle.file.specs.Lists.{oneOf}
 
 pub both : (a b : Bool) → a ≡ true → b ≡ true → (a && b) ≡ true
 both a b p q = rw (p, q)
@@ -44,9 +44,9 @@ abbrev pub Each : (P : Type 0) → List Bool → Type 0
 Each P [] = Unit {0}
 Each P (t ∷ ts) = (t ≡ true → P) × Each P ts
 
-pub one-of : (P : Type 0) (ts : List Bool) → Each P ts → some ts ≡ true → P
+pub one-of : (P : Type 0) (ts : List Bool) → Each P ts → oneOf ts ≡ true → P
 one-of P [] h e = absurd (false≢true e)
-one-of P (t ∷ ts) h e = ⊎-elim (h .0) (one-of P ts (h .1)) (or-parts t (some ts) e)
+one-of P (t ∷ ts) h e = ⊎-elim (h .0) (one-of P ts (h .1)) (or-parts t (oneOf ts) e)
 
 -- the outcome of a code's test for the number that the definition names
 pub tests-true : {m n k : ℕ} → m ≡ n → m ≡ k → eqb n k ≡ true

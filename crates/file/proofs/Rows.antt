@@ -1,9 +1,10 @@
 -- Rows of fields and tables of rows: what is written is read, and what is read is written.
 use mathlib.Core.Path.{_≡_, refl, sym, ap, ap₂, _∙_, subst}
 use mathlib.Core.List.{List, [], _∷_, _++_, append-assoc}
-use Prim.Native.Nat.{ℕ, zero, suc, _+_, _*_, _^_, _≤_, _<_}
-use native.Mathlib.Nat.{add-zero, zero-add, mul-suc, mul-zero, not-suc-le-zero, le-of-suc-le-suc}
+use Prim.Native.Nat.{ℕ, zero, suc, _+_, _*_, _/_, _^_, _≤_, _<_}
+use native.Mathlib.Nat.{add-zero, zero-add, mul-suc, mul-zero, not-suc-le-zero, le-of-suc-le-suc, mod-lt}
 use native.Mathlib.Omega.{arith}
+use lib.Dec.{lit<}
 use lib.ListN.{length, getD, take, drop, length-append}
 use lib.Seq.{take-add, drop-drop}
 use Rattle.rules.specs.Spans.{upTo}
@@ -105,3 +106,26 @@ module _ {A : Type 0} (r : A → List (ℕ × ℕ)) (w : ℕ) (f : ℕ → A) (b
   -- a table of what is read from place b on
   pub table-reads : (n : ℕ) → ((i : ℕ) → i < n → row (r (f i)) ≡ take w (drop (b + w * i) bs)) → table r (upTo f 0 n) ≡ take (w * n) (drop b bs)
   table-reads n h = table-upTo 0 n (λ i l. h i (omega arith)) ∙ rw (mul-zero, add-zero)
+
+-- ---- What is written are bytes
+
+pub joined-bytes : (p q : List ℕ) → Bytes p → Bytes q → Bytes (p ++ q)
+joined-bytes [] q b d i = d i
+joined-bytes (x ∷ p) q b d zero = b 0
+joined-bytes (x ∷ p) q b d (suc i) = joined-bytes p q (λ j. b (suc j)) d i
+
+number-bytes : (k n : ℕ) → Bytes (bytes k n)
+unfolding bytes
+number-bytes zero n i = lit< tt
+number-bytes (suc k) n zero = mod-lt n (lit< tt)
+number-bytes (suc k) n (suc i) = number-bytes k (n / 256) i
+
+pub row-bytes : (fs : List (ℕ × ℕ)) → Bytes (row fs)
+unfolding row
+row-bytes [] i = lit< tt
+row-bytes (f ∷ fs) i = joined-bytes (bytes (f .0) (f .1)) (row fs) (number-bytes (f .0) (f .1)) (row-bytes fs) i
+
+pub table-bytes : {A : Type 0} (r : A → List (ℕ × ℕ)) (xs : List A) → Bytes (table r xs)
+unfolding table
+table-bytes r [] i = lit< tt
+table-bytes r (x ∷ xs) i = joined-bytes (row (r x)) (table r xs) (row-bytes (r x)) (table-bytes r xs) i

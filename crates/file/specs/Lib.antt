@@ -2,4 +2,5 @@ pub mod Lists
 pub mod Layout
 pub mod Reader
 pub mod Contents
+pub mod Claim
 pub mod Inner

@@ -14,9 +14,9 @@ abbrev pub count : (ℕ → Bool) → ℕ → ℕ → ℕ
 count p a k = sum (λ i. cond (p i) 1 0) a k
 
 -- one test of a list passes
-abbrev pub some : List Bool → Bool
-some [] = false
-some (t ∷ ts) = t || some ts
+abbrev pub oneOf : List Bool → Bool
+oneOf [] = false
+oneOf (t ∷ ts) = t || oneOf ts
 
 -- one test passes exactly when the other does
 abbrev pub same : Bool → Bool → Bool

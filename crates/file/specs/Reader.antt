@@ -14,7 +14,7 @@ use Rattle.file.specs.declared.Verdict.{Verdict}
 use Rattle.file.specs.declared.Verdict.the-variants.{Accepted, Refused}
 use Rattle.file.specs.declared.slots.SlotRecord.{SlotRecord}
 use Rattle.file.specs.declared.spans.SpanRecord.{SpanRecord}
-use Rattle.file.specs.Lists.{all, count, some, same, implies}
+use Rattle.file.specs.Lists.{all, count, oneOf, same, implies}
 use Rattle.file.specs.Layout.{letter, ranged, spanWidth, spanBytes}
 
 -- ---- What stands in the bytes
@@ -128,7 +128,7 @@ forms r =
     ∷ (isForm F 5 r && leb (r .value) 99999999) ∷ []
 
 unfoldable pub recordOk : SlotRecord → Bool
-recordOk r = some (forms r)
+recordOk r = oneOf (forms r)
 
 -- method 18 or 19
 abbrev pub scaled : SlotRecord → Bool

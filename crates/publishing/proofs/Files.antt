@@ -28,11 +28,11 @@ use Rattle.publishing.proofs.Booked.{bookTables, book-ok}
 use Rattle.publishing.proofs.Publishing.{agreed-low, widths-low}
 
 module _ (h : Head) (b : Cells) where
-  slots-own : length (published h b .slots) ≡ slotCount h
+  pub slots-own : length (published h b .slots) ≡ slotCount h
   unfolding published outcomes
   slots-own = length-upTo (outcomeAt h b) 0 (slotCount h)
 
-  slot-own : (i : ℕ) → i < slotCount h → slot (published h b) i ≡ outcomeAt h b i
+  pub slot-own : (i : ℕ) → i < slotCount h → slot (published h b) i ≡ outcomeAt h b i
   unfolding published outcomes
   slot-own i l = getD-upTo (outcomeAt h b) noSlot 0 (slotCount h) i l ∙ ap (outcomeAt h b) (zero-add i)
 

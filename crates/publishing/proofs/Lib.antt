@@ -3,3 +3,4 @@ pub mod Buffers
 pub mod Publishing
 pub mod Booked
 pub mod Files
+pub mod EveryFile

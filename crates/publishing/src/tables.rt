@@ -14,7 +14,7 @@ ghost use lib.ListN.{length};
 ghost use Rattle.rules.specs.declared.Head.{Head as DeclaredHead};
 ghost use Rattle.rules.specs.Opening.{Cells, slotCount};
 ghost use Rattle.rules.specs.Spans.{outcomes};
-ghost use Rattle.rules.specs.Inner.Lent.{lentCells};
+ghost use Rattle.rules.specs.Lent.{lentCells};
 ghost use Rattle.rules.specs.Inner.Passes.{listOf};
 ghost use Rattle.file.specs.Layout.{table, spanRow};
 ghost use Rattle.file.specs.Inner.Writing.{written};

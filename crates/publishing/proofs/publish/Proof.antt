@@ -6,7 +6,7 @@ use borrow.Author.Tests.{not-true, not-false}
 use Rattle.rules.specs.Opening.{headOk}
 use Rattle.rules.proofs.opening.head_ok.Reads as head-ok-reads
 use Rattle.book.specs.Cells.{Book, bookFits}
-use Rattle.book.specs.Inner.Lent.{lentBook}
+use Rattle.book.specs.Lent.{lentBook}
 use Rattle.publishing.proofs.Publishing.{refused-1, refused-2}
 use Rattle.publishing.proofs.lists_fit.Reads as lists-fit-reads
 use Rattle.publishing.proofs.put_fitted.Reads as put-fitted-reads

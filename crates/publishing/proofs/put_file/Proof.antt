@@ -6,7 +6,7 @@ use native.Mathlib.Omega.{arith}
 use lib.ListN.{length}
 use Rattle.rules.specs.Opening.{slotCount}
 use Rattle.rules.specs.Spans.{outcomeAt, outcomes, spans}
-use Rattle.rules.specs.Inner.Lent.{slots, agreedLists, cells}
+use Rattle.rules.specs.Lent.{slots, agreedLists, cells}
 use Rattle.rules.proofs.Bounds.{bounded, count-high}
 use Rattle.rules.proofs.Neighbours.{spans-few}
 use Rattle.publishing.specs.Publishing.{fileLength}

@@ -5,7 +5,7 @@ use native.Mathlib.Omega.{arith}
 use lib.ListN.{length}
 use Rattle.rules.specs.Opening.{slotCount}
 use Rattle.rules.specs.Spans.{spans}
-use Rattle.rules.specs.Inner.Lent.{slots, agreedLists, cells}
+use Rattle.rules.specs.Lent.{slots, agreedLists, cells}
 use Rattle.publishing.proofs.Publishing.{whole-of, spans-found, spans-low, length-found, refused-7, long-enough}
 use Rattle.publishing.proofs.put_sound.Statement.{statement}
 use Rattle.publishing.proofs.put_sound.Tie as tie

@@ -60,13 +60,13 @@ nextBytes h b d i =
     written (written d (6 * i) (row (slotRow (outcomeAt h b i)))) (6 * slotCount h + 14 * length (begunBefore h b i))
     (table (spanRow true) (listOf (beginsAt h b i)))
 
--- cells that publishing does not refuse
+-- cells that publishing refuses for a short buffer alone
 pub record Sound (h : Head) (b : Cells) : Type 0 where
   pub head : headOk h ≡ true
   pub fit : cellsFit h b ≡ true
   pub cells : cellsOk h b ≡ true
 
--- what publishing such cells answers, and leaves of a buffer d
+-- what publishing them answers, and leaves of a buffer d
 abbrev pub putAnswer : Head → Cells → List ℕ → Published
 putAnswer h b d = lengthUnless (rule 7 (ltb (length d) (fileLength h b)) ∷ []) (fileLength h b)
 

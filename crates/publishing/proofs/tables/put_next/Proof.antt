@@ -6,7 +6,7 @@ use native.Mathlib.Omega.{arith}
 use lib.ListN.{length}
 use Rattle.rules.specs.declared.stretch.Begins.{Begins}
 use Rattle.rules.specs.Spans.{isA, isS, isF, isN, spans}
-use Rattle.rules.specs.Inner.Lent.{slots, agreedLists, cells}
+use Rattle.rules.specs.Lent.{slots, agreedLists, cells}
 use Rattle.rules.specs.Inner.Stretches.{beginsAt}
 use Rattle.rules.specs.Inner.Passes.{listOf, begunBefore}
 use Rattle.rules.proofs.Bounds.{bounded, count-high}

@@ -7,7 +7,7 @@ use native.Mathlib.Omega.{arith}
 use lib.ListN.{length}
 use Rattle.rules.specs.Opening.{slotCount}
 use Rattle.rules.specs.Spans.{spans}
-use Rattle.rules.specs.Inner.Lent.{slots, agreedLists, cells}
+use Rattle.rules.specs.Lent.{slots, agreedLists, cells}
 use Rattle.rules.proofs.Bounds.{bounded}
 use Rattle.publishing.specs.declared.tables.Progress.{Progress}
 use Rattle.publishing.specs.Inner.Publishing.{progressAt, bufferAt}
