@@ -1,7 +1,8 @@
--- The claim about whole lists holds of every two good heads and every two lists of calls.
-use mathlib.Core.Bool.{Bool, true, false, cond}
-use mathlib.Core.List.{List, _++_}
-use mathlib.Core.Path.{_≡_, refl, sym, ap, _∙_}
+-- The claim about whole lists.
+use mathlib.Core.Bool.{Bool, true, false, not, cond}
+use mathlib.Core.List.{List, [], _∷_, _++_, List·Memᴰ}
+use mathlib.Core.Logic.{_↔_}
+use mathlib.Core.Path.{_≡_, refl, sym, ap, subst, _∙_}
 use Prim.Native.Nat.{ℕ, _<_}
 use native.Mathlib.Nat.{zero-add}
 use native.Mathlib.Omega.{arith}
@@ -16,10 +17,17 @@ use Rattle.rules.specs.Opening.{Cells, dayTests, headTests, headOk, firstDay, s
 use Rattle.rules.specs.Spans.{outcomeAt, noSpan, upTo, outcomes, spans}
 use Rattle.rules.proofs.Logic.{and-parts, passed}
 use Rattle.book.specs.Arguments.{Call}
-use Rattle.book.specs.Cells.{cellsOk, bookOk}
+use Rattle.book.specs.Answers.{Answer, unless}
+use Rattle.book.specs.Answers.Answer.{done, refused}
+use Rattle.book.specs.Answers.Rule.{rule}
+use Rattle.book.specs.Cells.{Book, bookFits, cellsOk, bookOk}
+use Rattle.book.specs.Opening.{opened, openAnswer, openedIn, openAfter}
+use Rattle.book.specs.Filling.{answers}
+use Rattle.book.specs.Plain.{plainAnswers, keptOf}
 use Rattle.book.proofs.Agreement.{answers-agree, cells-agree}
 use Rattle.book.proofs.Fits.{fits-of}
 use Rattle.book.proofs.Order.{order-does-not-matter}
+use Rattle.book.proofs.AnyOrder.{any-order}
 use Rattle.book.proofs.Soundness.{book-sound}
 use Rattle.publishing.specs.declared.Published.the-variants.{Length, Refused}
 use Rattle.file.specs.Contents.{noSlot}
@@ -29,8 +37,9 @@ use Rattle.publishing.specs.Inner.Publishing.{Sound}
 use Rattle.file.proofs.Content.{length-file}
 use Rattle.rules.proofs.Lists.{getD-upTo, upTo-cong}
 use Rattle.publishing.proofs.Files.{files-equal}
-use Rattle.replay.proofs.Last.{answer-last}
-use Rattle.replay.specs.Claim.{leftBy, plainOf, plainFile, SameOutcomes, Claim}
+use Rattle.claim.proofs.Last.{answer-last}
+use Rattle.claim.proofs.Accepted.{kept-of, accepted-of}
+use Rattle.claim.specs.Claim.{leftBy, plainOf, plainFile, SameOutcomes, Accepted, NoConflict, SameCalls, Claim, WholeLists}
 
 -- the file's length as publishing computes it
 long : (h : Head) (b : Cells) → fileLength h b ≡ length (fileOf (published h b))
@@ -43,7 +52,7 @@ module _ (h : Head) (good : headOk h ≡ true) (cs : List Call) (out : List ℕ)
   answered =
       answer-last h (leftBy h cs) out good (book-sound h cs .0) (book-sound h cs .1) ∙ (rw (cells-agree h cs, long h (plainOf h cs)))
 
-  wrote : publishAfter h (leftBy h cs) out ≡ cond (ltb (length out) (length (plainFile h cs))) out (plainFile h cs ++ drop (length (plainFile h cs)) out)
+  pub wrote : publishAfter h (leftBy h cs) out ≡ cond (ltb (length out) (length (plainFile h cs))) out (plainFile h cs ++ drop (length (plainFile h cs)) out)
   unfolding publishAfter
   wrote = rw (answered, cells-agree h cs) (go (ltb (length out) (length (plainFile h cs))))
     where
@@ -108,23 +117,68 @@ module _ (h g : Head) (b c : Cells) where
       }
 
 -- publishing does not refuse the plain book
-sound : (h : Head) (cs : List Call) → headOk h ≡ true → Sound h (plainOf h cs)
+pub sound : (h : Head) (cs : List Call) → headOk h ≡ true → Sound h (plainOf h cs)
 unfolding bookOk
 sound h cs good =
     let fits = fits-of h (leftBy h cs) (book-sound h cs .0) .0 in
     let clean = and-parts (cellsOk h (leftBy h cs .cells)) _ (book-sound h cs .1) .0 in
     record { head = good; fit = rw (cells-agree h cs) at fits; cells = rw (cells-agree h cs) at clean }
 
-pub claim : (h g : Head) (cs ds : List Call) → headOk h ≡ true → headOk g ≡ true → Claim h g cs ds
-claim h g cs ds p q =
-    let same = files-equal h g (plainOf h cs) (plainOf g ds) (sound h cs p) (sound g ds q) in
-    record {
-      answers-plain = answers-agree h cs;
-      publish-answers = answered h p cs;
-      publish-writes = wrote h p cs;
-      equal-exactly = (
-        λ e. same-outcomes h g (plainOf h cs) (plainOf g ds) p q (same .0 e),
-        λ s. same .1 (same-content h g (plainOf h cs) (plainOf g ds) s),
-      );
-      order-free = λ sub sup. ap (λ (b : Cells). fileOf (published h b)) (order-does-not-matter h cs ds sub sup);
-    }
+-- an accepted opening: the head is good, and the lists are the opened ones
+opens : (h : Head) (b : Book) → openAnswer h b ≡ done → (headOk h ≡ true) × (openAfter h b ≡ opened h)
+unfolding openAnswer openAfter
+opens h b e = (done-head (headOk h) (bookFits h b) e, ap (λ (a : Answer). openedIn a h b) e)
+  where
+    done-head : (x y : Bool) → unless (rule 1 (not x) ∷ rule 2 (not y) ∷ []) done ≡ done → x ≡ true
+    done-head true y e = refl
+    done-head false y e = let z : _≡_ {A = ℕ} 0 1 = cc in absurd (omega arith)
+
+-- equal plain books under one head have equal files
+same-file : (h g : Head) (cs ds : List Call) → h ≡ g → plainOf h cs ≡ plainOf h ds → plainFile h cs ≡ plainFile g ds
+same-file h g cs ds one same =
+    ap (λ (b : Cells). fileOf (published h b)) same ∙ ap (λ (k : Head). plainFile k ds) one
+
+module _ (h g : Head) (b c : Book) (cs ds : List Call) (p : openAnswer h b ≡ done) (q : openAnswer g c ≡ done) where
+  first : openAfter h b ≡ opened h
+  first = opens h b p .1
+
+  plain : (k : Head) (x : Book) (es : List Call) → openAnswer k x ≡ done → answers k (openAfter k x) es ≡ plainAnswers k [] es
+  plain k x es e = rw (opens k x e .1) (answers-agree k es)
+
+  -- 4
+  one-set : h ≡ g → ((x : Call) → Accepted h (openAfter h b) cs x ↔ Accepted g (openAfter g c) ds x) → plainFile h cs ≡ plainFile g ds
+  one-set one same =
+      let ours = kept-of h (openAfter h b) cs (plain h b cs p) in
+      let theirs = accepted-of g (openAfter g c) ds (plain g c ds q) in
+      let kept : keptOf h [] ds ≡ keptOf g [] ds = ap (λ (k : Head). keptOf k [] ds) one in
+      same-file h g cs ds one
+      (order-does-not-matter h cs ds
+      (λ x m. subst (λ (l : List Call). List·Memᴰ x l) (sym kept)
+      (kept-of g (openAfter g c) ds (plain g c ds q) x (same x .0 (accepted-of h (openAfter h b) cs (plain h b cs p) x m))))
+      (λ x m. ours x (same x .1 (theirs x (subst (λ (l : List Call). List·Memᴰ x l) kept m)))))
+
+  -- 5
+  any : h ≡ g → NoConflict h (openAfter h b) cs → SameCalls cs ds → plainFile h cs ≡ plainFile g ds
+  any one free same =
+      same-file h g cs ds one
+      (any-order h cs ds (λ m. free (subst (λ (l : List Answer). List·Memᴰ (refused 10) l) (sym (plain h b cs p)) m)) (λ x. same x .0) (λ x. same x .1))
+
+  pub of-two : Claim h g b c cs ds
+  of-two =
+      let good = opens h b p .0 in
+      let good′ = opens g c q .0 in
+      let same = files-equal h g (plainOf h cs) (plainOf g ds) (sound h cs good) (sound g ds good′) in
+      record {
+        answers-plain = plain h b cs p;
+        publish-answers = rw first (answered h good cs);
+        publish-writes = rw first (wrote h good cs);
+        equal-exactly = (
+          λ e. same-outcomes h g (plainOf h cs) (plainOf g ds) good good′ (same .0 e),
+          λ s. same .1 (same-content h g (plainOf h cs) (plainOf g ds) s),
+        );
+        order-free = one-set;
+        any-order = any;
+      }
+
+pub claim : WholeLists
+claim = of-two

@@ -1,0 +1,4 @@
+pub mod Last
+pub mod Accepted
+pub mod WholeLists
+pub mod Conflict

@@ -1,3 +1,0 @@
-pub mod Claim
-pub mod Packing
-pub mod Replaying
