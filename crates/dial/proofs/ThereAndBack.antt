@@ -1,7 +1,6 @@
 -- What holds of the conversions together: every reading has one form, `unpack` accepts exactly the forms, and both ways lead back.
 use mathlib.Core.Bool.{true, false}
 use mathlib.Core.List.{List, [], _∷_}
-use mathlib.Core.Logic.{_↔_}
 use mathlib.Core.Path.{_≡_, refl, sym, ap, _∙_}
 use Prim.Native.Nat.{ℕ, _≤_, _<_, _^_}
 use native.Mathlib.Omega.{arith}
@@ -12,6 +11,7 @@ use Rattle.dial.specs.declared.Packed.the-variants as packed
 use Rattle.dial.specs.declared.Unpacked.the-variants as unpacked
 use Rattle.dial.specs.Dial.{form, aboveNine, readingOf, Rule, unless, packRules, packAnswer, bytesAfter, packAfter, unpackRules, unpackAnswer}
 use Rattle.dial.specs.Dial.Rule.{rule}
+use Rattle.dial.specs.Claim.{OneForm, AcceptsExactly, PackedThenUnpacked, UnpackedThenPacked}
 use Rattle.dial.proofs.Forms.{form-packed, packed-digits, reading-packed, reading-low, packed-reading}
 
 -- the form of a reading is read as that reading
@@ -48,14 +48,14 @@ read-form bytes reading e =
     (omega arith, form-packed reading ∙ back)
 
 -- `unpack` accepts exactly the forms of readings, each as its reading
-pub accepts-exactly : (bytes : List ℕ) (reading : ℕ) → (unpackAnswer bytes ≡ unpacked.Reading reading) ↔ ((reading ≤ 99999999) × (form reading ≡ bytes))
+pub accepts-exactly : AcceptsExactly
 accepts-exactly bytes reading = (
   read-form bytes reading,
   λ f. ap unpackAnswer (sym (f .1)) ∙ form-read reading (f .0),
 )
 
 -- every reading from 0 to 99,999,999 has one form
-pub one-form : (reading : ℕ) → reading ≤ 99999999 → (bytes : List ℕ) → (unpackAnswer bytes ≡ unpacked.Reading reading) ↔ (bytes ≡ form reading)
+pub one-form : OneForm
 one-form reading h bytes = (
   λ e. sym (read-form bytes reading e .1),
   λ e. ap unpackAnswer e ∙ form-read reading h,
@@ -68,16 +68,14 @@ one-reading m n h l e =
     cc
 
 -- there and back from a reading
-pub packed-then-unpacked : (reading : ℕ) (bytes : List ℕ) → packAnswer reading bytes ≡ packed.Done
-    → unpackAnswer (packAfter reading bytes) ≡ unpacked.Reading reading
+pub packed-then-unpacked : PackedThenUnpacked
 unfolding packAnswer packAfter
 packed-then-unpacked reading bytes e =
     let ((_, (low, _)), _) = kept packed.Refused (packRules reading bytes) _ _ (λ n r. let z : _≡_ {A = ℕ} 0 1 = cc in omega arith) e in
     ap (λ (a : Packed). unpackAnswer (bytesAfter a reading bytes)) e ∙ form-read reading (ltb-false _ _ low)
 
 -- there and back from bytes, into any four
-pub unpacked-then-packed : (bytes : List ℕ) (reading : ℕ) → unpackAnswer bytes ≡ unpacked.Reading reading
-    → (held : List ℕ) → length held ≡ 4 → (packAnswer reading held ≡ packed.Done) × (packAfter reading held ≡ bytes)
+pub unpacked-then-packed : UnpackedThenPacked
 unfolding packAnswer packAfter
 unpacked-then-packed bytes reading e held l =
     let (low, back) = read-form bytes reading e in

@@ -3,6 +3,7 @@ pub mod Joining
 pub mod Answers
 pub mod Numerals
 pub mod Splits
+pub mod LongestRuns
 pub mod RunSplits
 pub mod DaySplits
 pub mod SameText

@@ -1,19 +1,18 @@
 -- Runs that are told from their 400s.
-use mathlib.Core.Bool.{Bool, true, false, cond, not, _||_, false≢true}
+use mathlib.Core.Bool.{true, false, cond}
 use mathlib.Core.List.{List, [], _++_, append-assoc, append-cancel-left}
 use mathlib.Core.Logic.{⊎-elim}
 use mathlib.Core.Path.{_≡_, refl, sym, ap, subst, _∙_}
 use Prim.Native.Nat.{ℕ, zero, suc, _+_, _≤_, _<_}
 use native.Mathlib.Nat.{eq-or-lt-of-le}
 use native.Mathlib.Omega.{arith}
-use borrow.Author.Tests.{eqb-false, not-false}
-use lib.Dec.{eqb}
 use Rattle.rules.proofs.Logic.{either}
 use Rattle.market.specs.declared.marks.Mark.{Mark}
-use Rattle.market.specs.Fields.{fields, joined, alike, endsRun, startOf}
+use Rattle.market.specs.Fields.{fields, joined, endsRun, startOf}
 use Rattle.market.specs.Records.{record400}
 use Rattle.market.proofs.Joining.{start-le}
-use Rattle.market.proofs.Splits.{Plainly, alike-same, marked-split, joined-front, joined-nothing, split-ends}
+use Rattle.market.proofs.LongestRuns.{start-after, start-stays, goes-on}
+use Rattle.market.proofs.Splits.{Plainly, marked-split, joined-front, joined-nothing, split-ends}
 
 -- what is written at the day's slot j
 abbrev pub pieceAt : List ℕ → (ℕ → Mark) → ℕ → ℕ → ℕ → List ℕ
@@ -22,31 +21,12 @@ pieceAt reason mark a n j = cond (endsRun mark a n j) (record400 reason (startOf
 next-le : (i n : ℕ) → i < n → i + 1 ≤ n
 next-le i n l = omega arith
 
-or-false : (a b : Bool) → (a || b) ≡ false → (a ≡ false) × (b ≡ false)
-or-false true b e = absurd (false≢true (sym e))
-or-false false b e = (refl, e)
-
 module _ (reason : List ℕ) (mark : ℕ → Mark) (a n : ℕ) where
   piece-ends : (j : ℕ) → endsRun mark a n j ≡ true → pieceAt reason mark a n j ≡ record400 reason (startOf mark a n j + 1) (j + 1) (mark (a + j))
   piece-ends j e = rw e
 
   piece-goes-on : (j : ℕ) → endsRun mark a n j ≡ false → pieceAt reason mark a n j ≡ []
   piece-goes-on j e = rw e
-
-  start-after : (j : ℕ) → endsRun mark a n j ≡ true → startOf mark a n (suc j) ≡ suc j
-  unfolding startOf
-  start-after j e = rw e
-
-  start-stays : (j : ℕ) → endsRun mark a n j ≡ false → startOf mark a n (suc j) ≡ startOf mark a n j
-  unfolding startOf
-  start-stays j e = rw e
-
-  -- a run that goes on
-  goes-on : (j : ℕ) → endsRun mark a n j ≡ false → (mark (a + j) ≡ mark (a + (j + 1))) × (j + 1 ≡ n → ⊥)
-  unfolding endsRun
-  goes-on j e =
-      let parts = or-false (eqb (j + 1) n) (not (alike (mark (a + j)) (mark (a + (j + 1))))) e in
-      (alike-same (mark (a + j)) (mark (a + (j + 1))) (not-false (alike (mark (a + j)) (mark (a + (j + 1)))) (parts .1)), eqb-false (j + 1) n (parts .0))
 
   front : (r : List ℕ) (j k : ℕ) → joined (pieceAt reason mark a n) j (suc k) ++ r ≡ pieceAt reason mark a n j ++ (joined (pieceAt reason mark a n) (suc j) k ++ r)
   front r j k =
@@ -79,7 +59,7 @@ first-run reason r mark a n (suc k) i e l =
       is = front reason mark a n r i k ∙ ap (λ (x : List ℕ). x ++ (joined (pieceAt reason mark a n) (suc i) k ++ r)) (piece-ends reason mark a n i t);
     })
     (λ f.
-    let not-last = goes-on reason mark a n i f .1 in
+    let not-last = goes-on mark a n i f .1 in
     let inside : suc i < n = ⊎-elim (λ z. absurd (not-last z)) (λ m. omega arith) (eq-or-lt-of-le (next-le i n l)) in
     let next = first-run reason r mark a n k (suc i) (omega arith) inside in
     record {
@@ -99,7 +79,7 @@ apart : (reason : List ℕ) (mark other : ℕ → Mark) (a n : ℕ) → n ≤ 28
     → endsRun mark a n j ≡ true → endsRun other a n j ≡ false
     → pieceAt reason mark a n j ++ r ≡ pieceAt reason other a n j ++ (joined (pieceAt reason other a n) (suc j) k ++ r′) → ⊥
 apart reason mark other a n few j k e r r′ t f h =
-    let not-last = goes-on reason other a n j f .1 in
+    let not-last = goes-on other a n j f .1 in
     let inside : suc j < n = ⊎-elim (λ z. absurd (not-last z)) (λ m. omega arith) (eq-or-lt-of-le (next-le j n (omega arith))) in
     let next = first-run reason r′ other a n k (suc j) (omega arith) inside in
     let texts =
@@ -141,16 +121,16 @@ module _
         (omega arith) (omega arith) (mark (a + j)) (other (a + j)) rest rest′ texts .1 in
         let marks = marked-split (mark (a + j)) (other (a + j)) (p j here) (q j here) reason (fields [] ++ rest) (fields [] ++ rest′) behind in
         alike-more mark other a n r r′ j (marks .0)
-        (onward (start-after reason mark a n j t ∙ sym (start-after reason other a n j u)) (append-cancel-left (fields []) rest rest′ (marks .1)))
+        (onward (start-after mark a n j t ∙ sym (start-after other a n j u)) (append-cancel-left (fields []) rest rest′ (marks .1)))
 
     both-go-on : endsRun mark a n j ≡ false → endsRun other a n j ≡ false → AlikeFrom mark other a n r r′ j
     both-go-on t u =
         let rest : List ℕ = joined (pieceAt reason mark a n) (suc j) k ++ r in
         let rest′ : List ℕ = joined (pieceAt reason other a n) (suc j) k ++ r′ in
         let texts = sym (ap (λ (x : List ℕ). x ++ rest) (piece-goes-on reason mark a n j t)) ∙ flat ∙ ap (λ (x : List ℕ). x ++ rest′) (piece-goes-on reason other a n j u) in
-        let next = onward (start-stays reason mark a n j t ∙ s ∙ sym (start-stays reason other a n j u)) texts in
-        let one = goes-on reason mark a n j t in
-        let two = goes-on reason other a n j u in
+        let next = onward (start-stays mark a n j t ∙ s ∙ sym (start-stays other a n j u)) texts in
+        let one = goes-on mark a n j t in
+        let two = goes-on other a n j u in
         let inside : j + 1 < n = ⊎-elim (λ z. absurd (one .1 z)) (λ m. m) (eq-or-lt-of-le (next-le j n (omega arith))) in
         alike-more mark other a n r r′ j (one .0 ∙ next .0 (j + 1) (omega arith) inside ∙ sym (two .0)) next
 

@@ -1,4 +1,4 @@
--- 02's worked figures of W8 as one table of tests. `proofs/Cases.antt` computes that every one passes.
+-- Figures of our own for W8, as one table of tests. `proofs/Cases.antt` computes that every one passes.
 use mathlib.Core.Bool.{Bool, true, false, not, _&&_}
 use mathlib.Core.List.{List, [], _∷_}
 use Prim.Native.Nat.{ℕ}

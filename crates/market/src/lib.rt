@@ -20,11 +20,11 @@ ghost use Rattle.market.specs.Inner.Writing.{capped, Added};
 
 // The method codes that the caller gives for the methods 2, 3, 5, 18 and 19.
 pub struct Codes {
-    pub two: u8,
-    pub three: u8,
-    pub five: u8,
-    pub eighteen: u8,
-    pub nineteen: u8,
+    pub two: u32,
+    pub three: u32,
+    pub five: u32,
+    pub eighteen: u32,
+    pub nineteen: u32,
 }
 
 // What a call answers: the export's length, or the refusal's number.

@@ -13,7 +13,7 @@ ghost use Rattle.market.specs.Inner.Writing.{Added};
 // The letter, and the method code that is written with it; 0 where none is.
 pub struct Mark {
     pub letter: u8,
-    pub code: u8,
+    pub code: u32,
 }
 
 // S and F are written with method and reason code.
@@ -23,7 +23,7 @@ fn has_code(letter: u8) -> bool
     letter == b'S' || letter == b'F'
 }
 
-fn code_for(codes: Codes, method: u8) -> u8
+fn code_for(codes: Codes, method: u8) -> u32
     ensures { λ r. ⌜ r ≡ codeFor codes method ⌝ }
 {
     if method == 2 {

@@ -11,8 +11,8 @@ use lib.ListN.{length, getD}
 use Rattle.rules.specs.Spans.{upTo}
 use Rattle.rules.proofs.Bounds.{interval-bounds}
 use Rattle.rules.proofs.Lists.{length-upTo}
-use Rattle.strips.specs.Strips.{slotsOf, recordByte, inTable, inStrips, valueAt, storedAt, stripsOf, dayEarlier, differenceAt, differenceIn, restoredValue, restoredAt, tableOf, perDay, lengthsOk, laidAnswer, laidAfter, toStripsAfter, fromStripsAfter}
-use Rattle.strips.specs.Claim.{Bytes, ThereAndBack}
+use Rattle.strips.specs.Strips.{slotsOf, recordByte, inTable, inStrips, valueAt, storedAt, stripsOf, dayEarlier, differenceAt, differenceIn, restoredValue, restoredAt, tableOf, perDay, lengthsOk, laidAnswer, laidAfter}
+use Rattle.strips.specs.Claim.{Bytes, Returns, ThereAndBack, BackAndThere}
 use Rattle.strips.proofs.Numbers.{number-cong, number-lt, number-record, record-number, record-again, add-difference, difference-added}
 use Rattle.strips.proofs.Answers.{accepts}
 use Rattle.strips.proofs.Lengths.{whole-records}
@@ -110,7 +110,7 @@ module _ (n : ℕ) (positive : 0 < n) (given : List ℕ) (whole : length given �
 module _ (f g : ℕ → List ℕ → List ℕ)
     (lengths : (n : ℕ) (given : List ℕ) → length (f n given) ≡ length given)
     (inverse : (n : ℕ) → 0 < n → (given : List ℕ) → length given ≡ 6 * slotsOf given → Bytes given → g n (f n given) ≡ given) where
-  calls : ThereAndBack (λ interval given out. laidAfter interval given (f (perDay interval) given) out) (λ interval given out. laidAfter interval given (g (perDay interval) given) out)
+  calls : Returns (λ interval given out. laidAfter interval given (f (perDay interval) given) out) (λ interval given out. laidAfter interval given (g (perDay interval) given) out)
   unfolding lengthsOk
   calls interval given out back bytes allowed days room room′ =
       let n : ℕ = perDay interval in
@@ -126,8 +126,8 @@ module _ (f g : ℕ → List ℕ → List ℕ)
         restored = ap (λ (x : List ℕ). laidAfter interval x (g n x) back) (sym e) ∙ sym h ∙ inverse n positive given (whole-records n (length given) days) bytes;
       }
 
-pub there-and-back : ThereAndBack toStripsAfter fromStripsAfter
+pub there-and-back : ThereAndBack
 there-and-back = calls stripsOf tableOf length-strips table-of-strips
 
-pub back-and-there : ThereAndBack fromStripsAfter toStripsAfter
+pub back-and-there : BackAndThere
 back-and-there = calls tableOf stripsOf length-table strips-of-table

@@ -6,7 +6,7 @@ use Prim.Native.Nat.{ℕ, _<_}
 use lib.ListN.{length, getD}
 use Rattle.rules.specs.Opening.{intervalOk}
 use Rattle.strips.specs.declared.Laid.the-variants.{Done}
-use Rattle.strips.specs.Strips.{perDay, wholeDays, laidAnswer}
+use Rattle.strips.specs.Strips.{perDay, wholeDays, laidAnswer, toStripsAfter, fromStripsAfter}
 
 -- what a list of bytes holds: nothing else is asked of a table or of strips
 abbrev pub Bytes : List ℕ → Type 0
@@ -22,9 +22,17 @@ pub record Returned (first second : Call) (interval : ℕ) (given out back : Lis
   pub accepted-back : laidAnswer interval (length (first interval given out)) (length back) ≡ Done
   pub restored : second interval (first interval given out) back ≡ given
 
-abbrev pub ThereAndBack : Call → Call → Type 0
-ThereAndBack first second =
+-- of a whole number of days, into outputs as long
+abbrev pub Returns : Call → Call → Type 0
+Returns first second =
     (interval : ℕ) (given out back : List ℕ) → Bytes given
     → intervalOk interval ≡ true → wholeDays (perDay interval) (length given) ≡ true
     → length out ≡ length given → length back ≡ length given
     → Returned first second interval given out back
+
+-- a table through its strips, and strips through their table; proved by `there-and-back` and `back-and-there`
+abbrev pub ThereAndBack : Type 0
+ThereAndBack = Returns toStripsAfter fromStripsAfter
+
+abbrev pub BackAndThere : Type 0
+BackAndThere = Returns fromStripsAfter toStripsAfter
