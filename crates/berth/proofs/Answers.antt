@@ -15,14 +15,13 @@ use Rattle.book.specs.Answers.Rule.{rule}
 use Rattle.book.specs.Cells.{Book, bookFits}
 use Rattle.file.specs.Reader.{num}
 use Rattle.publishing.specs.Publishing.{publishAfter}
-use Rattle.replay.specs.Claim.{leftBy, plainFile}
-use Rattle.replay.proofs.WholeLists.{claim}
+use Rattle.claim.specs.Claim.{leftBy, plainFile}
+use Rattle.claim.proofs.WholeLists.{wrote as published-after}
 use Rattle.berth.specs.declared.Report.{Report}
 use Rattle.berth.specs.declared.Simulated.{Simulated}
 use Rattle.berth.specs.declared.Simulated.the-variants.{Run, Refused}
-use Rattle.berth.specs.Run.{trueTotal, callsOf, reportOf, fileSize, runRules, reportUnless, simulateAnswer, simulateLists, simulateBytes}
-use Rattle.berth.specs.Inner.Refusing.{firstBroken}
-use Rattle.berth.proofs.Lists.{SameLists, one-by-one}
+use Rattle.berth.specs.Run.{trueTotal, callsOf, reportOf, runRules, reportUnless, simulateAnswer, simulateLists, simulateBytes}
+use Rattle.berth.specs.Inner.Refusing.{firstBroken, fileSize}
 use Rattle.berth.proofs.Written.{file-size, state-back, sum-back, sum-high}
 
 module _ (h : Head) (seed loss : ℕ) (good : headOk h ≡ true) (out : List ℕ) (room : fileSize h ≤ length out) where
@@ -34,7 +33,7 @@ module _ (h : Head) (seed loss : ℕ) (good : headOk h ≡ true) (out : List ℕ
 
   pub wrote : {b : Book} {e : List ℕ} → b ≡ leftBy h (callsOf h seed loss) → e ≡ publishAfter h b out → e ≡ left
   wrote p q =
-      q ∙ ap (λ (c : Book). publishAfter h c out) p ∙ claim h h (callsOf h seed loss) (callsOf h seed loss) good good .publish-writes out
+      q ∙ ap (λ (c : Book). publishAfter h c out) p ∙ published-after h good (callsOf h seed loss) out
       ∙ rw (le-ltb (length out) (length file) (omega (arith, file-size h seed loss good)))
 
   pub total-written : {e : List ℕ} → e ≡ left → num 8 e (6 * slotCount h + 34) ≤ 11520000000000
@@ -70,10 +69,10 @@ pub record Meant (h : Head) (seed loss : ℕ) (b : Book) (out : List ℕ) (r : S
   pub lists : b' ≡ simulateLists h seed loss b out
   pub bytes : out' ≡ simulateBytes h seed loss b out
 
--- the ten lists one by one, as the contract has them
+-- as the contract has them
 pub each : {h : Head} {seed loss : ℕ} {b : Book} {out : List ℕ} {r : Simulated} {b' : Book} {out' : List ℕ} → Meant h seed loss b out r b' out'
-    → (r ≡ simulateAnswer h seed loss b out) × SameLists b' (simulateLists h seed loss b out) × (out' ≡ simulateBytes h seed loss b out)
-each m = (m .answer, one-by-one (m .lists), m .bytes)
+    → (r ≡ simulateAnswer h seed loss b out) × (b' ≡ simulateLists h seed loss b out) × (out' ≡ simulateBytes h seed loss b out)
+each m = (m .answer, m .lists, m .bytes)
 
 module _ (h : Head) (seed loss : ℕ) (b : Book) (out : List ℕ) where
   abbrev rules : List Rule
@@ -87,13 +86,17 @@ module _ (h : Head) (seed loss : ℕ) (b : Book) (out : List ℕ) where
         record { answer = ap Refused found ∙ sym e; lists = rw e; bytes = rw e }
 
     -- nothing refuses it
-    unbroken : n ≡ 0 → (not (headOk h) ≡ false) × (not (bookFits h b) ≡ false) × (ltb (length out) (fileSize h) ≡ false) × (eqb seed 0 ≡ false) × (ltb 1000 loss ≡ false)
-    unbroken z = clear (not (headOk h)) (not (bookFits h b)) (ltb (length out) (fileSize h)) (eqb seed 0) (ltb 1000 loss) (sym found ∙ z)
+    unbroken : n ≡ 0 → (not (headOk h) ≡ false) × (not (bookFits h b) ≡ false) × (ltb (length out) (length (plainFile h (callsOf h seed loss))) ≡ false)
+        × (eqb seed 0 ≡ false) × (ltb 1000 loss ≡ false)
+    unbroken z =
+        clear (not (headOk h)) (not (bookFits h b)) (ltb (length out) (length (plainFile h (callsOf h seed loss)))) (eqb seed 0) (ltb 1000 loss) (sym found ∙ z)
 
     pub passes : n ≡ 0 → (headOk h ≡ true) × (bookFits h b ≡ true) × (fileSize h ≤ length out)
     passes z =
         let t = unbroken z in
-        (not-false _ (t .0), not-false _ (t .1), ltb-false _ _ (t .2))
+        let good = not-false _ (t .0) in
+        let room : length (plainFile h (callsOf h seed loss)) ≤ length out = ltb-false _ _ (t .2) in
+        (good, not-false _ (t .1), omega (arith, file-size h seed loss good))
 
     pub ran : n ≡ 0 → {r : Report} {b' : Book} {out' : List ℕ}
         → (r ≡ reportOf h seed loss)

@@ -16,7 +16,7 @@ use Rattle.rules.proofs.Logic.{either}
 use Rattle.book.specs.Arguments.{Call}
 use Rattle.book.specs.Plain.{Said, DialRead, deliveries, reads, highest, contentWith, readVersion, readContent, slotVersion, slotContent, bookOf}
 use Rattle.book.proofs.Tables.{getD-upTo, length-upTo}
-use Rattle.replay.specs.Claim.{plainOf}
+use Rattle.claim.specs.Claim.{plainOf}
 use Rattle.berth.specs.Steps.{lostAt, valueAt}
 use Rattle.berth.specs.Run.{callsOf}
 use Rattle.berth.proofs.Heard.{reading, allCalls, heard-all, kept-run}

@@ -16,10 +16,10 @@ use Rattle.book.specs.Answers.Rule.{rule}
 use Rattle.book.specs.Cells.{Book, bookFits}
 use Rattle.file.specs.Layout.{figuresOf}
 use Rattle.publishing.specs.Publishing.{published}
-use Rattle.replay.specs.Claim.{plainOf}
+use Rattle.claim.specs.Claim.{plainOf, plainFile}
 use Rattle.berth.specs.declared.Report.{Report}
 use Rattle.berth.specs.declared.Simulated.the-variants.{Run}
-use Rattle.berth.specs.Run.{trueTotal, callsOf, reportOf, fileSize, reportUnless, simulateAnswer}
+use Rattle.berth.specs.Run.{trueTotal, callsOf, reportOf, reportUnless, simulateAnswer}
 use Rattle.berth.proofs.Differences.{rising, falling}
 use Rattle.berth.proofs.Sends.{true-high}
 use Rattle.berth.proofs.Written.{sum-high}
@@ -52,5 +52,5 @@ pub report-low : (h : Head) (seed loss : ℕ) (b : Book) (out : List ℕ) (r : R
     → (natAbs (r .difference) ≤ 11520000000000) × (r .total ≤ 57600000000)
 unfolding simulateAnswer
 report-low h seed loss b out r e =
-    let t = tells (not (headOk h)) (not (bookFits h b)) (ltb (length out) (fileSize h)) (eqb seed 0) (ltb 1000 loss) (reportOf h seed loss) r (sym e) in
+    let t = tells (not (headOk h)) (not (bookFits h b)) (ltb (length out) (length (plainFile h (callsOf h seed loss)))) (eqb seed 0) (ltb 1000 loss) (reportOf h seed loss) r (sym e) in
     rw (t .0) (low h seed loss (not-false _ (t .1)))

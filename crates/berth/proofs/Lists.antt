@@ -10,7 +10,7 @@ use Rattle.book.specs.Arguments.Call.{delivery}
 use Rattle.book.specs.Cells.{Reads, Book, readsOf, bookFits}
 use Rattle.book.specs.Opening.{opened, openAnswer, openAfter}
 use Rattle.book.specs.Filling.{deliverAfter, countsAfter, registerAfter, after, afterAll}
-use Rattle.replay.specs.Claim.{leftBy}
+use Rattle.claim.specs.Claim.{leftBy}
 use Rattle.berth.specs.Steps.{berthAfter, lostAt, valueAt}
 use Rattle.berth.specs.Run.{sentAt, sent, trueTotal, dialReads, callsOf}
 use Rattle.berth.specs.Inner.Sending.{Sent, sentOne, sentFrom}
@@ -93,26 +93,3 @@ run-lists h seed loss o s r total e t p q =
 pub opens : (h : Head) (b : Book) → headOk h ≡ true → bookFits h b ≡ true → openAfter h b ≡ opened h
 unfolding openAfter openAnswer
 opens h b good fit = rw (good, fit)
-
--- equal books have equal lists, one by one
-abbrev pub SameLists : Book → Book → Type 0
-SameLists a b =
-    (a .cells .slots .values ≡ b .cells .slots .values) × (a .cells .slots .versions ≡ b .cells .slots .versions)
-    × (a .cells .slots .statuses ≡ b .cells .slots .statuses) × (a .cells .holidays ≡ b .cells .holidays)
-    × (a .cells .readings ≡ b .cells .readings) × (a .cells .readVersions ≡ b .cells .readVersions)
-    × (a .cells .agreed .values ≡ b .cells .agreed .values) × (a .cells .agreed .versions ≡ b .cells .agreed .versions)
-    × (a .counts ≡ b .counts) × (a .cells .widths ≡ b .cells .widths)
-
-pub one-by-one : {a b : Book} → a ≡ b → SameLists a b
-one-by-one e = (
-  (λ t. e t .cells .slots .values),
-  (λ t. e t .cells .slots .versions),
-  (λ t. e t .cells .slots .statuses),
-  (λ t. e t .cells .holidays),
-  (λ t. e t .cells .readings),
-  (λ t. e t .cells .readVersions),
-  (λ t. e t .cells .agreed .values),
-  (λ t. e t .cells .agreed .versions),
-  (λ t. e t .counts),
-  (λ t. e t .cells .widths),
-)

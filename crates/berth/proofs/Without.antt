@@ -26,7 +26,7 @@ use Rattle.publishing.specs.Publishing.{published}
 use Rattle.berth.specs.Generator.{draw}
 use Rattle.berth.specs.Steps.{mostOf, stepped, berthAfter, lostAt, valueAt}
 use Rattle.berth.specs.Run.{trueTotal, reportOf}
-use Rattle.berth.specs.Lossless.{Lossless}
+use Rattle.berth.specs.Lossless.{Lossless, WithoutLosses}
 use Rattle.berth.proofs.Booked.{book, book-run, ends, sharp, dial-first, dial-last, its-version, its-value, its-status}
 use Rattle.berth.proofs.Differences.{none}
 use Rattle.berth.proofs.OneSpan.{all-inside}
@@ -115,9 +115,12 @@ module _ (h : Head) (seed : ℕ) (good : headOk h ≡ true) where
       from-state true e z = omega (arith, leb-true (apart (n % 100000000) n) t e)
       from-state false e z = absurd (omega arith)
 
-  pub lossless : Lossless h seed
+  of-run : Lossless h seed
   unfolding reportOf figuresOf published
-  lossless = record {
+  of-run = record {
     difference = rw (book-run h seed 0 good, total-is) (none (trueTotal h seed 0));
     state = rw (book-run h seed 0 good, state-is) (state-zero (trueTotal h seed 0) (h .tolerance) (bounded h good .tolerance-high));
   }
+
+pub lossless : WithoutLosses
+lossless = of-run

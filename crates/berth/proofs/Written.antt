@@ -28,22 +28,16 @@ use Rattle.publishing.specs.Publishing.{published}
 use Rattle.publishing.specs.Inner.Publishing.{Sound}
 use Rattle.publishing.proofs.Publishing.{agreed-low, widths-low}
 use Rattle.publishing.proofs.Totals.{sum-low}
-use Rattle.replay.specs.Claim.{leftBy, plainOf, plainFile}
-use Rattle.berth.specs.Run.{callsOf, fileSize}
+use Rattle.claim.specs.Claim.{plainOf, plainFile}
+use Rattle.claim.proofs.WholeLists.{sound}
+use Rattle.berth.specs.Run.{callsOf}
+use Rattle.berth.specs.Inner.Refusing.{fileSize}
 use Rattle.berth.proofs.Booked.{book-run, ends}
 use Rattle.berth.proofs.OneSpan.{one-span}
 
 -- a number that stands in the first of two lists
 num-first : (p q : List ℕ) (k at : ℕ) → at + k ≤ length p → num k (p ++ q) at ≡ num k p at
 num-first p q k at le = sym (num-take (p ++ q) (length p) k at le) ∙ ap (λ (l : List ℕ). num k l at) (take-at p q (length p) refl)
-
--- publishing does not refuse the plain book of any calls
-sound : (h : Head) (cs : List Call) → headOk h ≡ true → Sound h (plainOf h cs)
-unfolding bookOk
-sound h cs good =
-    let fits = fits-of h (leftBy h cs) (book-sound h cs .0) .0 in
-    let clean = and-parts (cellsOk h (leftBy h cs .cells)) _ (book-sound h cs .1) .0 in
-    record { head = good; fit = rw (cells-agree h cs) at fits; cells = rw (cells-agree h cs) at clean }
 
 module _ (h : Head) (seed loss : ℕ) (good : headOk h ≡ true) where
   abbrev cs : List Call

@@ -16,7 +16,7 @@ use Rattle.book.specs.Arguments.Call.{delivery, register}
 use Rattle.book.specs.Cells.{Book, bookFits}
 use Rattle.file.specs.Layout.{figuresOf}
 use Rattle.publishing.specs.Publishing.{published}
-use Rattle.replay.specs.Claim.{leftBy, plainOf, plainFile}
+use Rattle.claim.specs.Claim.{leftBy, plainOf, plainFile}
 use Rattle.berth.specs.declared.Report.{Report}
 use Rattle.berth.specs.declared.Simulated.{Simulated}
 use Rattle.berth.specs.declared.Simulated.the-variants.{Run, Refused}
@@ -52,14 +52,12 @@ reportOf h seed loss =
       total = trueTotal h seed loss;
     }
 
--- the file's length is known from the head: N slots, one span and the trailer
-unfoldable pub fileSize : Head → ℕ
-fileSize h = 6 * slotCount h + 14 + 32
-
--- 20 for a seed of 0, 21 for a loss rate over 1000, after 1, 2 and 7: whether the lists fit, and the length of the buffer
+-- 20 for a seed of 0, 21 for a loss rate over 1000, after 1, 2 and 7, here for a buffer of `room` bytes that is shorter than the file of
+-- the run's calls; `fit` says that the lists have their lengths
 abbrev pub runRules : Head → ℕ → ℕ → Bool → ℕ → List Rule
 runRules h seed loss fit room =
-    rule 1 (not (headOk h)) ∷ rule 2 (not fit) ∷ rule 7 (ltb room (fileSize h)) ∷ rule 20 (eqb seed 0) ∷ rule 21 (ltb 1000 loss) ∷ []
+    rule 1 (not (headOk h)) ∷ rule 2 (not fit) ∷ rule 7 (ltb room (length (plainFile h (callsOf h seed loss))))
+    ∷ rule 20 (eqb seed 0) ∷ rule 21 (ltb 1000 loss) ∷ []
 
 -- the first broken rule's number, or the report
 abbrev pub reportUnless : List Rule → Report → Simulated

@@ -12,9 +12,10 @@ ghost use Prim.Native.Nat.{_≤_};
 ghost use lib.ListN.{length, drop};
 ghost use Rattle.rules.specs.Opening.{headOk};
 ghost use Rattle.book.specs.Cells.{bookFits};
-ghost use Rattle.book.specs.Inner.Lent.{lentBook, HoldBook};
-ghost use Rattle.replay.specs.Claim.{leftBy, plainFile};
-ghost use Rattle.berth.specs.Run.{trueTotal, callsOf, reportOf, fileSize, simulateAnswer, simulateLists, simulateBytes};
+ghost use Rattle.book.specs.Lent.{lentBook};
+ghost use Rattle.claim.specs.Claim.{leftBy, plainFile};
+ghost use Rattle.berth.specs.Run.{trueTotal, callsOf, reportOf, simulateAnswer, simulateLists, simulateBytes};
+ghost use Rattle.berth.specs.Inner.Refusing.{fileSize};
 
 // That span's state, the published total minus the true total, and the true total, of which a reader may want the share.
 pub struct Report {
@@ -149,7 +150,8 @@ pub fn simulate(
     ensures { λ r. ⌜
         (let book = lentBook (values .entry) (versions .entry) (statuses .entry) (holidays .entry) (readings .entry) (reads .entry) (agreed .entry) («agreed_versions» .entry) (counts .entry) (widths .entry) in
         (r ≡ simulateAnswer head seed loss book (now (out .entry)))
-        × HoldBook (values .exit) (versions .exit) (statuses .exit) (holidays .exit) (readings .exit) (reads .exit) (agreed .exit) («agreed_versions» .exit) (counts .exit) (widths .exit) (simulateLists head seed loss book (now (out .entry)))
+        × (lentBook (values .exit) (versions .exit) (statuses .exit) (holidays .exit) (readings .exit) (reads .exit) (agreed .exit) («agreed_versions» .exit) (counts .exit) (widths .exit)
+        ≡ simulateLists head seed loss book (now (out .entry)))
         × (now (out .exit) ≡ simulateBytes head seed loss book (now (out .entry))))
         ⌝ }
 {

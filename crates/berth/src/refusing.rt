@@ -10,9 +10,9 @@ ghost use lib.ListN.{length};
 ghost use Rattle.rules.specs.Opening.{headOk};
 ghost use Rattle.book.specs.Answers.Rule.{rule};
 ghost use Rattle.book.specs.Cells.{bookFits};
-ghost use Rattle.book.specs.Inner.Lent.{lentBook};
-ghost use Rattle.berth.specs.Run.{fileSize, runRules};
-ghost use Rattle.berth.specs.Inner.Refusing.{firstBroken};
+ghost use Rattle.book.specs.Lent.{lentBook};
+ghost use Rattle.berth.specs.Run.{runRules};
+ghost use Rattle.berth.specs.Inner.Refusing.{firstBroken, fileSize};
 
 // The length of the file of a run.
 fn file_size(head: Head) -> usize

@@ -10,7 +10,7 @@ ghost use lib.IntN.{pos, _-ℤ_};
 ghost use lib.ListN.{length};
 ghost use Rattle.rules.specs.Opening.{headOk, slotCount};
 ghost use Rattle.file.specs.Reader.{num};
-ghost use Rattle.berth.specs.Run.{fileSize};
+ghost use Rattle.berth.specs.Inner.Refusing.{fileSize};
 
 // The published total minus the true total.
 fn difference(published: u64, truth: u64) -> i64

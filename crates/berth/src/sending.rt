@@ -7,7 +7,7 @@ ghost use mathlib.Core.Path.{_≡_};
 ghost use Prim.Native.Nat.{_%_};
 ghost use Rattle.rules.specs.Opening.{headOk, slotCount};
 ghost use Rattle.book.specs.Filling.{registerAfter};
-ghost use Rattle.book.specs.Inner.Lent.{lentReads, HoldReads};
+ghost use Rattle.book.specs.Lent.{lentReads};
 ghost use Rattle.berth.specs.Steps.{mostOf};
 ghost use Rattle.berth.specs.Run.{trueTotal};
 ghost use Rattle.berth.specs.Inner.Sending.{lentSent, sentOne, sentFrom};
@@ -87,8 +87,8 @@ pub fn read_dial(
     total: u64,
 )
     ensures { λ _. ⌜
-        HoldReads (readings .exit) (reads .exit) (widths .exit)
-        (registerAfter head (registerAfter head (lentReads (readings .entry) (reads .entry) (widths .entry)) 0 1 0 0) (head .days) 1 (total % 100000000) 0)
+        (lentReads (readings .exit) (reads .exit) (widths .exit)
+        ≡ registerAfter head (registerAfter head (lentReads (readings .entry) (reads .entry) (widths .entry)) 0 1 0 0) (head .days) 1 (total % 100000000) 0)
         ⌝ }
 {
     book::register(head, readings, reads, widths, 0, 1, 0, 0);

@@ -15,7 +15,7 @@ use Rattle.rules.specs.declared.spans.Summary.{Summary}
 use Rattle.rules.specs.Lists.{sum}
 use Rattle.rules.specs.Opening.{Slots, Agreed, Cells, slotsPerDay, slotCount}
 use Rattle.rules.specs.Spans.{isS, isRead, lastRead, nextRead, filled, shape, start, slotsIn, G, range, R, actual, stateOf, T, allZero, e, E, P}
-use Rattle.rules.specs.Inner.Lent.{cells}
+use Rattle.rules.specs.Lent.{cells}
 use Rattle.rules.specs.Inner.Summaries.{summaryOf, scalingOf}
 use Rattle.rules.specs.Inner.Stretches.{scalingAt, spanStretch, stretchOf, stretchOn, stretchAt}
 use Rattle.rules.proofs.Bounds.{Bounded}

@@ -14,25 +14,26 @@ use lib.Seq.{take-suc-set, take-nil, getD-take, getD-set-other, length-take-le, 
 use Rattle.rules.specs.declared.Head.{Head}
 use Rattle.rules.specs.Opening.{Slots, slotsPerDay}
 use Rattle.rules.specs.Weeks.{firstBack, farthestBack, weeksWithin}
-use Rattle.rules.specs.Filling.{isReference, weeksBack, references}
-use Rattle.rules.specs.Inner.Ways.{InBook}
+use Rattle.rules.specs.Filling.{isReference, references}
+use Rattle.rules.specs.Inner.Ways.{searched, InBook}
 use Rattle.rules.proofs.Bounds.{Bounded}
 use Rattle.rules.proofs.Logic.{either}
+use Rattle.rules.proofs.References.{references-searched}
 use Rattle.explain.specs.References.{eachWeek, eachReference, inFour}
 
--- of the references' values it is `weeksBack`, and so `references`
+-- of the references' values it is `searched`, and so `references`
 module _ (h : Head) (s : Slots) (holidays : List ℕ) where
   abbrev valueOf : ℕ → ℕ
   valueOf j = getD (s .values) j 0
 
-  values-back : (days j k : ℕ) → eachWeek valueOf h s holidays days j k ≡ weeksBack h s holidays days j k
-  unfolding eachWeek weeksBack
+  values-back : (days j k : ℕ) → eachWeek valueOf h s holidays days j k ≡ searched h s holidays days j k
+  unfolding eachWeek searched
   values-back days j zero = refl
   values-back days j (suc k) = rw (values-back 7 (j - days * slotsPerDay h) k)
 
   pub values-each : (i : ℕ) → eachReference valueOf h s holidays i ≡ references h s holidays i
-  unfolding eachReference references
-  values-each i = rw (values-back (firstBack h holidays (i / slotsPerDay h)) i (weeksWithin (firstBack h holidays (i / slotsPerDay h)) (farthestBack holidays (i / slotsPerDay h))))
+  unfolding eachReference
+  values-each i = rw (references-searched h s holidays i, values-back (firstBack h holidays (i / slotsPerDay h)) i (weeksWithin (firstBack h holidays (i / slotsPerDay h)) (farthestBack holidays (i / slotsPerDay h))))
 
 take-map : (f : ℕ → ℕ) (k : ℕ) (xs : List ℕ) → take k (map f xs) ≡ map f (take k xs)
 take-map f zero xs = refl

@@ -133,7 +133,7 @@ explanationOf h b i =
       outcome = outcomeAt h b i;
     }
 
--- what a refused call tells: zeros
+-- of a refused call: no cause, no rule, values 0, quality N
 abbrev pub noOutcome : Outcome
 noOutcome = record { value = 0; quality = N; method = 0 }
 

@@ -1,3 +1,4 @@
 pub mod References
 pub mod Explain
 pub mod Inner
+pub mod Naming

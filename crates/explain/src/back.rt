@@ -10,7 +10,8 @@ ghost use Prim.Native.Nat.{_+_, _<_, _≤_};
 ghost use lib.ListN.{length};
 ghost use Rattle.rules.specs.Opening.{slotCount};
 ghost use Rattle.rules.specs.Filling.{filledAt, shapeAt};
-ghost use Rattle.rules.specs.Inner.Lent.{lentSlots, lentAgreed, Fitted, Lent, Settled};
+ghost use Rattle.rules.specs.Lent.{lentSlots, lentAgreed};
+ghost use Rattle.rules.specs.Inner.Lent.{Fitted, Lent, Settled};
 ghost use Rattle.rules.specs.Inner.Fills.{fillsAt};
 ghost use Rattle.explain.specs.Inner.Looking.{Since};
 

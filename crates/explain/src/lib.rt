@@ -1,6 +1,7 @@
 // The way of one slot through the book: its cause, the rule that filled it, its span, its scaling and its outcome.
 mod back;
 mod held;
+pub mod naming;
 mod references;
 mod told;
 
@@ -18,9 +19,10 @@ ghost use mathlib.Core.Bool.{true};
 ghost use mathlib.Core.Path.{_≡_};
 ghost use Prim.Native.Nat.{_<_};
 ghost use Rattle.rules.specs.Opening.{headOk, slotCount};
-ghost use Rattle.rules.specs.Inner.Lent.{lentCells, Whole};
+ghost use Rattle.rules.specs.Lent.{lentCells};
+ghost use Rattle.rules.specs.Inner.Lent.{Whole};
 ghost use Rattle.book.specs.Cells.{bookFits};
-ghost use Rattle.book.specs.Inner.Lent.{lentBook};
+ghost use Rattle.book.specs.Lent.{lentBook};
 ghost use Rattle.explain.specs.Explain.{explanationOf, noOutcome, explainAnswer};
 ghost use Rattle.explain.specs.Inner.Telling.{refusedBy};
 

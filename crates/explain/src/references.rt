@@ -9,7 +9,8 @@ ghost use Prim.Native.Nat.{_/_, _<_};
 ghost use lib.ListN.{length};
 ghost use Rattle.rules.specs.Opening.{slotsPerDay, slotCount};
 ghost use Rattle.rules.specs.Filling.{isReference, references};
-ghost use Rattle.rules.specs.Inner.Lent.{lentSlots, Lent};
+ghost use Rattle.rules.specs.Lent.{lentSlots};
+ghost use Rattle.rules.specs.Inner.Lent.{Lent};
 ghost use Rattle.explain.specs.References.{referenceDays, inFour};
 
 // Slot `at`, of day `day`, can be a reference.

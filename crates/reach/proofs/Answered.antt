@@ -18,7 +18,7 @@ use Rattle.book.specs.Opening.{opened}
 use Rattle.book.specs.Filling.{answer, after as bookAfter, answers, afterAll}
 use Rattle.book.specs.Plain.{plainAnswer, plainAnswers, keep, keptOf}
 use Rattle.book.proofs.Agreement.{answers-agree}
-use Rattle.replay.specs.Claim.{leftBy}
+use Rattle.claim.specs.Claim.{leftBy}
 use Rattle.reach.specs.Needed.{Late, before, after, figure, Moves}
 
 -- the last of a list of answers is the plain book's

@@ -23,7 +23,7 @@ use Rattle.book.proofs.Kept.{unless-accepted}
 use Rattle.file.specs.Layout.{row, slotRow, spanRow, fileOf}
 use Rattle.publishing.specs.declared.Published.the-variants.{Length}
 use Rattle.publishing.specs.Publishing.{published, publishAnswer, publishAfter}
-use Rattle.replay.specs.Claim.{leftBy, plainOf, plainFile}
+use Rattle.claim.specs.Claim.{leftBy, plainOf, plainFile}
 use Rattle.reach.specs.Reach.{SameRecords, Unmoved, Reach}
 use Rattle.reach.proofs.Alike.{SameAt}
 use Rattle.reach.proofs.Spans.{withSlots}

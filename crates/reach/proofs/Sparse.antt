@@ -11,6 +11,7 @@ use Rattle.rules.specs.Tests.{isGap, outageBit, isGood, causeOf, causeAt, goodA
 use Rattle.rules.specs.Weeks.{firstBack, farthestBack, weeksWithin}
 use Rattle.rules.specs.Filling.{outageAt, isAgreed, isReference, references, fromReferences}
 use Rattle.rules.specs.Spans.{isRead, outcomeAt, spans}
+use Rattle.rules.proofs.References.{references-searched}
 use Rattle.book.specs.Arguments.{Call}
 use Rattle.book.specs.Plain.{deliveries, reads, agreements, highest, slotVersion, slotContent, readVersion, agreedVersion, bookOf}
 use Rattle.book.proofs.Tables.{getD-upTo}
@@ -101,10 +102,10 @@ module _ (h : Head) (kept : List Call) where
 
       one-reference : references h (b .slots) (b .holidays) j
           ≡ take 4 (cond (isReference h (b .slots) (b .holidays) i) (getD (b .slots .values) i 0 ∷ []) [])
-      unfolding references
       one-reference =
           let e : j ≡ i + (first + 7 * k) * slotsPerDay h = far ∙ ap (λ (n : ℕ). i + (first + 7 * k) * n) (sym (x .days)) in
-          rw (starts, weeks) (ap (take 4) (weeks-one h (b .slots) (b .holidays) i k first j e no-reference))
+          references-searched h (b .slots) (b .holidays) j
+          ∙ rw (starts, weeks) (ap (take 4) (weeks-one h (b .slots) (b .holidays) i k first j e no-reference))
 
       pub outcome-last : outcomeAt h b j
           ≡ fromReferences (take 4 (cond (isReference h (b .slots) (b .holidays) i) (getD (b .slots .values) i 0 ∷ []) []))

@@ -2,7 +2,7 @@
 use mathlib.Core.Bool.{Bool, true, false}
 use mathlib.Core.List.{List, _∷_}
 use mathlib.Core.Logic.{_⊎_, inl, inr}
-use mathlib.Core.Path.{_≡_, refl, ap, ap₂}
+use mathlib.Core.Path.{_≡_, refl, sym, ap, ap₂, _∙_}
 use Prim.Native.Nat.{ℕ, zero, suc, _+_, _-_, _*_, _/_, _≤_, _<_}
 use native.Mathlib.Nat.{add-mul, add-mul-div-right}
 use native.Mathlib.Omega.{arith}
@@ -14,8 +14,9 @@ use Rattle.calendar.proofs.Sundays.{one-to-seven, on-a-sunday}
 use Rattle.rules.specs.declared.Head.{Head}
 use Rattle.rules.specs.Opening.{Slots, firstDay, slotsPerDay}
 use Rattle.rules.specs.Weeks.{firstBack, farthestBack, weeksWithin}
-use Rattle.rules.specs.Filling.{weeksBack, references}
-use Rattle.rules.proofs.References.{week-within}
+use Rattle.rules.specs.Filling.{references}
+use Rattle.rules.specs.Inner.Ways.{searched}
+use Rattle.rules.proofs.References.{week-within, references-searched}
 use Rattle.reach.specs.Reach.{Weeks, FromSunday}
 use Rattle.reach.proofs.Alike.{SameAt, cond-same, cond-parts, reference-same}
 
@@ -30,8 +31,8 @@ module _ (h : Head) (s t : Slots) (holidays : List ℕ) (i : ℕ) (same : (k : �
       rw z (omega arith)
 
   -- none of the k weeks from `days` days before slot j leads to slot i
-  weeks-same : (k days j : ℕ) → ((r : ℕ) → r < k → j ≡ i + (days + 7 * r) * n → ⊥) → weeksBack h s holidays days j k ≡ weeksBack h t holidays days j k
-  unfolding weeksBack
+  weeks-same : (k days j : ℕ) → ((r : ℕ) → r < k → j ≡ i + (days + 7 * r) * n → ⊥) → searched h s holidays days j k ≡ searched h t holidays days j k
+  unfolding searched
   weeks-same zero days j far = refl
   weeks-same (suc k) days j far =
       cond-parts (ltb j (days * n)) (λ e. refl)
@@ -65,9 +66,11 @@ module _ (h : Head) (s t : Slots) (holidays : List ℕ) (i : ℕ) (same : (k : �
         omega arith
 
     pub references-same : ((days : ℕ) → Within days → ⊥) → references h s holidays j ≡ references h t holidays j
-    unfolding references firstBack farthestBack
+    unfolding firstBack farthestBack
     references-same far =
-        ap (take 4) (weeks-same (weeksWithin (firstBack h holidays d) (farthestBack holidays d)) (firstBack h holidays d) j (λ r l e. go (eqb (getD holidays d 0) 0) refl r l e))
+        references-searched h s holidays j
+        ∙ ap (take 4) (weeks-same (weeksWithin (firstBack h holidays d) (farthestBack holidays d)) (firstBack h holidays d) j (λ r l e. go (eqb (getD holidays d 0) 0) refl r l e))
+        ∙ sym (references-searched h t holidays j)
       where
         go : (x : Bool) → eqb (getD holidays d 0) 0 ≡ x → (r : ℕ) → r < weeksWithin (firstBack h holidays d) (farthestBack holidays d)
             → j ≡ i + (firstBack h holidays d + 7 * r) * n → ⊥

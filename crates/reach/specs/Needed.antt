@@ -10,7 +10,7 @@ use Rattle.book.specs.Answers.Answer.{stored}
 use Rattle.book.specs.Arguments.{Call}
 use Rattle.book.specs.Arguments.Call.{delivery}
 use Rattle.book.specs.Filling.{answer}
-use Rattle.replay.specs.Claim.{leftBy, plainOf}
+use Rattle.claim.specs.Claim.{leftBy, plainOf}
 use Rattle.reach.specs.Reach.{DaysLater, Itself, Beside, Later, Met, SpanMet}
 
 -- a list of calls, one more delivery, and a slot to look at

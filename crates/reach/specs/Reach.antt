@@ -18,7 +18,7 @@ use Rattle.book.specs.Filling.{answer}
 use Rattle.file.specs.Layout.{fileOf}
 use Rattle.publishing.specs.declared.Published.the-variants.{Length}
 use Rattle.publishing.specs.Publishing.{published, publishAnswer, publishAfter}
-use Rattle.replay.specs.Claim.{leftBy, plainOf}
+use Rattle.claim.specs.Claim.{leftBy, plainOf}
 
 -- slot k has a cause
 abbrev pub HasCause : Head → Slots → ℕ → Type 0

@@ -1,7 +1,6 @@
 -- `fill`: the lists of each kind of call make up the book that the calls of the run leave.
 use mathlib.Core.Path.{_≡_, _∙_}
-use Rattle.book.specs.Inner.Lent.{readLists}
-use Rattle.replay.proofs.Claim.{same-lists}
+use Rattle.book.specs.Lent.{readLists}
 use Rattle.berth.proofs.Lists.{run-lists, opens}
 use borrow.Author.Needs.{needs}
 use Rattle.berth.proofs.fill.Statement.{statement}
@@ -48,9 +47,8 @@ same-length-10 c = search needs
 
 returns : tie.Need-returns
 returns c = let e = c .before .before .before .before .before .before .before .before .before .before .before .before .before .before .before .before .before .before .before .before .before .before .before .before .before .before .before .before .before .before .before .before .before .before .before .before .before .before .before .before .before .before .before .«open» .ensures .1 in
-    let o = same-lists (e .0) (e .1) (e .2) (e .3) (e .4) (e .5) (e .6) (e .7) (e .8) (e .9) ∙ opens _ _ (c .before .before .before .before .before .before .before .before .before .before .before .before .before .before .before .before .before .before .before .before .before .before .before .before .before .before .before .before .before .before .before .before .before .before .before .before .before .before .before .before .before .before .before .before .before .before .before .before .before .before .before .before .before .before .before .before .before .before .before .before .before .before .before .before .pre .0) (c .before .before .before .before .before .before .before .before .before .before .before .before .before .before .before .before .before .before .before .before .before .before .before .before .before .before .before .before .before .before .before .before .before .before .before .before .before .before .before .before .before .before .before .before .before .before .before .before .before .before .before .before .before .before .before .before .before .before .before .before .before .before .before .before .pre .1) in
-    let d = c .before .before .before .before .before .before .read-dial .ensures in
-    let r : readLists _ _ _ ≡ _ = λ t. record { readings = d .0 t; readVersions = d .1 t; widths = d .2 t } in
+    let o = e ∙ opens _ _ (c .before .before .before .before .before .before .before .before .before .before .before .before .before .before .before .before .before .before .before .before .before .before .before .before .before .before .before .before .before .before .before .before .before .before .before .before .before .before .before .before .before .before .before .before .before .before .before .before .before .before .before .before .before .before .before .before .before .before .before .before .before .before .before .before .pre .0) (c .before .before .before .before .before .before .before .before .before .before .before .before .before .before .before .before .before .before .before .before .before .before .before .before .before .before .before .before .before .before .before .before .before .before .before .before .before .before .before .before .before .before .before .before .before .before .before .before .before .before .before .before .before .before .before .before .before .before .before .before .before .before .before .before .pre .1) in
+    let r = c .before .before .before .before .before .before .read-dial .ensures in
     (c .before .before .before .before .before .before .before .before .before .before .before .before .before .before .before .before .before .before .send-all .ensures .0, run-lists _ _ _ _ _ _ _ o (c .before .before .before .before .before .before .before .before .before .before .before .before .before .before .before .before .before .before .send-all .ensures .0) (c .before .before .before .before .before .before .before .before .before .before .before .before .before .before .before .before .before .before .send-all .ensures .1) r)
 
 pub fill-spec : {M : Type 1} → statement M

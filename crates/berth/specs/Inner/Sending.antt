@@ -5,7 +5,7 @@ use Prim.Native.Nat.{ℕ, zero, suc}
 use denote.Ref.{RefT, now}
 use Rattle.rules.specs.declared.Head.{Head}
 use Rattle.rules.specs.Opening.{Slots}
-use Rattle.rules.specs.Inner.Lent.{lentSlots}
+use Rattle.rules.specs.Lent.{lentSlots}
 use Rattle.book.specs.Filling.{deliverAfter, countsAfter}
 use Rattle.berth.specs.declared.generator.Berth.{Berth}
 use Rattle.berth.specs.Steps.{berthAfter}

@@ -1,7 +1,7 @@
 -- `explain` refuses in the order of the numbers.
 use mathlib.Core.Path.{sym, _∙_}
 use borrow.Author.Tests.{not-true, not-false}
-use Rattle.book.specs.Inner.Lent.{lentBook}
+use Rattle.book.specs.Lent.{lentBook}
 use Rattle.explain.proofs.Answering.{refused-1, refused-2, refused-3}
 use borrow.Author.Needs.{needs}
 use Rattle.explain.proofs.explain.Statement.{statement}

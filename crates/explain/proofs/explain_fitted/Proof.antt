@@ -3,7 +3,7 @@ use mathlib.Core.Path.{sym, _∙_}
 use borrow.Author.Tests.{not-true, not-false}
 use Rattle.rules.proofs.Logic.{and-parts}
 use Rattle.book.specs.Cells.{bookOk}
-use Rattle.book.specs.Inner.Lent.{lentBook}
+use Rattle.book.specs.Lent.{lentBook}
 use Rattle.book.proofs.Fits.{fits-of}
 use Rattle.publishing.proofs.Publishing.{whole-of}
 use Rattle.explain.proofs.Answering.{refused-11, told}

@@ -1,7 +1,7 @@
 -- `tell`: each part is what the rules say of the slot.
 use mathlib.Core.Path.{_∙_}
 use Rattle.rules.specs.Tests.{causeAt}
-use Rattle.rules.specs.Inner.Lent.{slots, agreedLists, cells}
+use Rattle.rules.specs.Lent.{slots, agreedLists, cells}
 use Rattle.rules.proofs.Bounds.{bounded}
 use Rattle.explain.proofs.Telling.{fits-are, told-is}
 use borrow.Author.Needs.{needs}

@@ -1,7 +1,7 @@
 -- `refusing::file_size`: the sum is small.
 use native.Mathlib.Omega.{arith}
 use mathlib.Core.Path.{ap}
-use Rattle.berth.specs.Run.{fileSize}
+use Rattle.berth.specs.Inner.Refusing.{fileSize}
 use Rattle.berth.proofs.Sends.{slots-high}
 use Prim.Native.Nat.{ℕ, _+_, _*_}
 use borrow.Author.Needs.{needs}

@@ -3,6 +3,7 @@ use mathlib.Core.Path.{sym, _∙_}
 use borrow.Author.Tests.{not-true, not-false}
 use Rattle.book.specs.Cells.{slotsFit, daysFit, readsFit, agreedFits, cellsFit, countsFit, bookFits}
 use borrow.Author.Needs.{needs}
+use Rattle.berth.proofs.Written.{file-size}
 use Rattle.berth.proofs.refusing.refusal.Statement.{statement}
 use Rattle.berth.proofs.refusing.refusal.Tie as tie
 
@@ -24,7 +25,9 @@ beside-lists-requires c κs = sym (c .before .before .before .head-ok .ensures) 
 
 returns-3 : tie.Need-returns-3
 unfolding cellsFit slotsFit daysFit readsFit agreedFits countsFit bookFits
-returns-3 c = rw (sym (c .before .before .before .before .head-ok .ensures) ∙ not-false _ (c .before .before .before .if1 .left), sym (c .before .before .book-fits .ensures) ∙ not-false _ (c .before .if2 .left)) (c .beside-lists .ensures)
+returns-3 c =
+    let good = sym (c .before .before .before .before .head-ok .ensures) ∙ not-false _ (c .before .before .before .if1 .left) in
+    rw (good, sym (c .before .before .book-fits .ensures) ∙ not-false _ (c .before .if2 .left), file-size) (c .beside-lists .ensures)
 
 pub refusal-spec : {M : Type 1} → statement M
 refusal-spec =

@@ -5,7 +5,7 @@ use native.Mathlib.Omega.{arith}
 use mathlib.Core.Path.{_≡_, ap, _∙_}
 use lib.IntN.{pos, _-ℤ_}
 use Rattle.file.specs.Reader.{num}
-use Rattle.berth.specs.Run.{fileSize}
+use Rattle.berth.specs.Inner.Refusing.{fileSize}
 use Rattle.berth.proofs.Sends.{slots-high}
 use Prim.Native.Nat.{ℕ, _+_, _*_}
 use borrow.Author.Needs.{needs}

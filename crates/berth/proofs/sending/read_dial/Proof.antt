@@ -1,11 +1,11 @@
 -- `sending::read_dial`: the second read is given the lists as the first left them.
 use mathlib.Core.Path.{_≡_, ap, _∙_}
-use Rattle.book.specs.Inner.Lent.{readLists, lentReads}
+use Rattle.book.specs.Lent.{readLists, lentReads}
 use Prim.Native.Nat.{_%_}
 use mathlib.Core.Path.{ap, _∙_}
 use Rattle.book.specs.Cells.{Reads}
 use Rattle.book.specs.Filling.{registerAfter}
-use Rattle.book.specs.Inner.Lent.{readLists}
+use Rattle.book.specs.Lent.{readLists}
 use borrow.Author.Needs.{needs}
 use Rattle.berth.proofs.sending.read_dial.Statement.{statement}
 use Rattle.berth.proofs.sending.read_dial.Tie as tie
@@ -34,9 +34,8 @@ returns c = let a = c .before .before .before .before .before .before .before .b
     let b = c .before .before .before .before .before .before .register2 .ensures .1 in
     let e = c .before .before .before .before .before .before .before .before .before .before .before .before .before .before .before .before .before .before .before .before .before .before .before .args in
     let old = lentReads (e .readings) (e .reads) (e .widths) in
-    let first : readLists _ _ _ ≡ registerAfter (e .head) old 0 1 0 0 = λ t. record { readings = a .0 t; readVersions = a .1 t; widths = a .2 t } in
     let then : Reads → Reads = λ r. registerAfter (e .head) r (e .head .days) 1 (e .total % 100000000) 0 in
-    (b .0 ∙ ap (λ (r : Reads). then r .readings) first, b .1 ∙ ap (λ (r : Reads). then r .readVersions) first, b .2 ∙ ap (λ (r : Reads). then r .widths) first)
+    b ∙ ap then a
 
 pub read-dial-spec : {M : Type 1} → statement M
 read-dial-spec =

@@ -26,7 +26,7 @@ same-length-4 c = search needs
 returns-2 : tie.Need-returns-2
 unfolding sentOne
 returns-2 c = let e = c .before .before .before .before .before .before .before .before .deliver .ensures in
-    rw (c .before .before .before .before .before .before .before .before .before .before .before .before .before .if1 .left) (λ t. record { slots = record { values = e .1 .0 t; versions = e .1 .1 t; statuses = e .1 .2 t }; counts = e .2 t })
+    rw (c .before .before .before .before .before .before .before .before .before .before .before .before .before .if1 .left) (λ t. record { slots = e .1 t; counts = e .2 t })
 
 pub send-spec : {M : Type 1} → statement M
 send-spec =

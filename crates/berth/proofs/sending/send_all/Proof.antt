@@ -4,7 +4,7 @@ use mathlib.Core.Path.{_≡_, refl}
 use Prim.Native.Nat.{_-_}
 use native.Mathlib.Omega.{arith}
 use lib.ListN.{length}
-use Rattle.rules.specs.Inner.Lent.{slots as slotLists}
+use Rattle.rules.specs.Lent.{slots as slotLists}
 use Rattle.berth.proofs.Sends.{slots-high, Under, send-first, total-high, send-next, send-last}
 use Rattle.berth.proofs.sending.send_all.Statement.{statement}
 use Rattle.berth.proofs.sending.send_all.Tie as tie

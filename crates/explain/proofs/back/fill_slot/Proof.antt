@@ -1,5 +1,5 @@
 -- `back::fill_slot`: the pass before the slot fills it.
-use Rattle.rules.specs.Inner.Lent.{slots}
+use Rattle.rules.specs.Lent.{slots}
 use Rattle.explain.proofs.Passing.{fills-place, fills-known}
 use borrow.Author.Needs.{needs}
 use Rattle.explain.proofs.back.fill_slot.Statement.{statement}

@@ -6,7 +6,7 @@ use mathlib.Core.Path.{_≡_, ap, _∙_}
 use native.Mathlib.Omega.{arith}
 use Rattle.rules.specs.Opening.{slotCount}
 use Rattle.rules.specs.Tests.{goodAt}
-use Rattle.rules.specs.Inner.Lent.{slots}
+use Rattle.rules.specs.Lent.{slots}
 use Rattle.rules.specs.Inner.Fills.{zeroBefore, lineBefore}
 use Rattle.rules.proofs.Outages.{zero-applies}
 use Rattle.explain.proofs.Passing.{none-before, zero-next, line-next, fills-are}

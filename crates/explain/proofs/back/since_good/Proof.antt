@@ -4,7 +4,7 @@ use mathlib.Core.Bool.{false}
 use mathlib.Core.Path.{_≡_, sym, _∙_}
 use native.Mathlib.Omega.{arith}
 use Rattle.rules.specs.Tests.{goodAt}
-use Rattle.rules.specs.Inner.Lent.{slots}
+use Rattle.rules.specs.Lent.{slots}
 use Rattle.explain.proofs.Passing.{since-on}
 use Rattle.explain.proofs.back.since_good.Statement.{statement}
 use Rattle.explain.proofs.back.since_good.Tie as tie

@@ -6,7 +6,7 @@ use native.Mathlib.Nat.{mul-le-mul}
 use native.Mathlib.Omega.{arith}
 use Rattle.rules.specs.Opening.{slotsPerDay}
 use Rattle.rules.specs.Spans.{start, slotsIn}
-use Rattle.rules.specs.Inner.Lent.{slots, agreedLists, cells}
+use Rattle.rules.specs.Lent.{slots, agreedLists, cells}
 use Rattle.rules.specs.Inner.Summaries.{summaryOf}
 use Rattle.rules.proofs.Bounds.{bounded}
 use Rattle.rules.proofs.Places.{slots-within}

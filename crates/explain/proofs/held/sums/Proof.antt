@@ -1,5 +1,5 @@
 -- `held::sums`: the pass before the first slot, and the sums from it.
-use Rattle.rules.specs.Inner.Lent.{slots}
+use Rattle.rules.specs.Lent.{slots}
 use Rattle.explain.proofs.Passing.{fills-place, fills-known}
 use borrow.Author.Needs.{needs}
 use Rattle.explain.proofs.held.sums.Statement.{statement}

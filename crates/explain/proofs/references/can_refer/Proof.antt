@@ -4,7 +4,7 @@ use mathlib.Core.Path.{_≡_, sym, _∙_}
 use borrow.Author.Tests.{not-true, not-false}
 use Rattle.rules.specs.Tests.{goodAt}
 use Rattle.rules.specs.Filling.{isReference}
-use Rattle.rules.specs.Inner.Lent.{slots}
+use Rattle.rules.specs.Lent.{slots}
 use Rattle.rules.proofs.Bounds.{bounded, day-below}
 use borrow.Author.Needs.{needs}
 use Rattle.explain.proofs.references.can_refer.Statement.{statement}

@@ -6,7 +6,7 @@ use native.Mathlib.Nat.{mul-le-mul, div-le-self}
 use native.Mathlib.Omega.{arith}
 use lib.ListN.{getD, length}
 use Rattle.rules.specs.Opening.{slotsPerDay}
-use Rattle.rules.specs.Inner.Lent.{slots}
+use Rattle.rules.specs.Lent.{slots}
 use Rattle.rules.proofs.Bounds.{bounded, count-high, day-below}
 use Rattle.explain.specs.References.{inFour}
 use Rattle.explain.proofs.Searches.{Standing, Keeping, values-each, stands-first, keeps-none, day-inside, slot-inside, day-on, stands-on, keeps-passed, keeps-found, keeps-spent, keeps-full}
