@@ -1,6 +1,7 @@
--- 01's starred cases and those of 02, as one table of tests. `proofs/Cases.antt` computes that every one passes.
-use mathlib.Core.Bool.{Bool, false, not, _&&_}
+-- 01's starred cases and those of 02, as one table: `Starred`, proved by `cases-hold`, which computes it.
+use mathlib.Core.Bool.{Bool, true, false, not, _&&_}
 use mathlib.Core.List.{List, [], _∷_, _++_}
+use mathlib.Core.Path.{_≡_}
 use Prim.Native.Nat.{ℕ, _*_, _-_}
 use lib.Dec.{eqb}
 use lib.ListN.{replicate}
@@ -8,10 +9,16 @@ use Rattle.calendar.specs.Calendar.{dayNumber}
 use Rattle.rules.specs.declared.Head.{Head}
 use Rattle.rules.specs.declared.Outcome.{Outcome}
 use Rattle.rules.specs.declared.Quality.{Quality}
-use Rattle.rules.specs.Opening.{Slots, Cells, headOk}
-use Rattle.rules.specs.Tests.{goodAt}
+use Rattle.rules.specs.declared.tests.Cause.{Cause}
+use Rattle.rules.specs.declared.tests.Cause.the-variants.{Nothing, Demand}
+use Rattle.rules.specs.Lists.{every}
+use Rattle.rules.specs.Opening.{Slots, Cells}
+use Rattle.rules.specs.Tests.{causeAt}
 use Rattle.rules.specs.Filling.{isLinear, linearValue, isReference, references, total, meanOf, fromReferences, shapeOf, shapeAt}
 use Rattle.rules.specs.Spans.{isA, isF, advance, rangeOf, leastIn, stateBy, actual, R, stateOf, outcomeAt}
+use Rattle.book.specs.Answers.{Answer}
+use Rattle.book.specs.Answers.Answer.{done, refused}
+use Rattle.book.specs.Opening.{opened, openAnswer}
 
 -- a head of interval 30, limit 40,000 and tolerance 0
 abbrev pub headOn : ℕ → ℕ → ℕ → ℕ → Head
@@ -23,10 +30,14 @@ abbrev pub headOf : ℕ → ℕ → Head
 headOf interval limit =
     record { year = 2024; month = 5; day = 1; days = 1; interval = interval; limit = limit; tolerance = 0 }
 
--- a delivery of this value with status 0 is good
-abbrev pub passes : ℕ → ℕ → ℕ → Bool
-passes limit interval value =
-    goodAt (headOf interval limit) (record { values = value ∷ []; versions = 1 ∷ []; statuses = 0 ∷ [] }) 0
+-- the cause of a delivery of this value with status 0
+abbrev pub causeFor : ℕ → ℕ → ℕ → Cause
+causeFor limit interval value =
+    causeAt (headOf interval limit) (record { values = value ∷ []; versions = 1 ∷ []; statuses = 0 ∷ [] }) 0
+
+-- what opening answers, with lists as long as the head asks
+abbrev pub opening : Head → Answer
+opening h = openAnswer h (opened h)
 
 -- a delivery of this value with this status is a reference
 abbrev pub refers : ℕ → ℕ → Bool
@@ -123,12 +134,10 @@ rangeState actual t state =
 abbrev pub dayHeldTo : ℕ → ℕ → ℕ → Bool
 dayHeldTo u v r = eqb (R (headOn 2024 5 1 1) (day 1 96 u v) 0 1) r
 
+-- the cases that are told by tests
 unfoldable pub cases : List Bool
 cases =
-    passes 40000 30 20000 ∷ not (passes 40000 30 20001)
-    ∷ passes 40000 5 3333 ∷ not (passes 40000 5 3334)
-    ∷ passes 70000 30 30000 ∷ not (passes 70000 30 40000)
-    ∷ lineGives 30 7 1 10 1 8
+    lineGives 30 7 1 10 1 8
     ∷ lineGives 30 10 3 4 1 8 ∷ lineGives 30 10 3 4 2 7 ∷ lineGives 30 10 3 4 3 5
     ∷ lineGives 15 100 3 104 1 101 ∷ lineGives 15 100 3 104 2 102 ∷ lineGives 15 100 3 104 3 103
     ∷ lineGives 15 40 2 40 1 40 ∷ lineGives 15 40 2 40 2 40
@@ -141,9 +150,6 @@ cases =
     ∷ scaled (day 1 96 0 0) 3 3 4
     ∷ scaled (day 0 100 0 0) 3 3 4
     ∷ eqb (dayNumber 2000 2 29) 59
-    ∷ not (headOk (headOn 2001 2 29 1))
-    ∷ headOk (headOn 2099 12 31 1)
-    ∷ not (headOk (headOn 2099 12 31 2))
     ∷ agreedHas 1 600 isF 5
     ∷ agreedHas 2 50 isA 0
     ∷ eqb (actual (headOn 2024 5 1 1) agreedDay 0 1) 690
@@ -161,3 +167,13 @@ cases =
     ∷ dayHeldTo 5 20 105 ∷ scaled (day 1 96 5 20) 1 2 2
     ∷ dayHeldTo 15 20 100 ∷ scaled (day 1 96 15 20) 0 0 0
     ∷ []
+
+-- all of them: those of the demand limit and of opening by the cause and by the answer
+pub record Starred : Type 0 where
+  pub kind1 : (causeFor 40000 30 20000 ≡ Nothing) × (causeFor 40000 30 20001 ≡ Demand)
+  pub kind1-five : (causeFor 40000 5 3333 ≡ Nothing) × (causeFor 40000 5 3334 ≡ Demand)
+  pub kind2 : (causeFor 70000 30 30000 ≡ Nothing) × (causeFor 70000 30 40000 ≡ Demand)
+  pub no-day : opening (headOn 2001 2 29 1) ≡ refused 1
+  pub last-day : opening (headOn 2099 12 31 1) ≡ done
+  pub day-after : opening (headOn 2099 12 31 2) ≡ refused 1
+  pub others : every cases ≡ true

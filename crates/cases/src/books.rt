@@ -66,7 +66,7 @@ fn deliver_run(
     first: u32,
     end: u32,
     value: u32,
-    status: u8,
+    status: u32,
 ) {
     let mut slot = first;
     while slot < end {
@@ -94,7 +94,6 @@ fn deliver_row(
     counts: &mut [u16],
     row: [u32; 5],
 ) {
-    let status = (row[4] % 256) as u8;
     if row[0] == 5 {
         book::deliver(
             head,
@@ -105,7 +104,7 @@ fn deliver_row(
             row[1],
             row[2],
             row[3],
-            status,
+            row[4],
         );
         return;
     }
@@ -118,7 +117,7 @@ fn deliver_row(
         row[1],
         row[2],
         row[3],
-        status,
+        row[4],
     )
 }
 
