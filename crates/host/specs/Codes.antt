@@ -29,11 +29,12 @@ abbrev pub publishCode : Published → ℕ
 publishCode (published.Length n) = n
 publishCode (published.Refused n) = n
 
+-- "0 or the refusal" (02, W9)
 abbrev pub readCode : Verdict → ℕ
 readCode (verdict.Accepted g) = 0
 readCode (verdict.Refused n) = n
 
--- in the order of the trailer
+-- in the order of the header's list
 abbrev pub figuresList : Figures → List ℕ
 figuresList g =
     g .first ∷ g .days ∷ g .interval ∷ g .spans ∷ g .actual ∷ g .substituted ∷ g .none ∷ g .sum ∷ g .layout ∷ []

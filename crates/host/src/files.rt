@@ -4,10 +4,10 @@ use file::Verdict;
 use publishing::Published;
 ghost use mathlib.Core.Path.{_≡_};
 ghost use lib.ListN.{length};
-ghost use Rattle.book.specs.Inner.Lent.{lentBook};
+ghost use Rattle.book.specs.Lent.{lentBook};
 ghost use Rattle.publishing.specs.Publishing.{publishAnswer, publishAfter};
-ghost use Rattle.file.specs.Reader.{tablesPart};
-ghost use Rattle.host.specs.Codes.{headOf, publishCode, readAnswer, figuresAfter};
+ghost use Rattle.file.specs.Reader.{readFile, tablesPart};
+ghost use Rattle.host.specs.Codes.{headOf, publishCode, readCode, readAnswer, figuresAfter};
 
 // The length, which is above 31, or the refusal's number.
 fn published_code(published: Published) -> u64
@@ -62,6 +62,23 @@ pub extern "C" fn sawmauve_publish(
         widths,
         out,
     ))
+}
+
+fn read_code(verdict: Verdict) -> u32
+    ensures { λ r. ⌜ r ≡ readCode verdict ⌝ }
+{
+    match verdict {
+        Verdict::Accepted(g) => 0,
+        Verdict::Refused(n) => n as u32,
+    }
+}
+
+// 0 for a file that the reader accepts, or the refusal's number (02, W9).
+#[no_mangle]
+pub extern "C" fn sawmauve_check(bytes: &[u8]) -> u32
+    ensures { λ r. ⌜ r ≡ readCode (readFile (now (bytes .entry))) ⌝ }
+{
+    read_code(file::read(bytes))
 }
 
 // 0 and the nine figures, or the refusal's number; 2 for a list of figures that is not 9 long.

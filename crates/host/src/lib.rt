@@ -10,11 +10,11 @@ use book::Filed;
 use book::Opened;
 use rules::Head;
 ghost use mathlib.Core.Path.{_≡_};
-ghost use Rattle.rules.specs.Inner.Lent.{lentSlots, lentAgreed};
+ghost use Rattle.rules.specs.Lent.{lentSlots, lentAgreed};
 ghost use Rattle.book.specs.Answers.{openedMeant, filedMeant, answerCode};
 ghost use Rattle.book.specs.Opening.{openAnswer, openAfter};
 ghost use Rattle.book.specs.Filling.{deliverAnswer, deliverAfter, countsAfter, agreeAnswer, agreeAfter, holidayAnswer, holidayAfter, registerAnswer, registerAfter};
-ghost use Rattle.book.specs.Inner.Lent.{lentReads, lentBook, HoldSlots, HoldReads, HoldAgreed, HoldBook};
+ghost use Rattle.book.specs.Lent.{lentReads, lentBook};
 ghost use Rattle.host.specs.Codes.{headOf};
 
 pub fn head_of(
@@ -85,7 +85,8 @@ pub extern "C" fn sawmauve_open(
         (let head = headOf year month day days interval limit tolerance in
         let book = lentBook (values .entry) (versions .entry) (statuses .entry) (holidays .entry) (readings .entry) (reads .entry) (agreed .entry) («agreed_versions» .entry) (counts .entry) (widths .entry) in
         (r ≡ answerCode (openAnswer head book))
-        × HoldBook (values .exit) (versions .exit) (statuses .exit) (holidays .exit) (readings .exit) (reads .exit) (agreed .exit) («agreed_versions» .exit) (counts .exit) (widths .exit) (openAfter head book))
+        × (lentBook (values .exit) (versions .exit) (statuses .exit) (holidays .exit) (readings .exit) (reads .exit) (agreed .exit) («agreed_versions» .exit) (counts .exit) (widths .exit)
+        ≡ openAfter head book))
         ⌝ }
 {
     let head = head_of(year, month, day, days, interval, limit, tolerance);
@@ -120,13 +121,14 @@ pub extern "C" fn sawmauve_deliver(
     slot: u32,
     version: u32,
     value: u32,
-    status: u8,
+    status: u32,
 ) -> u32
     ensures { λ r. ⌜
         (let head = headOf year month day days interval limit tolerance in
         let slots = lentSlots (values .entry) (versions .entry) (statuses .entry) in
         (r ≡ answerCode (deliverAnswer head slots (now (counts .entry)) slot version value status))
-        × HoldSlots (values .exit) (versions .exit) (statuses .exit) (deliverAfter head slots (now (counts .entry)) slot version value status)
+        × (lentSlots (values .exit) (versions .exit) (statuses .exit)
+        ≡ deliverAfter head slots (now (counts .entry)) slot version value status)
         × (now (counts .exit) ≡ countsAfter head slots (now (counts .entry)) slot version value status))
         ⌝ }
 {
@@ -163,7 +165,8 @@ pub extern "C" fn sawmauve_agree(
         (let head = headOf year month day days interval limit tolerance in
         let lent = lentAgreed (agreed .entry) («agreed_versions» .entry) in
         (r ≡ answerCode (agreeAnswer head lent slot version value))
-        × HoldAgreed (agreed .exit) («agreed_versions» .exit) (agreeAfter head lent slot version value))
+        × (lentAgreed (agreed .exit) («agreed_versions» .exit)
+        ≡ agreeAfter head lent slot version value))
         ⌝ }
 {
     let head = head_of(year, month, day, days, interval, limit, tolerance);
@@ -213,7 +216,8 @@ pub extern "C" fn sawmauve_register(
         (let head = headOf year month day days interval limit tolerance in
         let lent = lentReads (readings .entry) (reads .entry) (widths .entry) in
         (r ≡ answerCode (registerAnswer head lent boundary version reading width))
-        × HoldReads (readings .exit) (reads .exit) (widths .exit) (registerAfter head lent boundary version reading width))
+        × (lentReads (readings .exit) (reads .exit) (widths .exit)
+        ≡ registerAfter head lent boundary version reading width))
         ⌝ }
 {
     let head = head_of(year, month, day, days, interval, limit, tolerance);

@@ -16,7 +16,7 @@ fn exported_code(exported: Exported) -> u64
     }
 }
 
-fn codes_of(two: u8, three: u8, five: u8, eighteen: u8, nineteen: u8) -> Codes
+fn codes_of(two: u32, three: u32, five: u32, eighteen: u32, nineteen: u32) -> Codes
     ensures { λ r. ⌜ r ≡ codesOf two three five eighteen nineteen ⌝ }
 {
     Codes {
@@ -42,11 +42,11 @@ pub extern "C" fn sawmauve_nem12(
     next_read: &[u8],
     reason: &[u8],
     created: &[u8],
-    two: u8,
-    three: u8,
-    five: u8,
-    eighteen: u8,
-    nineteen: u8,
+    two: u32,
+    three: u32,
+    five: u32,
+    eighteen: u32,
+    nineteen: u32,
     out: &mut [u8],
 ) -> u64
     ensures { λ r. ⌜
