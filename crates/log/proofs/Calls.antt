@@ -2,7 +2,7 @@
 use mathlib.Core.Bool.{Bool, true, false, cond}
 use mathlib.Core.List.{List, [], _∷_, map}
 use mathlib.Core.Path.{_≡_, refl, sym, ap, _∙_}
-use Prim.Native.Nat.{ℕ, _-_, _≤_, _<_, min}
+use Prim.Native.Nat.{ℕ, _-_, _≤_, _<_}
 use native.Mathlib.Omega.{arith}
 use borrow.Author.Tests.{eq-eqb, ne-eqb, lt-ltb, le-ltb}
 use lib.ListN.{length, getD, take, drop, length-map, List·getD-map}
@@ -44,12 +44,12 @@ unfolding agreedOf
 no-agreed fields n = rw n
 
 module _ (fields : List (List ℕ)) (vs : List ℕ) where
-  pub is-delivery : (status : ℕ) → status ≡ min (getD vs 3 0) 255 → areNumbers 4 fields ≡ true → take 4 vs ≡ map valueOf fields
-      → Fill (Delivery (getD vs 0 0) (getD vs 1 0) (getD vs 2 0) status) ≡ deliveryOf fields
+  pub is-delivery : areNumbers 4 fields ≡ true → take 4 vs ≡ map valueOf fields
+      → Fill (Delivery (getD vs 0 0) (getD vs 1 0) (getD vs 2 0) (getD vs 3 0)) ≡ deliveryOf fields
   unfolding deliveryOf
-  is-delivery status s n e =
+  is-delivery n e =
       let at = value-at fields 4 vs e in
-      rw (n, s, at 0 (omega arith), at 1 (omega arith), at 2 (omega arith), at 3 (omega arith))
+      rw (n, at 0 (omega arith), at 1 (omega arith), at 2 (omega arith), at 3 (omega arith))
 
   pub is-holiday : areNumbers 1 fields ≡ true → take 1 vs ≡ map valueOf fields → Fill (Holiday (getD vs 0 0)) ≡ holidayOf fields
   unfolding holidayOf

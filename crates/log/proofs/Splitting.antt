@@ -15,7 +15,7 @@ use Rattle.log.specs.Inner.Parsing.{piecesAfter, piecesFrom}
 -- ---- The end of a piece
 
 module _ (separator : ℕ) (bytes : List ℕ) (at i : ℕ) (m : at ≤ i) where
-  part-more : i < length bytes → take ((i + 1) - at) (drop at bytes) ≡ take (i - at) (drop at bytes) ++ (getD bytes i 0 ∷ [])
+  pub part-more : i < length bytes → take ((i + 1) - at) (drop at bytes) ≡ take (i - at) (drop at bytes) ++ (getD bytes i 0 ∷ [])
   part-more l =
       let next : (i + 1) - at ≡ suc (i - at) = omega arith in
       let inside : i - at < length (drop at bytes) = rw length-drop (omega arith) in

@@ -1,4 +1,5 @@
 pub mod Numbers
 pub mod Words
 pub mod Line
+pub mod Log
 pub mod Inner

@@ -1,7 +1,7 @@
 -- Which lines of a log are calls, and which call.
 use mathlib.Core.Bool.{Bool, cond, _&&_, _||_}
 use mathlib.Core.List.{List, [], _∷_, _++_, map}
-use Prim.Native.Nat.{ℕ, _-_, min}
+use Prim.Native.Nat.{ℕ, _-_}
 use lib.Dec.{leb, ltb, eqb}
 use lib.ListN.{length, getD, take, replicate}
 use Rattle.log.specs.declared.line.Opening.{Opening}
@@ -49,10 +49,10 @@ unfoldable pub openOf : List (List ℕ) → Line
 openOf [] = NoCall
 openOf (date ∷ fields) = cond (isDate date && areNumbers 4 fields) (Open (openingOf date fields)) NoCall
 
--- slot, version, value, status; the call takes a byte as status, so one over 255 is given as 255: both are over 7 and refused with 5
+-- slot, version, value, status
 unfoldable pub deliveryOf : List (List ℕ) → Line
 deliveryOf fields =
-    cond (areNumbers 4 fields) (Fill (Delivery (value fields 0) (value fields 1) (value fields 2) (min (value fields 3) 255))) NoCall
+    cond (areNumbers 4 fields) (Fill (Delivery (value fields 0) (value fields 1) (value fields 2) (value fields 3))) NoCall
 
 -- day
 unfoldable pub holidayOf : List (List ℕ) → Line

@@ -2,6 +2,8 @@
 use crate::number;
 use crate::number::Number;
 use crate::pieces;
+use rules::limits as demand;
+use rules::limits::Loaded;
 ghost use mathlib.Core.Bool.{cond};
 ghost use mathlib.Core.List.{[], map};
 ghost use mathlib.Core.Path.{_≡_};
@@ -9,6 +11,8 @@ ghost use Prim.Native.Nat.{_≤_};
 ghost use lib.ListN.{length};
 ghost use Rattle.log.specs.Numbers.{valueOf};
 ghost use Rattle.log.specs.Line.{areLimits, limitsOf};
+ghost use Rattle.log.specs.Log.{tableOf};
+ghost use Rattle.rules.specs.Limits.{loadAnswer};
 ghost use Rattle.log.specs.Inner.Parsing.{piecesAfter};
 
 // The first `count` values are a table; a count of 0 is none.
@@ -47,4 +51,16 @@ pub fn limits_after(line: &[u8], end: usize) -> Limits
         count += 1;
     }
     Limits { values, count }
+}
+
+// What a place of a table holds. A table has room for 24 limits.
+pub fn load_from(limits: Limits, kind: u32) -> Loaded
+    ensures { λ r. ⌜ r ≡ loadAnswer (tableOf limits) kind ⌝ }
+{
+    let values = limits.values;
+    let count = limits.count;
+    if 24 < count {
+        return demand::load(&values, kind);
+    }
+    demand::load(&values[..count], kind)
 }

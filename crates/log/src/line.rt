@@ -6,11 +6,13 @@ use crate::number::Date;
 use crate::pieces;
 use crate::words;
 use book::calls::Call;
+use rules::Head;
 ghost use mathlib.Core.Path.{_≡_};
-ghost use Prim.Native.Nat.{_≤_, min};
+ghost use Prim.Native.Nat.{_≤_};
 ghost use lib.ListN.{length};
 ghost use Rattle.log.specs.Words.{words as wordsOf};
 ghost use Rattle.log.specs.Line.{openOf, deliveryOf, holidayOf, sharpOf, registerOf, agreedOf, callOf, bare as bareOf, limitsEntry, wordsEntry, entryOf};
+ghost use Rattle.log.specs.Log.{headWith};
 ghost use Rattle.log.specs.Inner.Parsing.{piecesAfter, cutAt};
 
 // The figures of an opening. Its kind is a place in a table of demand limits.
@@ -37,12 +39,6 @@ pub enum Line {
 pub struct Entry {
     pub line: Line,
     pub limits: Limits,
-}
-
-fn status_byte(status: u32) -> u8
-    ensures { λ r. ⌜ r ≡ min status 255 ⌝ }
-{
-    if 255 < status { 255 } else { status as u8 }
 }
 
 // The fields after a keyword that ends at `end`, in each of these.
@@ -85,7 +81,7 @@ fn delivery_after(line: &[u8], end: usize) -> Line
         slot: fields.values[0],
         version: fields.values[1],
         value: fields.values[2],
-        status: status_byte(fields.values[3]),
+        status: fields.values[3],
     })
 }
 
@@ -233,4 +229,26 @@ pub fn entry_of(bytes: &[u8]) -> Entry
         return bare(Line::NoCall);
     }
     words_entry(&bytes[..n])
+}
+
+// What the bytes of a line are, without the table of one.
+pub fn line_of(bytes: &[u8]) -> Line
+    ensures { λ r. ⌜ r ≡ entryOf (now (bytes .entry)) .line ⌝ }
+{
+    entry_of(bytes).line
+}
+
+// The head of an opening with this demand limit.
+pub fn head_with(opening: Opening, limit: u32) -> Head
+    ensures { λ r. ⌜ r ≡ headWith opening limit ⌝ }
+{
+    Head {
+        year: opening.year,
+        month: opening.month,
+        day: opening.day,
+        days: opening.days,
+        interval: opening.interval,
+        limit,
+        tolerance: opening.tolerance,
+    }
 }

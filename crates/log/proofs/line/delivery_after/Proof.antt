@@ -21,24 +21,16 @@ element-copy-out-t12 c = search needs
 element-copy-out-t15 : tie.Need-element-copy-out-t15
 element-copy-out-t15 c = search needs
 
-element-copy-out-status-byte : tie.Need-element-copy-out-status-byte
-element-copy-out-status-byte c = search needs
-
-status-byte-requires : tie.Need-status-byte-requires
-status-byte-requires c κs = search needs
+element-copy-out-t18 : tie.Need-element-copy-out-t18
+element-copy-out-t18 c = search needs
 
 returns-2 : tie.Need-returns-2
-returns-2 c = is-delivery _ (c .before .before .before .before .before .before .values-after .result .values) _ (c .status-byte .ensures) (sym (c .before .before .before .before .before .before .values-after .ensures .0) ∙ not-false _ (c .before .before .before .before .before .if1 .left)) (c .before .before .before .before .before .before .values-after .ensures .1 (not-false _ (c .before .before .before .before .before .if1 .left)))
+returns-2 c =
+    let e = c .before .before .before .before .before in
+    let good = not-false _ (c .before .before .before .before .if1 .left) in
+    is-delivery _ (e .values-after .result .values) (sym (e .values-after .ensures .0) ∙ good) (e .values-after .ensures .1 good)
 
 pub delivery-after-spec : {M : Type 1} → statement M
 delivery-after-spec =
     tie.close
-    (tie.spec
-    values-after-requires
-    returns
-    element-copy-out-t9
-    element-copy-out-t12
-    element-copy-out-t15
-    element-copy-out-status-byte
-    status-byte-requires
-    returns-2)
+    (tie.spec values-after-requires returns element-copy-out-t9 element-copy-out-t12 element-copy-out-t15 element-copy-out-t18 returns-2)

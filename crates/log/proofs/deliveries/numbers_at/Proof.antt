@@ -1,0 +1,131 @@
+-- `deliveries::numbers_at`: four fields one after another.
+use mathlib.Core.Bool.{false≢true}
+use mathlib.Core.Path.{sym, _∙_}
+use borrow.Author.Needs.{needs}
+use borrow.Author.Tests.{not-false}
+use native.Mathlib.Omega.{arith}
+use Rattle.log.specs.Inner.Deliveries.{FieldAt}
+use Rattle.log.proofs.deliveries.numbers_at.Statement.{statement}
+use Rattle.log.proofs.deliveries.numbers_at.Tie as tie
+
+-- from each test to the one before
+abbrev from4 : tie.Else4 → tie.Else3
+from4 c = c .before .before .before
+
+abbrev from3 : tie.Else3 → tie.Else2
+from3 c = c .before .before .before
+
+abbrev from2 : tie.Else2 → tie.Else1
+from2 c = c .before .before .before
+
+abbrev from1 : tie.Else1 → tie.Start
+from1 c = c .before .before .before .before
+
+-- the fields that were found
+slot-found : (c : tie.Else1)
+    → FieldAt (from1 c .args .bytes .now) (from1 c .args .from) 32 (c .before .before .field-at .result .value) (c .before .before .field-at .result .next)
+slot-found c = c .before .before .field-at .ensures (not-false _ (c .if1 .left))
+
+version-found : (c : tie.Else2)
+    → FieldAt (from1 (from2 c) .args .bytes .now) (from2 c .before .before .field-at .result .next) 32 (c .before .before .field-at2 .result .value)
+    (c .before .before .field-at2 .result .next)
+version-found c = c .before .before .field-at2 .ensures (not-false _ (c .if2 .left))
+
+value-found : (c : tie.Else3)
+    → FieldAt (from1 (from2 (from3 c)) .args .bytes .now) (from3 c .before .before .field-at2 .result .next) 32
+    (c .before .before .field-at3 .result .value) (c .before .before .field-at3 .result .next)
+value-found c = c .before .before .field-at3 .ensures (not-false _ (c .if3 .left))
+
+status-found : (c : tie.Else4)
+    → FieldAt (from1 (from2 (from3 (from4 c))) .args .bytes .now) (from4 c .before .before .field-at3 .result .next) 10
+    (c .before .before .field-at4 .result .value) (c .before .before .field-at4 .result .next)
+status-found c = c .before .before .field-at4 .ensures (not-false _ (c .if4 .left))
+
+field-at-requires : tie.Need-field-at-requires
+field-at-requires c κs = search needs
+
+no-delivery-requires : tie.Need-no-delivery-requires
+no-delivery-requires c κs = search needs
+
+returns : tie.Need-returns
+returns c = λ t. absurd (false≢true (sym (c .no-delivery .ensures) ∙ t))
+
+field-at-requires-2 : tie.Need-field-at-requires-2
+field-at-requires-2 c κs = slot-found c .inside
+
+no-delivery-requires-2 : tie.Need-no-delivery-requires-2
+no-delivery-requires-2 c κs = search needs
+
+returns-2 : tie.Need-returns-2
+returns-2 c = λ t. absurd (false≢true (sym (c .no-delivery2 .ensures) ∙ t))
+
+field-at-requires-3 : tie.Need-field-at-requires-3
+field-at-requires-3 c κs = version-found c .inside
+
+no-delivery-requires-3 : tie.Need-no-delivery-requires-3
+no-delivery-requires-3 c κs = search needs
+
+returns-3 : tie.Need-returns-3
+returns-3 c = λ t. absurd (false≢true (sym (c .no-delivery3 .ensures) ∙ t))
+
+field-at-requires-4 : tie.Need-field-at-requires-4
+field-at-requires-4 c κs = value-found c .inside
+
+no-delivery-requires-4 : tie.Need-no-delivery-requires-4
+no-delivery-requires-4 c κs = search needs
+
+returns-4 : tie.Need-returns-4
+returns-4 c = λ t. absurd (false≢true (sym (c .no-delivery4 .ensures) ∙ t))
+
+sub-if5 : tie.Need-sub-if5
+sub-if5 c =
+    let d = c .before in
+    omega (
+      arith,
+      status-found d .end,
+      value-found (from4 d) .end,
+      version-found (from3 (from4 d)) .end,
+      slot-found (from2 (from3 (from4 d))) .end,
+      from1 (from2 (from3 (from4 d))) .pre .1,
+    )
+
+no-delivery-requires-5 : tie.Need-no-delivery-requires-5
+no-delivery-requires-5 c κs = search needs
+
+returns-5 : tie.Need-returns-5
+returns-5 c = λ t. absurd (false≢true (sym (c .no-delivery5 .ensures) ∙ t))
+
+returns-6 : tie.Need-returns-6
+returns-6 c = λ t.
+    let d = c .before .before in
+    record {
+      versions = _;
+      values = _;
+      statuses = _;
+      slot = slot-found (from2 (from3 (from4 d)));
+      version = version-found (from3 (from4 d));
+      value = value-found (from4 d);
+      status = status-found d;
+      short = omega (arith, c .if5 .left);
+    }
+
+pub numbers-at-spec : {M : Type 1} → statement M
+numbers-at-spec =
+    tie.close
+    (tie.spec
+    field-at-requires
+    no-delivery-requires
+    returns
+    field-at-requires-2
+    no-delivery-requires-2
+    returns-2
+    field-at-requires-3
+    no-delivery-requires-3
+    returns-3
+    field-at-requires-4
+    no-delivery-requires-4
+    returns-4
+    sub-if5
+    no-delivery-requires-5
+    returns-5
+    returns-6)

@@ -1,0 +1,149 @@
+// A delivery's line in one pass: nearly every line of a log is one.
+use crate::words;
+ghost use mathlib.Core.Bool.{true, false};
+ghost use mathlib.Core.Path.{_≡_};
+ghost use Prim.Native.Nat.{_≤_};
+ghost use lib.ListN.{length};
+ghost use Rattle.log.specs.Inner.Deliveries.{DigitsAt, FieldAt, NumbersAt, DeliveryAt};
+
+// A row of digits, up to `end`, and its value.
+pub struct Digits {
+    pub value: u32,
+    pub end: usize,
+}
+
+// A number that a separator follows, and the place after that.
+pub struct Field {
+    pub good: bool,
+    pub value: u32,
+    pub next: usize,
+}
+
+// The four numbers of a delivery, and the place where the next line begins.
+pub struct Delivery {
+    pub found: bool,
+    pub slot: u32,
+    pub version: u32,
+    pub value: u32,
+    pub status: u32,
+    pub next: usize,
+}
+
+// The digits from `from` on, as far as their value stays below 1,000,000,000.
+fn digits_at(bytes: &[u8], from: usize) -> Digits
+    requires { ⌜ from ≤ length (now bytes) ⌝ }
+    ensures { λ r. ⌜ DigitsAt (now (bytes .entry)) from (r .value) (r .end) ⌝ }
+{
+    let mut value: u32 = 0;
+    let mut i = from;
+    while i < bytes.len() {
+        let byte = bytes[i];
+        if byte < b'0' {
+            return Digits { value, end: i };
+        }
+        if b'9' < byte {
+            return Digits { value, end: i };
+        }
+        if 99_999_999 < value {
+            return Digits { value, end: i };
+        }
+        value = 10 * value + (byte - b'0') as u32;
+        i += 1;
+    }
+    Digits { value, end: i }
+}
+
+fn no_field() -> Field
+    ensures { λ r. ⌜ r .good ≡ false ⌝ }
+{
+    Field {
+        good: false,
+        value: 0,
+        next: 0,
+    }
+}
+
+// The number that begins at `from`, where the separator follows it.
+fn field_at(bytes: &[u8], from: usize, separator: u8) -> Field
+    requires { ⌜ from ≤ length (now bytes) ⌝ }
+    ensures { λ r. ⌜ (r .good ≡ true → FieldAt (now (bytes .entry)) from separator (r .value) (r .next)) ⌝ }
+{
+    let digits = digits_at(bytes, from);
+    let end = digits.end;
+    if end == from {
+        return no_field();
+    }
+    if bytes.len() <= end {
+        return no_field();
+    }
+    if bytes[end] != separator {
+        return no_field();
+    }
+    Field {
+        good: true,
+        value: digits.value,
+        next: end + 1,
+    }
+}
+
+fn no_delivery() -> Delivery
+    ensures { λ r. ⌜ r .found ≡ false ⌝ }
+{
+    Delivery {
+        found: false,
+        slot: 0,
+        version: 0,
+        value: 0,
+        status: 0,
+        next: 0,
+    }
+}
+
+// The numbers of a delivery from `from` on, whose line begins at `at` and is at most 255 bytes long.
+fn numbers_at(bytes: &[u8], at: usize, from: usize) -> Delivery
+    requires { ⌜ (from ≤ length (now bytes)) × (at ≤ from) ⌝ }
+    ensures { λ r. ⌜ (r .found ≡ true → NumbersAt (now (bytes .entry)) at from r) ⌝ }
+{
+    let slot = field_at(bytes, from, b' ');
+    if !slot.good {
+        return no_delivery();
+    }
+    let version = field_at(bytes, slot.next, b' ');
+    if !version.good {
+        return no_delivery();
+    }
+    let value = field_at(bytes, version.next, b' ');
+    if !value.good {
+        return no_delivery();
+    }
+    let status = field_at(bytes, value.next, b'\n');
+    if !status.good {
+        return no_delivery();
+    }
+    if 256 < status.next - at {
+        return no_delivery();
+    }
+    Delivery {
+        found: true,
+        slot: slot.value,
+        version: version.value,
+        value: value.value,
+        status: status.value,
+        next: status.next,
+    }
+}
+
+// The delivery whose line begins at `at` and ends in LF, where it is written in numbers below 1,000,000,000; another line may be one too.
+pub fn delivery_at(bytes: &[u8], at: usize) -> Delivery
+    requires { ⌜ at ≤ length (now bytes) ⌝ }
+    ensures { λ r. ⌜ (r .found ≡ true → DeliveryAt (now (bytes .entry)) at r) ⌝ }
+{
+    if bytes.len() - at < 9 {
+        return no_delivery();
+    }
+    let from = at + 9;
+    if !words::is_same(&bytes[at..from], b"delivery ") {
+        return no_delivery();
+    }
+    numbers_at(bytes, at, from)
+}
