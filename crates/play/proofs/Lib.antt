@@ -1,3 +1,4 @@
-pub mod Played
-pub mod Alike
-pub mod Feeding
+pub mod Stepping
+pub mod Walking
+pub mod Ending
+pub mod TwoLogs

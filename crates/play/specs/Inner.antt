@@ -1,5 +1,3 @@
 -- What the contracts of inner functions say.
-pub mod Feeding
-pub mod Console
-pub mod Sizes
-pub mod Leading
+pub mod Steps
+pub mod Filling

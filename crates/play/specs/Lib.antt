@@ -1,4 +1,3 @@
 pub mod Playing
-pub mod Log
-pub mod Texts
 pub mod Inner
+pub mod Claim

@@ -1,189 +1,87 @@
--- What a log comes to: its lines played one after another.
-use mathlib.Core.Bool.{Bool, true, false, cond}
+-- What checking and playing a log answer and leave, from what its bytes are.
+use mathlib.Core.Bool.{Bool, cond, _&&_}
 use mathlib.Core.List.{List, [], _∷_}
-use Prim.Native.Nat.{ℕ, _+_}
-use lib.Dec.{ltb}
-use lib.ListN.{take}
-use Rattle.rules.specs.Limits.{loadAnswer}
-use Rattle.rules.specs.declared.limits.Loaded.{Loaded}
-use Rattle.rules.specs.declared.limits.Loaded.the-variants as loaded
+use Prim.Native.Nat.{ℕ}
+use lib.Dec.{eqb}
+use lib.ListN.{length}
 use Rattle.rules.specs.declared.Head.{Head}
-use Rattle.book.specs.Answers.{Answer}
-use Rattle.book.specs.Answers.Answer.{done, stored, late, repeat, refused}
-use Rattle.book.specs.Arguments.{callMeant}
-use Rattle.book.specs.Cells.{Book}
-use Rattle.book.specs.Filling.{answer, after}
-use Rattle.book.specs.Opening.{openAnswer, openAfter}
-use Rattle.log.specs.declared.line.Line.{Line}
-use Rattle.log.specs.declared.line.Line.the-variants as line
-use Rattle.log.specs.declared.line.Opening.{Opening}
-use Rattle.log.specs.declared.line.Entry.{Entry}
-use Rattle.log.specs.declared.limits.Limits.{Limits}
-use Rattle.log.specs.Line.{limitsOf}
-use Rattle.play.specs.declared.play.Stage.{Stage}
-use Rattle.play.specs.declared.play.Stage.the-variants as stage
-use Rattle.play.specs.declared.play.Said.{Said}
-use Rattle.play.specs.declared.play.Said.the-variants as said
-use Rattle.play.specs.declared.play.Run.{Run}
-use Rattle.play.specs.declared.play.Played.{Played}
+use Rattle.book.specs.Answers.{answerCode}
+use Rattle.book.specs.Arguments.{Call}
+use Rattle.book.specs.Cells.{Book, bookFits}
+use Rattle.book.specs.Opening.{opened}
+use Rattle.book.specs.Filling.{answer, after, afterAll}
+use Rattle.log.specs.Log.{lines, Item, items, callsIn, Reading, readLog}
+use Rattle.log.specs.Log.Item.{passed, table, opening, call, neither}
+use Rattle.log.specs.Log.Reading.{log, noOpening, notACall, refused}
+use Rattle.play.specs.declared.Checked.{Checked}
+use Rattle.play.specs.declared.Checked.the-variants as coded
+use Rattle.play.specs.declared.Played.{Played}
+use Rattle.play.specs.declared.Played.the-variants.{Is, Lengths}
 
--- before the first line, where no head is known; without a table the limits are 40,000 and 70,000 (02, W5)
-abbrev pub started : Run
-started = record {
-  stage = stage.Closed;
-  limits = limitsOf (40000 ∷ 70000 ∷ []);
-  head = record { year = 0; month = 0; day = 0; days = 0; interval = 0; limit = 0; tolerance = 0 };
-  lines = 0;
-  refused = 0;
-}
+-- the filling calls of a log, in order
+abbrev pub callsOf : List ℕ → List Call
+callsOf bytes = callsIn (items bytes)
 
--- a line that is no call, and a refused table or opening, end the log
-abbrev pub isOver : Stage → Bool
-isOver stage.Closed = false
-isOver stage.Limited = false
-isOver stage.Open = false
-isOver stage.Unfit = true
-isOver (stage.Refused n) = true
+-- a log: its head, how many lines it has, and how many filling calls
+unfoldable pub checkedOf : List ℕ → Reading → Checked
+checkedOf bytes (log h) = coded.Log h (length (lines bytes)) (length (callsOf bytes))
+checkedOf bytes noOpening = coded.NoOpening
+checkedOf bytes (notACall n) = coded.NotACall n
+checkedOf bytes (refused n k) = coded.Refused n k
 
--- 01's answer as the enum has it
-abbrev pub saidOf : Answer → Said
-saidOf done = said.Done
-saidOf stored = said.Stored
-saidOf late = said.Late
-saidOf repeat = said.Repeat
-saidOf (refused n) = said.Refused n
+unfoldable pub checked : List ℕ → Checked
+checked bytes = checkedOf bytes (readLog bytes)
 
--- a number of 64 bits counts up to 18,446,744,073,709,551,615 and stays there
-unfoldable pub counted : ℕ → ℕ
-counted n = cond (ltb n 18446744073709551615) (n + 1) n
+-- the ten lists have the lengths of the head, and there is a byte of answers for each line
+unfoldable pub lengthsOk : List ℕ → Head → Book → List ℕ → Bool
+lengthsOk bytes h b answers = bookFits h b && eqb (length answers) (length (lines bytes))
 
--- one line more
-unfoldable pub moved : Run → Stage → Run
-moved run s = record { stage = s; limits = run .limits; head = run .head; lines = counted (run .lines); refused = run .refused }
+-- the answer's code of a filling call (0 stored, 100 late, 101 repeat, or a refusal's number), 102 for the opening, 103 for a line without a call
+unfoldable pub codeOf : Head → Book → Item → ℕ
+codeOf h b passed = 103
+codeOf h b (table t) = 103
+codeOf h b (opening o) = 102
+codeOf h b (call c) = answerCode (answer h b c)
+codeOf h b neither = 103
 
--- a line without an answer
-unfoldable pub quiet : Run → Stage → Played
-quiet run s = record { run = moved run s; said = said.Nothing }
+unfoldable pub afterItem : Head → Book → Item → Book
+afterItem h b passed = b
+afterItem h b (table t) = b
+afterItem h b (opening o) = b
+afterItem h b (call c) = after h b c
+afterItem h b neither = b
 
--- a refused opening ends the log; opening answers done or a refusal
-abbrev pub stageOf : Answer → Stage
-stageOf done = stage.Open
-stageOf stored = stage.Open
-stageOf late = stage.Open
-stageOf repeat = stage.Open
-stageOf (refused n) = stage.Refused n
+-- a byte for each line, each call given the lists as the one before left them
+unfoldable pub codes : Head → Book → List Item → List ℕ
+codes h b [] = []
+codes h b (x ∷ xs) = codeOf h b x ∷ codes h (afterItem h b x) xs
 
-unfoldable pub afterOpening : Run → Head → Answer → Played
-afterOpening run h a =
-    record { run = record { stage = stageOf a; limits = run .limits; head = h; lines = counted (run .lines); refused = run .refused }; said = saidOf a }
+-- playing answers as checking does, and 2 for lengths that are wrong
+unfoldable pub playedAs : List ℕ → Book → List ℕ → Reading → Played
+playedAs bytes b answers (log h) = cond (lengthsOk bytes h b answers) (Is (checked bytes)) Lengths
+playedAs bytes b answers noOpening = Is (checked bytes)
+playedAs bytes b answers (notACall n) = Is (checked bytes)
+playedAs bytes b answers (refused n k) = Is (checked bytes)
 
--- a refused call is counted, and the log goes on
-abbrev pub refusedAfter : Answer → ℕ → ℕ
-refusedAfter done n = n
-refusedAfter stored n = n
-refusedAfter late n = n
-refusedAfter repeat n = n
-refusedAfter (refused k) n = counted n
+unfoldable pub playAnswer : List ℕ → Book → List ℕ → Played
+playAnswer bytes b answers = playedAs bytes b answers (readLog bytes)
 
-unfoldable pub afterFilling : Run → Answer → Played
-afterFilling run a = record {
-  run = record { stage = stage.Open; limits = run .limits; head = run .head; lines = counted (run .lines); refused = refusedAfter a (run .refused) };
-  said = saidOf a;
-}
+-- the lists after the calls, in order after opening; a refusal leaves them
+unfoldable pub listsAs : List ℕ → Book → List ℕ → Reading → Book
+listsAs bytes b answers (log h) = cond (lengthsOk bytes h b answers) (afterAll h (opened h) (callsOf bytes)) b
+listsAs bytes b answers noOpening = b
+listsAs bytes b answers (notACall n) = b
+listsAs bytes b answers (refused n k) = b
 
--- the limits that stand in a table's first places
-abbrev pub tableOf : Limits → List ℕ
-tableOf limits = take (limits .count) (limits .values)
+unfoldable pub playAfter : List ℕ → Book → List ℕ → Book
+playAfter bytes b answers = listsAs bytes b answers (readLog bytes)
 
--- a table that loads stands for the limits of the opening; one that does not ends the log. Neither is an answer
-unfoldable pub withTable : Run → Limits → Loaded → Played
-withTable run limits (loaded.Limit n) =
-    quiet (record { stage = run .stage; limits = limits; head = run .head; lines = run .lines; refused = run .refused }) stage.Limited
-withTable run limits (loaded.Refused n) = quiet run (stage.Refused n)
+-- the answers; a refusal leaves them
+unfoldable pub answersAs : List ℕ → Book → List ℕ → Reading → List ℕ
+answersAs bytes b answers (log h) = cond (lengthsOk bytes h b answers) (codes h (opened h) (items bytes)) answers
+answersAs bytes b answers noOpening = answers
+answersAs bytes b answers (notACall n) = answers
+answersAs bytes b answers (refused n k) = answers
 
--- an opening's kind is a place in the table, and the limit there stands in the head
-abbrev pub headWith : Opening → ℕ → Head
-headWith o limit = record {
-  year = o .year;
-  month = o .month;
-  day = o .day;
-  days = o .days;
-  interval = o .interval;
-  limit = limit;
-  tolerance = o .tolerance;
-}
-
--- a kind that is no place: the opening is refused
-unfoldable pub refusedWith : Run → ℕ → Played
-refusedWith run n = record { run = moved run (stage.Refused n); said = said.Refused n }
-
-unfoldable pub openedWith : Run → Book → Opening → Loaded → Played
-openedWith run b o (loaded.Limit n) = afterOpening run (headWith o n) (openAnswer (headWith o n) b)
-openedWith run b o (loaded.Refused n) = refusedWith run n
-
-unfoldable pub listsWith : Book → Opening → Loaded → Book
-listsWith b o (loaded.Limit n) = openAfter (headWith o n) b
-listsWith b o (loaded.Refused n) = b
-
--- before the opening: the first call line is an opening, and there is no second table
-unfoldable pub playedClosed : Run → Book → Line → Played
-playedClosed run b line.Passed = quiet run (run .stage)
-playedClosed run b line.Table = quiet run stage.Unfit
-playedClosed run b (line.Open o) = openedWith run b o (loadAnswer (tableOf (run .limits)) (o .kind))
-playedClosed run b (line.Fill call) = quiet run stage.Unfit
-playedClosed run b line.NoCall = quiet run stage.Unfit
-
-unfoldable pub closedLists : Run → Book → Line → Book
-closedLists run b line.Passed = b
-closedLists run b line.Table = b
-closedLists run b (line.Open o) = listsWith b o (loadAnswer (tableOf (run .limits)) (o .kind))
-closedLists run b (line.Fill call) = b
-closedLists run b line.NoCall = b
-
-abbrev pub isTable : Line → Bool
-isTable line.Passed = false
-isTable line.Table = true
-isTable (line.Open o) = false
-isTable (line.Fill call) = false
-isTable line.NoCall = false
-
--- before a table too; a good table has a first place
-unfoldable pub playedFirst : Run → Book → Entry → Played
-playedFirst run b x =
-    cond (isTable (x .line)) (withTable run (x .limits) (loadAnswer (tableOf (x .limits)) 1)) (playedClosed run b (x .line))
-
--- after the opening: no second one, and no table
-unfoldable pub playedOpen : Run → Book → Line → Played
-playedOpen run b line.Passed = quiet run stage.Open
-playedOpen run b line.Table = quiet run stage.Unfit
-playedOpen run b (line.Open o) = quiet run stage.Unfit
-playedOpen run b (line.Fill call) = afterFilling run (answer (run .head) b (callMeant call))
-playedOpen run b line.NoCall = quiet run stage.Unfit
-
-unfoldable pub openLists : Run → Book → Line → Book
-openLists run b line.Passed = b
-openLists run b line.Table = b
-openLists run b (line.Open o) = b
-openLists run b (line.Fill call) = after (run .head) b (callMeant call)
-openLists run b line.NoCall = b
-
--- where the log is over, nothing more is done
-abbrev pub playedAt : Stage → Run → Book → Entry → Played
-playedAt stage.Closed run b x = playedFirst run b x
-playedAt stage.Limited run b x = playedClosed run b (x .line)
-playedAt stage.Open run b x = playedOpen run b (x .line)
-playedAt stage.Unfit run b x = record { run = run; said = said.Nothing }
-playedAt (stage.Refused n) run b x = record { run = run; said = said.Nothing }
-
-unfoldable pub played : Run → Book → Entry → Played
-played run b x = playedAt (run .stage) run b x
-
-abbrev pub listsAt : Stage → Run → Book → Entry → Book
-listsAt stage.Closed run b x = closedLists run b (x .line)
-listsAt stage.Limited run b x = closedLists run b (x .line)
-listsAt stage.Open run b x = openLists run b (x .line)
-listsAt stage.Unfit run b x = b
-listsAt (stage.Refused n) run b x = b
-
-unfoldable pub playedLists : Run → Book → Entry → Book
-playedLists run b x = listsAt (run .stage) run b x
+unfoldable pub answersAfter : List ℕ → Book → List ℕ → List ℕ
+answersAfter bytes b answers = answersAs bytes b answers (readLog bytes)

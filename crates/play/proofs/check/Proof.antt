@@ -1,0 +1,36 @@
+-- `check`: the opening is found, or the log is none.
+use mathlib.Core.Path.{sym, ap, _∙_}
+use Rattle.play.specs.Playing.{checkedOf, checked}
+use borrow.Author.Needs.{needs}
+use Rattle.play.proofs.check.Statement.{statement}
+use Rattle.play.proofs.check.Tie as tie
+
+leading-requires : tie.Need-leading-requires
+leading-requires c κs = search needs
+
+enum-known-lead : tie.Need-enum-known-lead
+enum-known-lead c = search needs
+
+following-requires : tie.Need-following-requires
+following-requires c κs = (rw (c .before .lead .given .1) at (c .before .before .before .leading .ensures)) .0
+
+enum-known-lead-2 : tie.Need-enum-known-lead-2
+enum-known-lead-2 c = search needs
+
+returns : tie.Need-returns
+unfolding checked
+returns c = c .following .ensures ∙ ap (checkedOf _) (sym ((rw (c .before .before .lead .given .1) at (c .before .before .before .before .leading .ensures)) .1))
+
+returns-2 : tie.Need-returns-2
+returns-2 c = rw (c .before .lead2 .given .1) at (c .before .before .before .leading .ensures)
+
+pub check-spec : {M : Type 1} → statement M
+check-spec =
+    tie.close
+    (tie.spec
+    leading-requires
+    enum-known-lead
+    following-requires
+    enum-known-lead-2
+    returns
+    returns-2)

@@ -1,0 +1,92 @@
+-- `reading::leading`: no line so far is the opening, and none is wrong.
+use borrow.Author.Tests.{not-true, not-false}
+use Rattle.log.specs.declared.line.Entry.{Entry}
+use Rattle.log.specs.Log.{itemIn}
+use borrow.Author.Needs.{needs}
+use mathlib.Core.Path.{sym, ap, _∙_}
+use Prim.Native.Nat.{_-_}
+use native.Mathlib.Omega.{arith}
+use lib.ListN.{length}
+use Rattle.log.specs.Log.{tableOf, itemOf}
+use Rattle.play.proofs.Stepping.{Leading, leading-first, leading-next, leading-ends, leading-none}
+use Rattle.play.proofs.reading.leading.Statement.{statement}
+use Rattle.play.proofs.reading.leading.Tie as tie
+
+abbrev Inv-loop : tie.InvT-loop
+Inv-loop log table₀ at₀ n₀ table at n = Leading log (tableOf table) at n
+
+abbrev μ-loop : tie.MeasureT-loop
+μ-loop log table₀ at₀ n₀ table at n = length log - at
+
+none-requires : tie.Need-none-requires Inv-loop μ-loop
+none-requires c κs = search needs
+
+loop-holds : tie.Need-loop-holds Inv-loop μ-loop
+loop-holds c = rw (c .none .ensures) (leading-first _)
+
+line-at-requires : tie.Need-line-at-requires Inv-loop μ-loop
+line-at-requires c κs = search needs
+
+sub-entry-of : tie.Need-sub-entry-of Inv-loop μ-loop
+sub-entry-of c = search needs
+
+part-entry-of-start : tie.Need-part-entry-of-start Inv-loop μ-loop
+part-entry-of-start c = search needs
+
+part-entry-of-end : tie.Need-part-entry-of-end Inv-loop μ-loop
+part-entry-of-end c = search needs
+
+entry-of-requires : tie.Need-entry-of-requires Inv-loop μ-loop
+entry-of-requires c κs = search needs
+
+add-n : tie.Need-add-n Inv-loop μ-loop
+add-n c = search needs
+
+step-of-requires : tie.Need-step-of-requires Inv-loop μ-loop
+step-of-requires c κs = search needs
+
+goes-on-requires : tie.Need-goes-on-requires Inv-loop μ-loop
+goes-on-requires c κs = search needs
+
+lead-of-requires : tie.Need-lead-of-requires Inv-loop μ-loop
+lead-of-requires c κs = search needs
+
+returns : tie.Need-returns Inv-loop μ-loop
+unfolding itemOf
+returns c = rw (c .lead-of .ensures) (leading-ends (c .before .before .before .before .before .before .before .before .loop .inv) (c .before .before .before .before .before .before .line-at .ensures) _ (ap (λ (e : Entry). itemIn (e .line) (e .limits)) (c .before .before .before .before .entry-of .ensures)) _ (c .before .before .before .step-of .ensures) (sym (c .before .before .goes-on .ensures) ∙ not-true _ (c .before .if1 .taken)))
+
+table-after-requires : tie.Need-table-after-requires Inv-loop μ-loop
+table-after-requires c κs = search needs
+
+loop-less : tie.Need-loop-less Inv-loop μ-loop
+loop-less c = search needs
+
+loop-again : tie.Need-loop-again Inv-loop μ-loop
+unfolding itemOf
+loop-again c = rw (c .table-after .ensures) (leading-next (c .before .before .before .before .before .before .before .before .loop .inv) (c .before .before .before .before .before .before .line-at .ensures) _ (ap (λ (e : Entry). itemIn (e .line) (e .limits)) (c .before .before .before .before .entry-of .ensures)) _ (c .before .before .before .step-of .ensures) (sym (c .before .before .goes-on .ensures) ∙ not-false _ (c .before .if1 .left)))
+
+returns-2 : tie.Need-returns-2 Inv-loop μ-loop
+returns-2 c = leading-none (c .before .loop .inv) (omega arith)
+
+pub leading-spec : {M : Type 1} → statement M
+leading-spec =
+    tie.close
+    (tie.spec
+    Inv-loop
+    μ-loop
+    none-requires
+    loop-holds
+    line-at-requires
+    sub-entry-of
+    part-entry-of-start
+    part-entry-of-end
+    entry-of-requires
+    add-n
+    step-of-requires
+    goes-on-requires
+    lead-of-requires
+    returns
+    table-after-requires
+    loop-less
+    loop-again
+    returns-2)

@@ -1,0 +1,28 @@
+-- `reading::limit_at`: by cases.
+use mathlib.Core.Path.{sym, ap, _∙_}
+use mathlib.Core.List.{List}
+use Prim.Native.Nat.{ℕ}
+use Rattle.rules.specs.Limits.{loadAnswer}
+use Rattle.play.proofs.Stepping.{own-limits, built-in}
+use borrow.Author.Needs.{needs}
+use Rattle.play.proofs.reading.limit_at.Statement.{statement}
+use Rattle.play.proofs.reading.limit_at.Tie as tie
+
+slice-aggregate-load : tie.Need-slice-aggregate-load
+slice-aggregate-load c = search needs
+
+load-requires : tie.Need-load-requires
+load-requires c κs = search needs
+
+returns : tie.Need-returns
+returns c = c .load .ensures ∙ ap (λ (t : List ℕ). loadAnswer t ((c .before .before .before .before) .args .kind)) (built-in _ _ (c .before .before .if1 .taken))
+
+load-from-requires : tie.Need-load-from-requires
+load-from-requires c κs = search needs
+
+returns-2 : tie.Need-returns-2
+returns-2 c = c .load-from .ensures ∙ ap (λ (t : List ℕ). loadAnswer t ((c .before .before .before) .args .kind)) (sym (own-limits _ _ (search needs) (c .before .if1 .left)))
+
+pub limit-at-spec : {M : Type 1} → statement M
+limit-at-spec =
+    tie.close (tie.spec slice-aggregate-load load-requires returns load-from-requires returns-2)

@@ -1,0 +1,41 @@
+-- `reading::opening_step`: by cases.
+use mathlib.Core.Path.{sym, _∙_}
+use Rattle.play.specs.Inner.Steps.{openingStep}
+use borrow.Author.Needs.{needs}
+use Rattle.play.proofs.reading.opening_step.Statement.{statement}
+use Rattle.play.proofs.reading.opening_step.Tie as tie
+
+limit-at-requires : tie.Need-limit-at-requires
+limit-at-requires c κs = search needs
+
+enum-known-loaded : tie.Need-enum-known-loaded
+enum-known-loaded c = search needs
+
+head-with-requires : tie.Need-head-with-requires
+head-with-requires c κs = search needs
+
+head-step-requires : tie.Need-head-step-requires
+head-step-requires c κs = search needs
+
+enum-known-loaded-2 : tie.Need-enum-known-loaded-2
+enum-known-loaded-2 c = search needs
+
+returns : tie.Need-returns
+unfolding openingStep
+returns c = rw (sym (c .before .before .before .before .before .limit-at .ensures) ∙ c .before .before .before .loaded .given .1) (rw (c .before .head-with .ensures) at (c .head-step .ensures))
+
+returns-2 : tie.Need-returns-2
+unfolding openingStep
+returns-2 c = rw (sym (c .before .before .before .limit-at .ensures) ∙ c .before .loaded2 .given .1)
+
+pub opening-step-spec : {M : Type 1} → statement M
+opening-step-spec =
+    tie.close
+    (tie.spec
+    limit-at-requires
+    enum-known-loaded
+    head-with-requires
+    head-step-requires
+    enum-known-loaded-2
+    returns
+    returns-2)

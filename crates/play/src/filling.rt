@@ -1,0 +1,142 @@
+// The lines of a log made on the ten lists, each given them as the line before left them.
+use book::Filed;
+use book::Opened;
+use book::calls;
+use log::line::Line;
+use log::lines;
+use rules::Head;
+ghost use mathlib.Core.Bool.{true};
+ghost use mathlib.Core.Path.{_≡_};
+ghost use lib.ListN.{length};
+ghost use Rattle.rules.specs.Opening.{headOk};
+ghost use Rattle.book.specs.Lent.{lentBook};
+ghost use Rattle.book.specs.Answers.{answerCode, filedMeant, openedMeant};
+ghost use Rattle.book.specs.Cells.{bookFits};
+ghost use Rattle.book.specs.Filling.{afterAll};
+ghost use Rattle.log.specs.declared.limits.Limits.{Limits as limitsType};
+ghost use Rattle.log.specs.Log.{itemIn, items, lines as linesOf};
+ghost use Rattle.play.specs.Playing.{codeOf, afterItem, codes, callsOf};
+ghost use Rattle.play.specs.Inner.Filling.{isDone};
+
+pub fn is_done(opened: Opened) -> bool
+    ensures { λ r. ⌜ r ≡ isDone (openedMeant opened) ⌝ }
+{
+    match opened {
+        Opened::Done => true,
+        Opened::Refused(_) => false,
+    }
+}
+
+fn code_of(filed: Filed) -> u8
+    ensures { λ r. ⌜ r ≡ answerCode (filedMeant filed) ⌝ }
+{
+    match filed {
+        Filed::Stored => 0,
+        Filed::Late => 100,
+        Filed::Repeat => 101,
+        Filed::Refused(n) => n,
+    }
+}
+
+// One line, whatever table it has.
+fn fill(
+    head: Head,
+    values: &mut [u32],
+    versions: &mut [u32],
+    statuses: &mut [u8],
+    holidays: &mut [u8],
+    readings: &mut [u32],
+    reads: &mut [u32],
+    agreed: &mut [u32],
+    agreed_versions: &mut [u32],
+    counts: &mut [u16],
+    widths: &mut [u16],
+    line: Line,
+) -> u8
+    requires { ⌜
+        (headOk head ≡ true)
+        × (bookFits head (lentBook values versions statuses holidays readings reads agreed «agreed_versions» counts widths) ≡ true)
+        ⌝ }
+    ensures { λ r. ⌜
+        (let book =
+        lentBook (values .entry) (versions .entry) (statuses .entry) (holidays .entry) (readings .entry) (reads .entry) (agreed .entry) («agreed_versions» .entry) (counts .entry) (widths .entry) in
+        (limits : limitsType) → (r ≡ codeOf head book (itemIn line limits))
+        × (lentBook (values .exit) (versions .exit) (statuses .exit) (holidays .exit) (readings .exit) (reads .exit) (agreed .exit) («agreed_versions» .exit) (counts .exit) (widths .exit)
+        ≡ afterItem head book (itemIn line limits)))
+        ⌝ }
+{
+    match line {
+        Line::Passed => 103,
+        Line::Table => 103,
+        Line::Open(_) => 102,
+        Line::Fill(call) => code_of(calls::fill(
+            head,
+            values,
+            versions,
+            statuses,
+            holidays,
+            readings,
+            reads,
+            agreed,
+            agreed_versions,
+            counts,
+            widths,
+            call,
+        )),
+        Line::NoCall => 103,
+    }
+}
+
+// Every line in order, a byte of `answers` for each.
+pub fn fill_all(
+    log: &[u8],
+    head: Head,
+    values: &mut [u32],
+    versions: &mut [u32],
+    statuses: &mut [u8],
+    holidays: &mut [u8],
+    readings: &mut [u32],
+    reads: &mut [u32],
+    agreed: &mut [u32],
+    agreed_versions: &mut [u32],
+    counts: &mut [u16],
+    widths: &mut [u16],
+    answers: &mut [u8],
+)
+    requires { ⌜
+        (headOk head ≡ true)
+        × (bookFits head (lentBook values versions statuses holidays readings reads agreed «agreed_versions» counts widths) ≡ true)
+        × (length (now answers) ≡ length (linesOf (now log)))
+        ⌝ }
+    ensures { λ _. ⌜
+        (let book =
+        lentBook (values .entry) (versions .entry) (statuses .entry) (holidays .entry) (readings .entry) (reads .entry) (agreed .entry) («agreed_versions» .entry) (counts .entry) (widths .entry) in
+        (now (answers .exit) ≡ codes head book (items (now (log .entry))))
+        × (lentBook (values .exit) (versions .exit) (statuses .exit) (holidays .exit) (readings .exit) (reads .exit) (agreed .exit) («agreed_versions» .exit) (counts .exit) (widths .exit)
+        ≡ afterAll head book (callsOf (now (log .entry)))))
+        ⌝ }
+{
+    let mut at = 0;
+    let mut i: usize = 0;
+    while at < log.len() {
+        let found = lines::line_from(log, at);
+        let line = found.line;
+        let code = fill(
+            head,
+            values,
+            versions,
+            statuses,
+            holidays,
+            readings,
+            reads,
+            agreed,
+            agreed_versions,
+            counts,
+            widths,
+            line,
+        );
+        answers[i] = code;
+        i += 1;
+        at = found.next;
+    }
+}

@@ -1,0 +1,196 @@
+// What the bytes of a log are: its lines up to the opening, and those after it.
+use crate::Checked;
+use log::limits;
+use log::limits::Limits;
+use log::line;
+use log::line::Entry;
+use log::line::Line;
+use log::line::Opening;
+use log::lines;
+use rules::Head;
+use rules::limits as demand;
+use rules::limits::Loaded;
+use rules::opening;
+ghost use mathlib.Core.Path.{_≡_};
+ghost use Prim.Native.Nat.{suc};
+ghost use lib.ListN.{drop};
+ghost use Rattle.rules.specs.Limits.{loadAnswer};
+ghost use Rattle.log.specs.Log.{tableOf, itemIn, items, readOpen, orBuiltIn};
+ghost use Rattle.log.specs.Log.Item.{table as tableItem};
+ghost use Rattle.play.specs.Playing.{checkedOf};
+ghost use Rattle.play.specs.Inner.Steps.{headStep, openingStep, stepOf, goesOn, tableAfter, leadOf, isOutside, callsAt, Reached, LeadMeant};
+
+// What a line before the opening comes to.
+pub enum Step {
+    On,
+    Opened(Head),
+    NotACall,
+    Refused(u8),
+}
+
+// The opening's head, the place after its line and that line's number; or what the log is without one.
+pub enum Lead {
+    Opened(Head, usize, usize),
+    Is(Checked),
+}
+
+// The limit at a place of the table, which has none in front of the first.
+fn limit_at(table: Limits, kind: u32) -> Loaded
+    ensures { λ r. ⌜ r ≡ loadAnswer (orBuiltIn (tableOf table)) kind ⌝ }
+{
+    if table.count == 0 {
+        let built_in = [40000u32, 70000];
+        return demand::load(&built_in, kind);
+    }
+    limits::load_from(table, kind)
+}
+
+fn head_step(head: Head) -> Step
+    ensures { λ r. ⌜ r ≡ headStep head ⌝ }
+{
+    if opening::head_ok(head) {
+        return Step::Opened(head);
+    }
+    Step::Refused(1)
+}
+
+fn opening_step(table: Limits, opening: Opening) -> Step
+    ensures { λ r. ⌜ r ≡ openingStep opening (loadAnswer (orBuiltIn (tableOf table)) (opening .kind)) ⌝ }
+{
+    let loaded = limit_at(table, opening.kind);
+    match loaded {
+        Loaded::Limit(w) => head_step(line::head_with(opening, w)),
+        Loaded::Refused(k) => Step::Refused(k),
+    }
+}
+
+fn table_step(table: Limits, limits: Limits) -> Step
+    ensures { λ r. ⌜ r ≡ stepOf (tableOf table) (tableItem (tableOf limits)) ⌝ }
+{
+    if table.count != 0 {
+        return Step::NotACall;
+    }
+    let loaded = limits::load_from(limits, 1);
+    match loaded {
+        Loaded::Limit(_) => Step::On,
+        Loaded::Refused(k) => Step::Refused(k),
+    }
+}
+
+fn step_of(table: Limits, entry: Entry) -> Step
+    ensures { λ r. ⌜ r ≡ stepOf (tableOf table) (itemIn (entry .line) (entry .limits)) ⌝ }
+{
+    let line = entry.line;
+    match line {
+        Line::Passed => Step::On,
+        Line::Table => {
+            let limits = entry.limits;
+            table_step(table, limits)
+        }
+        Line::Open(opening) => opening_step(table, opening),
+        Line::Fill(_) => Step::NotACall,
+        Line::NoCall => Step::NotACall,
+    }
+}
+
+fn goes_on(step: Step) -> bool
+    ensures { λ r. ⌜ r ≡ goesOn step ⌝ }
+{
+    match step {
+        Step::On => true,
+        Step::Opened(_) => false,
+        Step::NotACall => false,
+        Step::Refused(_) => false,
+    }
+}
+
+fn table_after(table: Limits, entry: Entry) -> Limits
+    ensures { λ r. ⌜ tableOf r ≡ tableAfter (tableOf table) (itemIn (entry .line) (entry .limits)) ⌝ }
+{
+    let line = entry.line;
+    match line {
+        Line::Passed => table,
+        Line::Table => entry.limits,
+        Line::Open(_) => table,
+        Line::Fill(_) => table,
+        Line::NoCall => table,
+    }
+}
+
+fn lead_of(step: Step, at: usize, n: usize) -> Lead
+    ensures { λ r. ⌜ r ≡ leadOf step at n ⌝ }
+{
+    match step {
+        Step::On => Lead::Is(Checked::NoOpening),
+        Step::Opened(head) => Lead::Opened(head, at, n),
+        Step::NotACall => Lead::Is(Checked::NotACall(n)),
+        Step::Refused(k) => Lead::Is(Checked::Refused(n, k)),
+    }
+}
+
+// The lines up to the opening: those that are passed over, and one table.
+pub fn leading(log: &[u8]) -> Lead
+    ensures { λ r. ⌜ LeadMeant (now (log .entry)) r ⌝ }
+{
+    let mut table = limits::none();
+    let mut at = 0;
+    let mut n = 0;
+    while at < log.len() {
+        let cut = lines::line_at(log, at);
+        let end = cut.end;
+        let entry = line::entry_of(&log[at..end]);
+        at = cut.next;
+        n += 1;
+        let step = step_of(table, entry);
+        if !goes_on(step) {
+            return lead_of(step, at, n);
+        }
+        table = table_after(table, entry);
+    }
+    Lead::Is(Checked::NoOpening)
+}
+
+fn is_outside(line: Line) -> bool
+    ensures { λ r. ⌜ r ≡ isOutside line ⌝ }
+{
+    match line {
+        Line::Passed => false,
+        Line::Table => true,
+        Line::Open(_) => true,
+        Line::Fill(_) => false,
+        Line::NoCall => true,
+    }
+}
+
+fn calls_at(line: Line) -> usize
+    ensures { λ r. ⌜ r ≡ callsAt line ⌝ }
+{
+    match line {
+        Line::Passed => 0,
+        Line::Table => 0,
+        Line::Open(_) => 0,
+        Line::Fill(_) => 1,
+        Line::NoCall => 0,
+    }
+}
+
+// The lines after the opening, which begin at `from` behind `before` lines.
+pub fn following(log: &[u8], head: Head, from: usize, before: usize) -> Checked
+    requires { ⌜ Reached (now log) from before 0 ⌝ }
+    ensures { λ r. ⌜ r ≡ checkedOf (now (log .entry)) (readOpen head (suc before) (items (drop from (now (log .entry))))) ⌝ }
+{
+    let mut at = from;
+    let mut n = before;
+    let mut calls = 0;
+    while at < log.len() {
+        let found = lines::line_from(log, at);
+        let line = found.line;
+        at = found.next;
+        n += 1;
+        if is_outside(line) {
+            return Checked::NotACall(n);
+        }
+        calls += calls_at(line);
+    }
+    Checked::Log(head, n, calls)
+}
