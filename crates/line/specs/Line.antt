@@ -1,15 +1,18 @@
 -- The line that the program writes (01, The published file: 'A program reads a file').
 use mathlib.Core.Bool.{cond}
 use mathlib.Core.List.{List, [], _∷_, _++_}
-use Prim.Native.Nat.{ℕ, zero, suc, _+_, _/_, _%_}
+use mathlib.Core.Path.{_≡_}
+use Prim.Native.Nat.{ℕ, zero, suc, _+_, _/_, _%_, _≤_}
 use lib.Dec.{leb, ltb}
-use lib.ListN.{length}
+use lib.ListN.{length, take, drop}
 use Rattle.calendar.specs.declared.Date.{Date}
 use Rattle.calendar.specs.Calendar.{dateOf}
 use Rattle.file.specs.declared.Figures.{Figures}
 use Rattle.file.specs.declared.Verdict.{Verdict}
 use Rattle.file.specs.declared.Verdict.the-variants.{Accepted, Refused}
 use Rattle.file.specs.Reader.{readFile}
+use Rattle.line.specs.declared.Lined.{Lined}
+use Rattle.line.specs.declared.Lined.the-variants as lined
 
 -- the last k decimal digits of n in ASCII, highest first
 unfoldable pub digits : ℕ → ℕ → List ℕ
@@ -59,6 +62,32 @@ answerText (Refused number) = refused ++ field number
 unfoldable pub line : List ℕ → List ℕ
 line bs = cond (leb (length bs) 65536) (answerText (readFile bs)) tooLong ++ newline
 
--- a day, how many of its slots have come, and n (02, W6); the last day is 36,524
-unfoldable pub dayLine : ℕ → ℕ → ℕ → List ℕ
-dayLine day count slots = cond (leb day 36524) (dateText (dateOf day) ++ field count ++ field slots ++ newline) []
+-- what a call leaves in a buffer: a text in the first r bytes; the bytes after it stay
+pub record AtStart (before after : List ℕ) (r : ℕ) (text : List ℕ) : Type 0 where
+  pub inside : r ≤ length after
+  pub has : take r after ≡ text
+  pub stay : drop r after ≡ drop r before
+
+-- the line of a file of any length, without a line end: its length, and 7 for a shorter buffer
+unfoldable pub figuresAnswer : Figures → List ℕ → Lined
+figuresAnswer g out =
+    cond (ltb (length out) (length (figuresText g))) (lined.Refused 7) (lined.Length (length (figuresText g)))
+
+unfoldable pub figuresAfter : Figures → List ℕ → List ℕ
+figuresAfter g out =
+    cond (ltb (length out) (length (figuresText g))) out (figuresText g ++ drop (length (figuresText g)) out)
+
+-- the reader's refusals go first, and a refusal changes no byte
+abbrev pub linedAs : Verdict → List ℕ → Lined
+linedAs (Accepted g) out = figuresAnswer g out
+linedAs (Refused number) out = lined.Refused number
+
+abbrev pub leftAs : Verdict → List ℕ → List ℕ
+leftAs (Accepted g) out = figuresAfter g out
+leftAs (Refused number) out = out
+
+unfoldable pub lineAnswer : List ℕ → List ℕ → Lined
+lineAnswer bs out = linedAs (readFile bs) out
+
+unfoldable pub lineAfter : List ℕ → List ℕ → List ℕ
+lineAfter bs out = leftAs (readFile bs) out

@@ -5,10 +5,16 @@ use file::Verdict;
 ghost use mathlib.Core.Path.{_≡_};
 ghost use mathlib.Core.List.{_++_};
 ghost use Prim.Native.Nat.{_+_, _<_, _≤_};
-ghost use lib.ListN.{length, take};
+ghost use lib.ListN.{length};
 ghost use Rattle.calendar.specs.Calendar.{dateOf};
-ghost use Rattle.line.specs.Line.{digits, places as Line·places, dateText, field, figuresText, refused, newline, line as Line·line, dayLine};
+ghost use Rattle.line.specs.Line.{digits, places as Line·places, dateText, field, figuresText, refused, newline, line as Line·line, AtStart, figuresAnswer, figuresAfter, lineAnswer, lineAfter};
 ghost use Rattle.line.specs.Inner.Adding.{Added};
+
+// What putting the line of a file into a buffer of any length answers.
+pub enum Lined {
+    Length(usize),
+    Refused(u8),
+}
 
 // Copies `text` to `at` and on, and answers the place after it.
 fn put_text(out: &mut [u8], at: usize, text: &[u8]) -> usize
@@ -65,7 +71,7 @@ fn put_field(out: &mut [u8], at: usize, n: u64) -> usize
 
 // Puts a space and `n` at the start of `out`, and answers their length.
 pub fn number(n: u64, out: &mut [u8; 21]) -> usize
-    ensures { λ r. ⌜ (take r (now (out .exit)) ≡ field n) × (r ≤ length (now (out .exit))) ⌝ }
+    ensures { λ r. ⌜ AtStart (now (out .entry)) (now (out .exit)) r (field n) ⌝ }
 {
     put_field(out, 0, n)
 }
@@ -102,15 +108,23 @@ fn put_counts(out: &mut [u8], at: usize, g: Figures) -> usize
     put_field(out, substituted, g.none as u64)
 }
 
+// A file's figures, at the start.
+fn put_line(out: &mut [u8], g: Figures) -> usize
+    requires { ⌜ (160 ≤ length (now out)) × (g .first < 36525) ⌝ }
+    ensures { λ r. ⌜ Added (now (out .entry)) 0 (now (out .exit)) r (figuresText g) × (r ≤ 136) ⌝ }
+{
+    let head = put_head(out, g);
+    let counts = put_counts(out, head, g);
+    put_field(out, counts, g.sum)
+}
+
 // The line of a file's figures.
 fn put_figures(out: &mut [u8], g: Figures) -> usize
     requires { ⌜ (160 ≤ length (now out)) × (g .first < 36525) ⌝ }
     ensures { λ r. ⌜ Added (now (out .entry)) 0 (now (out .exit)) r (figuresText g ++ newline) × (r ≤ 160) ⌝ }
 {
-    let head = put_head(out, g);
-    let counts = put_counts(out, head, g);
-    let sum = put_field(out, counts, g.sum);
-    put_text(out, sum, b"\n")
+    let end = put_line(out, g);
+    put_text(out, end, b"\n")
 }
 
 // The line of a refused file.
@@ -125,7 +139,7 @@ fn put_refusal(out: &mut [u8], number: u8) -> usize
 
 // Puts the line of `bytes` at the start of `out`, and answers its length.
 pub fn line(bytes: &[u8], out: &mut [u8; 160]) -> usize
-    ensures { λ r. ⌜ (take r (now (out .exit)) ≡ Line·line (now (bytes .entry))) × (r ≤ length (now (out .exit))) ⌝ }
+    ensures { λ r. ⌜ AtStart (now (out .entry)) (now (out .exit)) r (Line·line (now (bytes .entry))) ⌝ }
 {
     if 65536 < bytes.len() {
         return put_text(out, 0, b"too long\n");
@@ -136,15 +150,33 @@ pub fn line(bytes: &[u8], out: &mut [u8; 160]) -> usize
     }
 }
 
-// Puts the line of a day at the start of `out`, and answers its length.
-pub fn day_line(day: u32, count: u64, slots: u64, out: &mut [u8; 160]) -> usize
-    ensures { λ r. ⌜ (take r (now (out .exit)) ≡ dayLine day count slots) × (r ≤ length (now (out .exit))) ⌝ }
+// The figures of an accepted file, copied where they have room.
+fn copy_line(out: &mut [u8], g: Figures) -> Lined
+    requires { ⌜ g .first < 36525 ⌝ }
+    ensures { λ r. ⌜
+        (r ≡ figuresAnswer g (now (out .entry)))
+        × (now (out .exit) ≡ figuresAfter g (now (out .entry)))
+        ⌝ }
 {
-    if 36524 < day {
-        return 0;
+    let mut text = [0u8; 160];
+    let n = put_line(&mut text, g);
+    if out.len() < n {
+        return Lined::Refused(7);
     }
-    let date = put_date(out, calendar::date_of(day));
-    let come = put_field(out, date, count);
-    let all = put_field(out, come, slots);
-    put_text(out, all, b"\n")
+    put_text(out, 0, &text[..n]);
+    Lined::Length(n)
+}
+
+// Puts the line of a file of any length, without a line end, at the start of `out`.
+pub fn file_line(bytes: &[u8], out: &mut [u8]) -> Lined
+    ensures { λ r. ⌜
+        (r ≡ lineAnswer (now (bytes .entry)) (now (out .entry)))
+        × (now (out .exit) ≡ lineAfter (now (bytes .entry)) (now (out .entry)))
+        ⌝ }
+{
+    let verdict = file::read(bytes);
+    match verdict {
+        Verdict::Accepted(g) => copy_line(out, g),
+        Verdict::Refused(number) => Lined::Refused(number),
+    }
 }

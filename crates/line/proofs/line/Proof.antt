@@ -21,7 +21,11 @@ returns : tie.Need-returns
 unfolding line
 returns c =
     let long : 65536 < length (c .before .before .before .before .before .args .bytes .now) = omega (arith, c .before .before .before .if1 .taken) in
-    (c .put-text .ensures .has ∙ rw (lt-leb _ _ long), omega (arith, c .put-text .ensures .long, c .put-text .ensures .end))
+    record {
+      inside = omega (arith, c .put-text .ensures .long, c .put-text .ensures .end);
+      has = c .put-text .ensures .has ∙ rw (lt-leb _ _ long);
+      stay = c .put-text .ensures .stay;
+    }
 
 read-requires : tie.Need-read-requires
 read-requires c κs = search needs
@@ -43,14 +47,22 @@ unfolding line answerText
 returns-2 c =
     let short : length (c .before .before .before .before .before .before .before .before .args .bytes .now) ≤ 65536 = omega (arith, c .before .before .before .before .before .before .if1 .left) in
     let is = sym (c .before .before .before .before .before .read .ensures) ∙ c .before .before .before .g .given .1 in
-    (c .put-figures .ensures .0 .has ∙ sym (rw (le-leb _ _ short) (ap (λ v. answerText v ++ newline) is)), omega (arith, c .put-figures .ensures .0 .long, c .put-figures .ensures .1))
+    record {
+      inside = omega (arith, c .put-figures .ensures .0 .long, c .put-figures .ensures .1);
+      has = c .put-figures .ensures .0 .has ∙ sym (rw (le-leb _ _ short) (ap (λ v. answerText v ++ newline) is));
+      stay = c .put-figures .ensures .0 .stay;
+    }
 
 returns-3 : tie.Need-returns-3
 unfolding line answerText
 returns-3 c =
     let short : length (c .before .before .before .before .before .before .before .before .args .bytes .now) ≤ 65536 = omega (arith, c .before .before .before .before .before .before .if1 .left) in
     let is = sym (c .before .before .before .before .before .read .ensures) ∙ c .before .before .before .number .given .1 in
-    (c .put-refusal .ensures .0 .has ∙ sym (rw (le-leb _ _ short) (ap (λ v. answerText v ++ newline) is)), omega (arith, c .put-refusal .ensures .0 .long, c .put-refusal .ensures .1))
+    record {
+      inside = omega (arith, c .put-refusal .ensures .0 .long, c .put-refusal .ensures .1);
+      has = c .put-refusal .ensures .0 .has ∙ sym (rw (le-leb _ _ short) (ap (λ v. answerText v ++ newline) is));
+      stay = c .put-refusal .ensures .0 .stay;
+    }
 
 pub line-spec : {M : Type 1} → statement M
 line-spec =

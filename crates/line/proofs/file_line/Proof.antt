@@ -1,0 +1,46 @@
+-- `line::file_line`: the line of an accepted file, or the reader's refusal.
+use mathlib.Core.Path.{refl, sym, _∙_}
+use Rattle.file.proofs.Answers.{first-lt}
+use Rattle.line.specs.Line.{lineAnswer, lineAfter}
+use borrow.Author.Needs.{needs}
+use Rattle.line.proofs.file_line.Statement.{statement}
+use Rattle.line.proofs.file_line.Tie as tie
+
+read-requires : tie.Need-read-requires
+read-requires c κs = search needs
+
+enum-known-verdict : tie.Need-enum-known-verdict
+enum-known-verdict c = search needs
+
+copy-line-requires : tie.Need-copy-line-requires
+copy-line-requires c κs =
+    first-lt (c .before .before .before .before .before .before .before .args .bytes .now) _ (sym (c .before .before .before .before .read .ensures) ∙ c .before .before .verdict .given .1)
+
+enum-known-verdict-2 : tie.Need-enum-known-verdict-2
+enum-known-verdict-2 c = search needs
+
+same-length : tie.Need-same-length
+same-length c = search needs
+
+returns : tie.Need-returns
+unfolding lineAnswer lineAfter
+returns c =
+    let made = c .before .before in
+    let known = made .before .before .before in
+    rw (sym (known .before .before .read .ensures) ∙ known .verdict .given .1) (made .copy-line .ensures)
+
+returns-2 : tie.Need-returns-2
+unfolding lineAnswer lineAfter
+returns-2 c = rw (sym (c .before .before .before .read .ensures) ∙ c .before .verdict2 .given .1) (refl, refl)
+
+pub file-line-spec : {M : Type 1} → statement M
+file-line-spec =
+    tie.close
+    (tie.spec
+    read-requires
+    enum-known-verdict
+    copy-line-requires
+    enum-known-verdict-2
+    same-length
+    returns
+    returns-2)
