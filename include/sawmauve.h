@@ -1,4 +1,4 @@
-/* The berth meter book for C: the sixteen exports of the crate host.
+/* The berth meter book for C: link libsawmauve.a.
  *
  * A list is a pointer and its number of elements. The lists of one call must not overlap, and no other thread may write
  * them meanwhile: the proofs rest on it. A refused call changes no list.
@@ -16,7 +16,7 @@
  *   10  conflict: equal version, other content
  *   11  a cell or count that no calls could leave
  *   12  agreed value over 99,999,999
- *   13  a table that is not 1 to 24 demand limits, each above the one before, none over 1,000,000
+ *   13  a table that is not 1 to 24 demand limits, the first at least 1, each above the one before, none over 1,000,000
  *   14  identifier that is not ten characters of A to Z without I and O, 0 to 9
  *   15  header text with a comma or a byte outside 0x20 to 0x7E, creation time that is not 14 digits, or method code over 99
  *   16  a half byte above 9
@@ -62,8 +62,8 @@ extern "C" {
 #define SAWMAUVE_LAYOUT 8      /* 3 in every file published now; 1, or 2 where a slot is F, in older ones */
 #define SAWMAUVE_FIGURES 9     /* how many there are */
 
-/* The head, which every call of a book is given: first day, D (1 to 400), L (5, 15 or 30), demand limit in W (1 to 1,000,000), tolerance in
- * Wh. The limit stands where the kind stood: a host that gave 1 or 2 there gives 40,000 or 70,000, or what sawmauve_limit answers. A head
+/* The head, which every call of a book is given: first day (2000-01-01 to 2099-12-31), D (1 to 400, the last day not after 2099-12-31), L (5, 15
+ * or 30), demand limit in W (1 to 1,000,000), tolerance in Wh (0 to 1,000,000). The limit stands where the kind stood: a host that gave 1 or 2 there gives 40,000 or 70,000, or what sawmauve_limit answers. A head
  * that still has 1 or 2 is good, with a limit of 1 or 2 W. */
 #define SAWMAUVE_HEAD \
     uint32_t year, uint32_t month, uint32_t day, uint32_t days, uint32_t interval, uint32_t limit, uint32_t tolerance
@@ -95,7 +95,7 @@ uint32_t sawmauve_deliver(
     uint32_t *versions, size_t versions_len,
     uint8_t *statuses, size_t statuses_len,
     uint16_t *counts, size_t counts_len,
-    uint32_t slot, uint32_t version, uint32_t value, uint8_t status);
+    uint32_t slot, uint32_t version, uint32_t value, uint32_t status);
 
 /* A value agreed with the skipper for a slot, up to 99,999,999 Wh, by the version rule of a delivery. It is published where the
  * slot has a cause. 0, 100 or 101, or 1 to 4, 10, 11, 12. */
@@ -135,7 +135,7 @@ uint64_t sawmauve_publish(
     const uint16_t *widths, size_t widths_len,
     uint8_t *out, size_t out_len);
 
-/* In libquestions.a. Explains a slot: 0 and its fields; or 1, 2, 3 or 11, the lowest that applies and 2 also where fields_len is not 34, and the fields stay
+/* Explains a slot: 0 and its fields; or 1, 2, 3 or 11, the lowest that applies and 2 also where fields_len is not 34, and the fields stay
  * as they were. Places of the fields, each 0 where it does not apply:
  *    0      cause: 0 none, 1 gap, 2 time change, 3 partial, 4 demand
  *    1      rule that applied: 0 delivered, 1 outage zero, 2 linear, 3 same day, 4 none, 5 agreed
@@ -146,7 +146,7 @@ uint64_t sawmauve_publish(
  *   18      1 where the slot lies in a span; 19, 20 its boundaries, 21, 22 its lowest and highest advance, 23 the advance that it is held
  *           to, 24 the sum of its A and F slots, 25 its state
  *   26      1 where the slot is scaled; 27 what is shared out, 28 the sum of the shapes of the span's S slots, 29 that of those before the
- *           slot, 30 that up to and with the slot
+ *           slot, 30 that up to and with the slot; where all these shapes are 0 each counts as 1
  *   31..33  outcome, as published: value, quality letter, method */
 #define SAWMAUVE_FIELDS 34
 uint32_t sawmauve_explain(
@@ -163,6 +163,9 @@ uint32_t sawmauve_explain(
     const uint16_t *widths, size_t widths_len,
     uint32_t slot,
     uint64_t *fields, size_t fields_len);
+
+/* Checks a file: 0, or 8 or 9. */
+uint32_t sawmauve_check(const uint8_t *bytes, size_t bytes_len);
 
 /* Reads a file: 0 and the figures; or 8 or 9, or 2 where figures_len is not 9, and the figures stay as they were. */
 uint32_t sawmauve_read(
@@ -217,7 +220,7 @@ uint64_t sawmauve_nem12(
     const uint8_t *next_read, size_t next_read_len,
     const uint8_t *reason, size_t reason_len,
     const uint8_t *created, size_t created_len,
-    uint8_t two, uint8_t three, uint8_t five, uint8_t eighteen, uint8_t nineteen,
+    uint32_t two, uint32_t three, uint32_t five, uint32_t eighteen, uint32_t nineteen,
     uint8_t *out, size_t out_len);
 
 /* Places of the report that sawmauve_simulate gives. */
@@ -225,7 +228,7 @@ uint64_t sawmauve_nem12(
 #define SAWMAUVE_DIFFERENCE 1 /* the published total minus the true total, in Wh */
 #define SAWMAUVE_REPORT 2     /* how many there are */
 
-/* In libquestions.a. Runs a berth on paper from a seed with `loss` of 1000 slots lost: opens the lists as sawmauve_open does, sends each slot, reads the dial at
+/* Runs a berth on paper from a seed with `loss` of 1000 slots lost: opens the lists as sawmauve_open does, sends each slot, reads the dial at
  * both ends, and writes the file, 6 N + 14 + 32 bytes, into the first bytes of out. 0 and the report; or 1, 2 (also where report_len is not
  * 2), 7, 20, 21, and no list, byte or report is changed. */
 uint32_t sawmauve_simulate(
@@ -243,6 +246,59 @@ uint32_t sawmauve_simulate(
     uint16_t *widths, size_t widths_len,
     uint8_t *out, size_t out_len,
     int64_t *report, size_t report_len);
+
+#define SAWMAUVE_OPENING 102    /* answers of a log: its opening */
+#define SAWMAUVE_NO_CALL 103    /* answers of a log: a line without a call: empty, a comment, limits */
+#define SAWMAUVE_NO_OPENING 104 /* no log: it has no opening */
+#define SAWMAUVE_NOT_A_CALL 105 /* no log: a line of it is no call */
+#define SAWMAUVE_LIMITS 106     /* sawmauve_call: a table of limits */
+#define SAWMAUVE_DELIVERY 110   /* sawmauve_call: slot, version, value, status */
+#define SAWMAUVE_AGREED 111     /* sawmauve_call: slot, version, value */
+#define SAWMAUVE_HOLIDAY 112    /* sawmauve_call: day */
+#define SAWMAUVE_REGISTER 113   /* sawmauve_call: boundary, version, reading, width */
+
+/* What the bytes of a text log are, without playing it: 0 and the figures (year,
+ * month, day, days, interval, limit, tolerance, number of lines, number of filling calls); or 104, 105, or 13 or 1 where its table or
+ * its opening is refused; the first line that is wrong decides. 2 where figures_len is not 9, before these. */
+#define SAWMAUVE_LOG_FIGURES 9
+uint32_t sawmauve_log(const uint8_t *log, size_t log_len, uint64_t *figures, size_t figures_len);
+
+/* The number, from 1, of the line for which sawmauve_log answers 105, 13 or 1; 0 for a log, and where only the opening is missing. */
+uint64_t sawmauve_log_line(const uint8_t *log, size_t log_len);
+
+/* Plays a whole log: opens the lists and makes its calls. 0, and answers has a byte for each line: 0, 100, 101 or the refusal of a
+ * filling call, 102 for the opening, 103 for a line without a call. Or what sawmauve_log answers; then 2 for a list of another length
+ * than the log's head asks (those of sawmauve_open), or answers that are not a byte for each line. */
+uint32_t sawmauve_play(
+    const uint8_t *log, size_t log_len,
+    uint32_t *values, size_t values_len,
+    uint32_t *versions, size_t versions_len,
+    uint8_t *statuses, size_t statuses_len,
+    uint8_t *holidays, size_t holidays_len,
+    uint32_t *readings, size_t readings_len,
+    uint32_t *reads, size_t reads_len,
+    uint32_t *agreed, size_t agreed_len,
+    uint32_t *agreed_versions, size_t agreed_versions_len,
+    uint16_t *counts, size_t counts_len,
+    uint16_t *widths, size_t widths_len,
+    uint8_t *answers, size_t answers_len);
+
+/* One line of a log, without its LF, as numbers: 110 to 113 and the call's numbers in the first fields, in the order of the log, zeros
+ * after them (a register read without a width has width 0); 102 and year, month, day, days, interval, kind, tolerance; 103 (passed
+ * over) or 106 and zeros. 105 where it is no line of a log, or 2 where fields_len is not 7, and the fields stay as they were. */
+#define SAWMAUVE_CALL_FIELDS 7
+uint32_t sawmauve_call(const uint8_t *line, size_t line_len, uint32_t *fields, size_t fields_len);
+
+/* The slot of a book that a date and a minute of the day name; or 100,000,000 plus 1 for a bad head, or plus 3 for a date that is none
+ * or outside the book, or a minute of 1,440 or more. */
+uint32_t sawmauve_slot(SAWMAUVE_HEAD, uint32_t at_year, uint32_t at_month, uint32_t at_day, uint32_t minute);
+
+/* The date of a day number (0 is 2000-01-01) as year * 10,000 + month * 100 + day; or 100,000,000 plus 3 for one over 36,524. */
+uint32_t sawmauve_date(uint32_t day);
+
+/* 01's line of a file of any length, 'first day, D, L, counts of A, S and N, sum', without a line end, into the first bytes of out: its length, which is
+ * above every refusal's number; or 8, 9, then 7. */
+uint64_t sawmauve_line(const uint8_t *file, size_t file_len, uint8_t *out, size_t out_len);
 
 #ifdef __cplusplus
 }

@@ -1,2 +1,4 @@
 pub mod Reporting
 pub mod Explaining
+pub mod Logging
+pub mod Dating

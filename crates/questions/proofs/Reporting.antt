@@ -12,7 +12,6 @@ use Rattle.rules.specs.Opening.{headOk}
 use Rattle.book.specs.Cells.{Book}
 use Rattle.berth.specs.declared.Simulated.{Simulated}
 use Rattle.berth.specs.Run.{simulateAnswer, simulateLists, simulateBytes}
-use Rattle.berth.proofs.Lists.{SameLists, one-by-one}
 use Rattle.questions.specs.Simulating.{hostAnswer, simulatedCode, reportIn, hostLists, hostBytes, hostReport}
 
 -- both places of a report
@@ -33,10 +32,10 @@ pub record Given (h : Head) (seed loss : ℕ) (b : Book) (out : List ℕ) (repor
 pub each : {h : Head} {seed loss : ℕ} {b : Book} {out : List ℕ} {report : List ℤ} {r : ℕ} {b' : Book} {out' : List ℕ} {report' : List ℤ}
     → Given h seed loss b out report r b' out' report'
     → (r ≡ simulatedCode (hostAnswer h seed loss b out report))
-    × SameLists b' (hostLists h seed loss b out report)
+    × (b' ≡ hostLists h seed loss b out report)
     × (out' ≡ hostBytes h seed loss b out report)
     × (report' ≡ hostReport h seed loss b out report)
-each m = (m .code, one-by-one (m .lists), m .bytes, m .told)
+each m = (m .code, m .lists, m .bytes, m .told)
 
 -- g is the head that was made of the numbers
 module _ (g h : Head) (same : g ≡ h) (seed loss : ℕ) (b : Book) (out : List ℕ) (report : List ℤ) where

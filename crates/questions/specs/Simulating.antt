@@ -7,7 +7,7 @@ use lib.IntN.{ℤ, pos}
 use lib.ListN.{length}
 use Rattle.rules.specs.declared.Head.{Head}
 use Rattle.book.specs.Cells.{Book, bookFits}
-use Rattle.replay.specs.Claim.{leftBy, plainFile}
+use Rattle.claim.specs.Claim.{leftBy, plainFile}
 use Rattle.berth.specs.declared.Simulated.{Simulated}
 use Rattle.berth.specs.declared.Simulated.the-variants.{Run, Refused}
 use Rattle.berth.specs.Run.{callsOf, reportOf, runRules, reportUnless, listsWith, bytesWith}

@@ -6,7 +6,7 @@ use rules::Quality;
 use rules::tests::Cause;
 ghost use mathlib.Core.Path.{_≡_};
 ghost use lib.ListN.{length};
-ghost use Rattle.book.specs.Inner.Lent.{lentBook};
+ghost use Rattle.book.specs.Lent.{lentBook};
 ghost use Rattle.file.specs.Layout.{letter};
 ghost use Rattle.host.specs.Codes.{headOf};
 ghost use Rattle.questions.specs.Follow.{causeCode, ruleCode, bit, fieldsOf, explainCode, fieldsAfter};

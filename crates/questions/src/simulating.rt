@@ -3,7 +3,7 @@ use berth::Simulated;
 use rules::opening;
 ghost use mathlib.Core.Path.{_≡_};
 ghost use lib.ListN.{length};
-ghost use Rattle.book.specs.Inner.Lent.{lentBook, HoldBook};
+ghost use Rattle.book.specs.Lent.{lentBook};
 ghost use Rattle.host.specs.Codes.{headOf};
 ghost use Rattle.questions.specs.Simulating.{hostAnswer, simulatedCode, reportIn, hostLists, hostBytes, hostReport};
 
@@ -54,7 +54,8 @@ pub extern "C" fn sawmauve_simulate(
         let given = now (out .entry) in
         let told = now (report .entry) in
         (r ≡ simulatedCode (hostAnswer head seed loss book given told))
-        × HoldBook (values .exit) (versions .exit) (statuses .exit) (holidays .exit) (readings .exit) (reads .exit) (agreed .exit) («agreed_versions» .exit) (counts .exit) (widths .exit) (hostLists head seed loss book given told)
+        × (lentBook (values .exit) (versions .exit) (statuses .exit) (holidays .exit) (readings .exit) (reads .exit) (agreed .exit) («agreed_versions» .exit) (counts .exit) (widths .exit)
+        ≡ hostLists head seed loss book given told)
         × (now (out .exit) ≡ hostBytes head seed loss book given told)
         × (now (report .exit) ≡ hostReport head seed loss book given told))
         ⌝ }

@@ -1,6 +1,6 @@
 -- `sawmauve_explain`: 1, then 2 for the fields, then what explaining answers.
 use mathlib.Core.Path.{_∙_}
-use Rattle.book.specs.Inner.Lent.{lentBook}
+use Rattle.book.specs.Lent.{lentBook}
 use Rattle.host.specs.Codes.{headOf}
 use Rattle.questions.proofs.Explaining.{refused-head, refused-fields, refused-rest, explained}
 use borrow.Author.Needs.{needs}

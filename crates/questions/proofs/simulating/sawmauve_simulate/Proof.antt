@@ -1,7 +1,6 @@
 -- `sawmauve_simulate`: 1 goes before the length of the report, which goes with 2; else the answer of the run as its code.
 use mathlib.Core.Path.{sym, _∙_}
 use borrow.Author.Tests.{not-true, not-false}
-use Rattle.replay.proofs.Claim.{same-lists}
 use Rattle.questions.proofs.Reporting.{each, bad-head, bad-report, run-told}
 use borrow.Author.Needs.{needs}
 use Rattle.questions.proofs.simulating.sawmauve_simulate.Statement.{statement}
@@ -63,9 +62,7 @@ same-length-12 c = search needs
 
 returns-3 : tie.Need-returns-3
 returns-3 c = let e = c .before .before .before .before .before .before .before .before .before .before .before .before .before .before .before .before .before .before .before .before .before .before .before .before .before .simulate .ensures in
-    let l = e .1 in
-    let lists = same-lists (l .0) (l .1) (l .2) (l .3) (l .4) (l .5) (l .6) (l .7) (l .8) (l .9) in
-    each (run-told _ _ (c .before .before .before .before .before .before .before .before .before .before .before .before .before .before .before .before .before .before .before .before .before .before .before .before .before .before .before .before .before .before .before .before .before .before .before .before .before .before .before .before .head-of .ensures) _ _ _ _ _ (c .before .before .before .before .before .before .before .before .before .before .before .before .before .before .before .before .before .before .before .before .before .before .before .before .before .before .before .before .before .before .before .before .before .before .before .before .before .if2 .left) _ (e .0) lists (e .2) (c .before .tell .ensures .0) (c .before .tell .ensures .1))
+    each (run-told _ _ (c .before .before .before .before .before .before .before .before .before .before .before .before .before .before .before .before .before .before .before .before .before .before .before .before .before .before .before .before .before .before .before .before .before .before .before .before .before .before .before .before .head-of .ensures) _ _ _ _ _ (c .before .before .before .before .before .before .before .before .before .before .before .before .before .before .before .before .before .before .before .before .before .before .before .before .before .before .before .before .before .before .before .before .before .before .before .before .before .if2 .left) _ (e .0) (e .1) (e .2) (c .before .tell .ensures .0) (c .before .tell .ensures .1))
 
 pub sawmauve-simulate-spec : {M : Type 1} → statement M
 sawmauve-simulate-spec =

@@ -1,0 +1,24 @@
+-- `logs::sawmauve_call`: 2 for a list of another length; else what checking says, as numbers.
+use Rattle.questions.proofs.Logging.{other-fields, fields-told}
+use borrow.Author.Needs.{needs}
+use Rattle.questions.proofs.logs.sawmauve_call.Statement.{statement}
+use Rattle.questions.proofs.logs.sawmauve_call.Tie as tie
+
+returns : tie.Need-returns
+returns c = other-fields _ _ (c .if1 .taken)
+
+line-of-requires : tie.Need-line-of-requires
+line-of-requires c κs = search needs
+
+tell-line-requires : tie.Need-tell-line-requires
+tell-line-requires c κs = search needs
+
+same-length : tie.Need-same-length
+same-length c = search needs
+
+returns-2 : tie.Need-returns-2
+returns-2 c = fields-told _ _ (c .before .before .before .before .before .if1 .left) _ (c .before .before .before .before .line-of .ensures) (c .before .before .tell-line .ensures)
+
+pub sawmauve-call-spec : {M : Type 1} → statement M
+sawmauve-call-spec =
+    tie.close (tie.spec returns line-of-requires tell-line-requires same-length returns-2)

@@ -1,0 +1,24 @@
+-- `logs::sawmauve_log`: 2 for a list of another length; else what checking says, as numbers.
+use Rattle.questions.proofs.Logging.{other-figures, figures-told}
+use borrow.Author.Needs.{needs}
+use Rattle.questions.proofs.logs.sawmauve_log.Statement.{statement}
+use Rattle.questions.proofs.logs.sawmauve_log.Tie as tie
+
+returns : tie.Need-returns
+returns c = other-figures _ _ (c .if1 .taken)
+
+check-requires : tie.Need-check-requires
+check-requires c κs = search needs
+
+tell-log-requires : tie.Need-tell-log-requires
+tell-log-requires c κs = search needs
+
+same-length : tie.Need-same-length
+same-length c = search needs
+
+returns-2 : tie.Need-returns-2
+returns-2 c = figures-told _ _ (c .before .before .before .before .before .if1 .left) _ (c .before .before .before .before .check .ensures) (c .before .before .tell-log .ensures)
+
+pub sawmauve-log-spec : {M : Type 1} → statement M
+sawmauve-log-spec =
+    tie.close (tie.spec returns check-requires tell-log-requires same-length returns-2)

@@ -1,0 +1,48 @@
+-- `names::sawmauve_slot`: 1 goes before 3.
+use mathlib.Core.Path.{sym, _∙_}
+use borrow.Author.Tests.{not-true, not-false}
+use Rattle.questions.proofs.Dating.{bad-head, bad-date, named-slot}
+use borrow.Author.Needs.{needs}
+use Rattle.questions.proofs.names.sawmauve_slot.Statement.{statement}
+use Rattle.questions.proofs.names.sawmauve_slot.Tie as tie
+
+head-of-requires : tie.Need-head-of-requires
+head-of-requires c κs = search needs
+
+head-ok-requires : tie.Need-head-ok-requires
+head-ok-requires c κs = search needs
+
+returns : tie.Need-returns
+returns c = bad-head _ _ (c .before .before .head-of .ensures) _ _ _ _ (sym (c .before .head-ok .ensures) ∙ not-true _ (c .if1 .taken))
+
+is-date-requires : tie.Need-is-date-requires
+is-date-requires c κs = search needs
+
+returns-2 : tie.Need-returns-2
+returns-2 c = bad-date _ _ (c .before .before .before .before .head-of .ensures) _ _ _ _ (sym (c .before .before .before .head-ok .ensures) ∙ not-false _ (c .before .before .if1 .left)) (sym (c .before .is-date .ensures) ∙ not-true _ (c .if2 .taken))
+
+day-number-requires : tie.Need-day-number-requires
+day-number-requires c κs = sym (c .before .is-date .ensures) ∙ not-false _ (c .if2 .left)
+
+slot-at-requires : tie.Need-slot-at-requires
+slot-at-requires c κs = search needs
+
+named-code-requires : tie.Need-named-code-requires
+named-code-requires c κs = search needs
+
+returns-3 : tie.Need-returns-3
+returns-3 c = named-slot _ _ (c .before .before .before .before .before .before .before .head-of .ensures) _ _ _ _ (sym (c .before .before .before .before .before .before .head-ok .ensures) ∙ not-false _ (c .before .before .before .before .before .if1 .left)) (sym (c .before .before .before .before .is-date .ensures) ∙ not-false _ (c .before .before .before .if2 .left)) _ (c .before .before .day-number .ensures) _ (c .before .slot-at .ensures) _ (c .named-code .ensures)
+
+pub sawmauve-slot-spec : {M : Type 1} → statement M
+sawmauve-slot-spec =
+    tie.close
+    (tie.spec
+    head-of-requires
+    head-ok-requires
+    returns
+    is-date-requires
+    returns-2
+    day-number-requires
+    slot-at-requires
+    named-code-requires
+    returns-3)
