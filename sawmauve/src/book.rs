@@ -1,0 +1,229 @@
+//! A book that owns its ten lists.
+
+use crate::{Error, Explanation, Head, calls};
+
+/// A book: its head and its ten lists, as its calls left them.
+#[derive(Clone, Debug, PartialEq, Eq)]
+pub struct Book {
+    pub(crate) head: Head,
+    pub(crate) values: Vec<u32>,
+    pub(crate) versions: Vec<u32>,
+    pub(crate) statuses: Vec<u8>,
+    pub(crate) holidays: Vec<u8>,
+    pub(crate) readings: Vec<u32>,
+    pub(crate) reads: Vec<u32>,
+    pub(crate) agreed: Vec<u32>,
+    pub(crate) agreed_versions: Vec<u32>,
+    pub(crate) counts: Vec<u16>,
+    pub(crate) widths: Vec<u16>,
+}
+
+/// How a filling call was accepted.
+#[derive(Clone, Copy, Debug, PartialEq, Eq)]
+pub enum Accepted {
+    /// It stands in its cell.
+    Stored,
+    /// A lower version than the cell's: nothing changes.
+    Late,
+    /// An equal version with equal content: nothing changes.
+    Repeat,
+}
+
+/// What stands for a slot: the delivery, and the agreed value; a version is 0 where nothing came.
+#[derive(Clone, Copy, Debug, PartialEq, Eq)]
+#[allow(missing_docs, reason = "they are their names")]
+pub struct Cell {
+    pub version: u32,
+    pub value: u32,
+    pub status: u8,
+    pub agreed_version: u32,
+    pub agreed: u32,
+}
+
+/// The answer that a code stands for.
+pub(crate) fn accepted(code: u32) -> Result<Accepted, Error> {
+    match code {
+        0 => Ok(Accepted::Stored),
+        100 => Ok(Accepted::Late),
+        101 => Ok(Accepted::Repeat),
+        _ => Err(Error::of(code)),
+    }
+}
+
+/// Nothing for 0, else the error.
+pub(crate) fn done(code: u32) -> Result<(), Error> {
+    if code == 0 {
+        Ok(())
+    } else {
+        Err(Error::of(code))
+    }
+}
+
+impl Book {
+    /// Lists of the lengths that a head asks for, all cells 0.
+    pub(crate) fn blank(head: Head) -> Book {
+        let (slots, days) = (head.slot_count(), head.day_count());
+        Book {
+            head,
+            values: vec![0; slots],
+            versions: vec![0; slots],
+            statuses: vec![0; slots],
+            holidays: vec![0; days],
+            readings: vec![0; days + 1],
+            reads: vec![0; days + 1],
+            agreed: vec![0; slots],
+            agreed_versions: vec![0; slots],
+            counts: vec![0; days],
+            widths: vec![0; days + 1],
+        }
+    }
+
+    /// Opens a book.
+    pub fn open(head: Head) -> Result<Book, Error> {
+        let mut book = Book::blank(head);
+        done(calls::open(
+            head,
+            &mut book.values,
+            &mut book.versions,
+            &mut book.statuses,
+            &mut book.holidays,
+            &mut book.readings,
+            &mut book.reads,
+            &mut book.agreed,
+            &mut book.agreed_versions,
+            &mut book.counts,
+            &mut book.widths,
+        ))?;
+        Ok(book)
+    }
+
+    /// Its head.
+    pub fn head(&self) -> Head {
+        self.head
+    }
+
+    /// A delivery for a slot.
+    pub fn deliver(
+        &mut self,
+        slot: u32,
+        version: u32,
+        value: u32,
+        status: u32,
+    ) -> Result<Accepted, Error> {
+        accepted(calls::deliver(
+            self.head,
+            &mut self.values,
+            &mut self.versions,
+            &mut self.statuses,
+            &mut self.counts,
+            slot,
+            version,
+            value,
+            status,
+        ))
+    }
+
+    /// A value agreed with the skipper for a slot.
+    pub fn agree(&mut self, slot: u32, version: u32, value: u32) -> Result<Accepted, Error> {
+        accepted(calls::agree(
+            self.head,
+            &mut self.agreed,
+            &mut self.agreed_versions,
+            slot,
+            version,
+            value,
+        ))
+    }
+
+    /// A holiday.
+    pub fn holiday(&mut self, day: u32) -> Result<Accepted, Error> {
+        accepted(calls::holiday(self.head, &mut self.holidays, day))
+    }
+
+    /// A register read at a boundary.
+    pub fn register(
+        &mut self,
+        boundary: u32,
+        version: u32,
+        reading: u32,
+        width: u32,
+    ) -> Result<Accepted, Error> {
+        accepted(calls::register(
+            self.head,
+            &mut self.readings,
+            &mut self.reads,
+            &mut self.widths,
+            boundary,
+            version,
+            reading,
+            width,
+        ))
+    }
+
+    /// The bytes of its file.
+    pub fn publish(&self) -> Result<Vec<u8>, Error> {
+        let mut out = vec![0; 6 * self.values.len() + 14 * self.counts.len() + 32];
+        let length = calls::publish(
+            self.head,
+            &self.values,
+            &self.versions,
+            &self.statuses,
+            &self.holidays,
+            &self.readings,
+            &self.reads,
+            &self.agreed,
+            &self.agreed_versions,
+            &self.counts,
+            &self.widths,
+            &mut out,
+        );
+        written(length, out)
+    }
+
+    /// How a slot's outcome comes about.
+    pub fn explain(&self, slot: u32) -> Result<Explanation, Error> {
+        let mut fields = [0; 34];
+        done(calls::explain(
+            self.head,
+            &self.values,
+            &self.versions,
+            &self.statuses,
+            &self.holidays,
+            &self.readings,
+            &self.reads,
+            &self.agreed,
+            &self.agreed_versions,
+            &self.counts,
+            &self.widths,
+            slot,
+            &mut fields,
+        ))?;
+        Ok(Explanation::of(&fields))
+    }
+
+    /// How many slots of each day have come.
+    pub fn counts(&self) -> &[u16] {
+        &self.counts
+    }
+
+    /// What stands for a slot.
+    pub fn cell(&self, slot: u32) -> Option<Cell> {
+        let at = slot as usize;
+        Some(Cell {
+            version: *self.versions.get(at)?,
+            value: *self.values.get(at)?,
+            status: *self.statuses.get(at)?,
+            agreed_version: *self.agreed_versions.get(at)?,
+            agreed: *self.agreed.get(at)?,
+        })
+    }
+}
+
+/// The first bytes of a buffer, as many as were written; a number below 32 is a refusal's.
+pub(crate) fn written(length: u64, mut out: Vec<u8>) -> Result<Vec<u8>, Error> {
+    if length < 32 {
+        return Err(Error::of(length));
+    }
+    out.truncate(usize::try_from(length).unwrap_or(usize::MAX));
+    Ok(out)
+}

@@ -1,0 +1,222 @@
+//! A text log: what it is, what its lines say, and what playing it leaves and answers.
+
+use crate::book::{accepted, done};
+use crate::{Accepted, Book, Error, Head, Refusal, calls};
+use std::fmt;
+
+/// The bytes of a log: one opening with a good head, and only calls.
+#[derive(Clone, Copy, Debug)]
+pub struct Log<'a> {
+    bytes: &'a [u8],
+    head: Head,
+    lines: usize,
+    calls: u64,
+}
+
+/// What a line of a log got.
+#[derive(Clone, Copy, Debug, PartialEq, Eq)]
+pub enum Answer {
+    /// A line without a call.
+    Nothing,
+    /// The opening.
+    Done,
+    /// A filling call that was accepted.
+    Accepted(Accepted),
+    /// A filling call that was refused.
+    Refused(Refusal),
+}
+
+/// A log that was played: the book it left and an answer for each line.
+#[derive(Clone, Debug)]
+pub struct Played {
+    /// The book.
+    pub book: Book,
+    answers: Vec<u8>,
+}
+
+/// A line of a log as a call.
+#[derive(Clone, Copy, Debug, PartialEq, Eq)]
+#[allow(missing_docs, reason = "the paper's names")]
+pub enum Call {
+    Nothing,
+    Limits,
+    Opening {
+        head: [u32; 7],
+    },
+    Delivery {
+        slot: u32,
+        version: u32,
+        value: u32,
+        status: u32,
+    },
+    Agreed {
+        slot: u32,
+        version: u32,
+        value: u32,
+    },
+    Holiday {
+        day: u32,
+    },
+    Register {
+        boundary: u32,
+        version: u32,
+        reading: u32,
+        width: u32,
+    },
+}
+
+fn head_of(figures: &[u64; 9]) -> Head {
+    let [year, month, day, days, interval, limit, tolerance, ..] = figures.map(|n| n as u32);
+    Head {
+        year,
+        month,
+        day,
+        days,
+        interval,
+        limit,
+        tolerance,
+    }
+}
+
+impl<'a> Log<'a> {
+    /// The log that these bytes are.
+    pub fn read(bytes: &'a [u8]) -> Result<Log<'a>, Error> {
+        let mut figures = [0; 9];
+        match calls::log(bytes, &mut figures) {
+            0 => {}
+            104 => return Err(Error::NoOpening),
+            105 => return Err(Error::NotACall(calls::log_line(bytes))),
+            code => {
+                let error = Error::of(code);
+                return Err(match error.refusal() {
+                    Some(refusal) => Error::RefusedLine(calls::log_line(bytes), refusal),
+                    None => error,
+                });
+            }
+        }
+        let lines = usize::try_from(figures[7]).map_err(|_| Error::Unknown(figures[7]))?;
+        Ok(Log {
+            bytes,
+            head: head_of(&figures),
+            lines,
+            calls: figures[8],
+        })
+    }
+
+    /// The head that its opening gives.
+    pub fn head(&self) -> Head {
+        self.head
+    }
+
+    /// How many filling calls it has.
+    pub fn call_count(&self) -> u64 {
+        self.calls
+    }
+
+    /// Its lines without their LF.
+    pub fn lines(&self) -> impl Iterator<Item = &'a [u8]> + use<'a> {
+        let parts = self.bytes.split_inclusive(|byte| *byte == b'\n');
+        parts.map(|line| line.strip_suffix(b"\n").unwrap_or(line))
+    }
+
+    /// Plays it from its opening to its end.
+    pub fn play(&self) -> Result<Played, Error> {
+        let mut book = Book::blank(self.head);
+        let mut answers = vec![0; self.lines];
+        done(calls::play(
+            self.bytes,
+            &mut book.values,
+            &mut book.versions,
+            &mut book.statuses,
+            &mut book.holidays,
+            &mut book.readings,
+            &mut book.reads,
+            &mut book.agreed,
+            &mut book.agreed_versions,
+            &mut book.counts,
+            &mut book.widths,
+            &mut answers,
+        ))?;
+        Ok(Played { book, answers })
+    }
+}
+
+impl Played {
+    /// The answer of each line, in order.
+    pub fn answers(&self) -> impl Iterator<Item = Answer> + '_ {
+        self.answers.iter().map(|code| Answer::of(*code))
+    }
+
+    /// How many calls were refused, and how many of these for a conflict (10).
+    pub fn refused(&self) -> (usize, usize) {
+        let refused = self
+            .answers()
+            .filter(|answer| matches!(answer, Answer::Refused(_)))
+            .count();
+        let conflicts = self
+            .answers()
+            .filter(|answer| *answer == Answer::Refused(Refusal::Conflict))
+            .count();
+        (refused, conflicts)
+    }
+}
+
+impl Answer {
+    fn of(code: u8) -> Answer {
+        match code {
+            102 => Answer::Done,
+            103 => Answer::Nothing,
+            _ => match accepted(u32::from(code)) {
+                Ok(accepted) => Answer::Accepted(accepted),
+                Err(error) => error.refusal().map_or(Answer::Nothing, Answer::Refused),
+            },
+        }
+    }
+}
+
+/// done, stored, late, repeat or refused N.
+impl fmt::Display for Answer {
+    fn fmt(&self, f: &mut fmt::Formatter<'_>) -> fmt::Result {
+        match self {
+            Answer::Nothing => Ok(()),
+            Answer::Done => f.write_str("done"),
+            Answer::Accepted(Accepted::Stored) => f.write_str("stored"),
+            Answer::Accepted(Accepted::Late) => f.write_str("late"),
+            Answer::Accepted(Accepted::Repeat) => f.write_str("repeat"),
+            Answer::Refused(refusal) => write!(f, "refused {}", refusal.number()),
+        }
+    }
+}
+
+impl Call {
+    /// What a line, without its LF, says; nothing where it is no line of a log.
+    pub fn read(line: &[u8]) -> Option<Call> {
+        let mut fields = [0; 7];
+        let code = calls::call(line, &mut fields);
+        let [a, b, c, d, ..] = fields;
+        match code {
+            102 => Some(Call::Opening { head: fields }),
+            103 => Some(Call::Nothing),
+            106 => Some(Call::Limits),
+            110 => Some(Call::Delivery {
+                slot: a,
+                version: b,
+                value: c,
+                status: d,
+            }),
+            111 => Some(Call::Agreed {
+                slot: a,
+                version: b,
+                value: c,
+            }),
+            112 => Some(Call::Holiday { day: a }),
+            113 => Some(Call::Register {
+                boundary: a,
+                version: b,
+                reading: c,
+                width: d,
+            }),
+            _ => None,
+        }
+    }
+}

@@ -1,0 +1,80 @@
+//! The fields that an office gives for an export as NEM12.
+
+use crate::book::written;
+use crate::{Error, Refusal, calls};
+
+/// The texts of the records 100 and 200 that a file leaves, the reason code, the creation time, and the codes of the methods.
+#[derive(Clone, Debug, Default, PartialEq, Eq)]
+#[allow(missing_docs, reason = "the header's names")]
+pub struct Fields {
+    pub identifier: Vec<u8>,
+    pub from: Vec<u8>,
+    pub to: Vec<u8>,
+    pub configuration: Vec<u8>,
+    pub register: Vec<u8>,
+    pub suffix: Vec<u8>,
+    pub stream: Vec<u8>,
+    pub serial: Vec<u8>,
+    pub next_read: Vec<u8>,
+    pub reason: Vec<u8>,
+    pub created: Vec<u8>,
+    pub two: u32,
+    pub three: u32,
+    pub five: u32,
+    pub eighteen: u32,
+    pub nineteen: u32,
+}
+
+/// A buffer of zeros, where there is memory for it.
+fn buffer(length: usize) -> Result<Vec<u8>, Error> {
+    let mut out = Vec::new();
+    out.try_reserve_exact(length).map_err(|_| Error::Memory)?;
+    out.resize(length, 0);
+    Ok(out)
+}
+
+impl Fields {
+    /// Bytes that hold most exports: the values, a record 300 a day and the two records in front.
+    fn likely(&self, slots: usize, days: usize) -> usize {
+        let texts =
+            self.from.len() + self.to.len() + self.configuration.len() + self.register.len();
+        let more = self.suffix.len() + self.stream.len() + self.serial.len() + self.next_read.len();
+        16 * slots + days * (64 + self.reason.len()) + texts + more + 256
+    }
+
+    fn put(&self, file: &[u8], out: &mut [u8]) -> u64 {
+        calls::nem12(
+            file,
+            &self.identifier,
+            &self.from,
+            &self.to,
+            &self.configuration,
+            &self.register,
+            &self.suffix,
+            &self.stream,
+            &self.serial,
+            &self.next_read,
+            &self.reason,
+            &self.created,
+            self.two,
+            self.three,
+            self.five,
+            self.eighteen,
+            self.nineteen,
+            out,
+        )
+    }
+
+    /// The export of a file; the buffer is doubled while it is too short.
+    pub(crate) fn export(&self, file: &[u8], slots: usize, days: usize) -> Result<Vec<u8>, Error> {
+        let mut length = self.likely(slots, days);
+        loop {
+            let mut out = buffer(length)?;
+            let answer = self.put(file, &mut out);
+            if answer != u64::from(Refusal::Buffer.number()) {
+                return written(answer, out);
+            }
+            length = length.checked_mul(2).ok_or(Error::Memory)?;
+        }
+    }
+}

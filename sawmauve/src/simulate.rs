@@ -1,0 +1,76 @@
+//! A berth on paper.
+
+use crate::book::done;
+use crate::{Book, Error, File, Head, calls, state_word};
+use std::fmt;
+
+/// What a run came to: the span's state, the published total minus the true one, and the true one, in Wh.
+#[derive(Clone, Copy, Debug, PartialEq, Eq)]
+#[allow(missing_docs, reason = "said above")]
+pub struct Run {
+    pub state: u8,
+    pub difference: i64,
+    pub total: u64,
+}
+
+/// Runs a berth from a seed with `loss` of 1000 slots lost.
+pub fn simulate(head: Head, seed: u32, loss: u32) -> Result<Run, Error> {
+    let mut book = Book::blank(head);
+    let mut out = vec![0; 6 * book.values.len() + 14 + 32];
+    let mut report = [0; 2];
+    done(calls::simulate(
+        head,
+        seed,
+        loss,
+        &mut book.values,
+        &mut book.versions,
+        &mut book.statuses,
+        &mut book.holidays,
+        &mut book.readings,
+        &mut book.reads,
+        &mut book.agreed,
+        &mut book.agreed_versions,
+        &mut book.counts,
+        &mut book.widths,
+        &mut out,
+        &mut report,
+    ))?;
+    let published = File::read(out)?.figures().sum;
+    let [state, difference] = report;
+    Ok(Run {
+        state: u8::try_from(state).unwrap_or(3),
+        difference,
+        total: published.saturating_add_signed(difference.saturating_neg()),
+    })
+}
+
+impl Run {
+    /// The size of the difference in tenths of a percent of the true total, rounded to the nearest.
+    fn tenths(&self) -> u128 {
+        let (size, total) = (
+            u128::from(self.difference.unsigned_abs()),
+            u128::from(self.total),
+        );
+        (2000 * size + total).checked_div(2 * total).unwrap_or(0)
+    }
+}
+
+/// The state, the difference in Wh, and the same in percent of the true total.
+impl fmt::Display for Run {
+    fn fmt(&self, f: &mut fmt::Formatter<'_>) -> fmt::Result {
+        let tenths = self.tenths();
+        let sign = if self.difference < 0 && tenths != 0 {
+            "-"
+        } else {
+            ""
+        };
+        let state = state_word(self.state);
+        write!(
+            f,
+            "{state} {} {sign}{}.{}%",
+            self.difference,
+            tenths / 10,
+            tenths % 10
+        )
+    }
+}
