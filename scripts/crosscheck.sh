@@ -1,32 +1,33 @@
 #!/bin/sh
-# Compares the static libraries with the second build: random books call by call, damaged files, dials, strips, stays, tables of limits, exports, runs of a berth, books before and after one more delivery, ways of single slots, and every date.
-# Arguments, each with a default: seed, number of books, number of damaged files. Where SAWMAUVE_LIB names a folder, the archives in it are compared and none is built.
+# Compares libsawmauve.a with the second build: random books call by call, damaged files, dials, strips, stays, tables of limits, exports,
+# runs of a berth, books before and after one more delivery, ways of single slots, logs, and every date.
+# Arguments, each with a default: seed, number of books, number of damaged files.
+# Where SAWMAUVE_LIB names a folder, the archive in it is compared and none is built.
 set -e
 cd "$(dirname "$0")/.."
 if [ -z "${SAWMAUVE_LIB:-}" ]; then
-    rt staticlib host > /dev/null
-    rt staticlib questions > /dev/null
+    make --quiet build/libsawmauve.a > /dev/null
 fi
-export SAWMAUVE_LIB="${SAWMAUVE_LIB:-$PWD/target/staticlib}"
+# as the Makefile has them, so that nothing is built twice
+export SAWMAUVE_LIB="${SAWMAUVE_LIB:-../build}" SAWMAUVE_KIT="${SAWMAUVE_KIT:-$(rt version)}"
+export CARGO_TARGET_DIR="${CARGO_TARGET_DIR:-$PWD/build/cargo}"
+for package in crosscheck sawmauve; do
+    cargo build --quiet --release --offline --manifest-path "$package/Cargo.toml"
+done
+crosscheck=$CARGO_TARGET_DIR/release/crosscheck
+sawmauve=$CARGO_TARGET_DIR/release/sawmauve
 seed=${1:-1}
-compare() {
-    cargo run --quiet --release --offline --features host \
-        --manifest-path crosscheck/Cargo.toml --bin "$@"
-}
-compare compare -- --seed "$seed" --books "${2:-2000}" --damaged "${3:-20000}"
-compare dials -- --seed "$seed"
-compare strips -- --seed "$seed"
-compare stays -- --seed "$seed"
-compare limits -- --seed "$seed"
-compare nem12 -- --seed "$seed"
-compare simulate -- --seed "$seed"
-compare reach -- --seed "$seed"
-compare explain -- --seed "$seed"
-rt check show publish nem12 > /dev/null
-compare dates -- target/bin/show
+"$crosscheck" compare --seed "$seed" --books "${2:-2000}" --damaged "${3:-20000}"
+for verb in dials strips stays limits nem12 simulate reach explain logs; do
+    "$crosscheck" "$verb" --seed "$seed"
+done
+rt check show > /dev/null
+"$crosscheck" dates target/bin/show
 # the sample month's export, read back by a reader that knows nothing of the writer
 work=$(mktemp -d)
 trap 'rm -rf "$work"' EXIT
-target/bin/publish < examples/month.log > "$work/month.file" 2> /dev/null
-target/bin/nem12 6123456789 FROM TO E1 1 E1 N1 SN1 20240701 79 20240602093000 14 15 7 65 66 < "$work/month.file" > "$work/month.csv"
-compare nem12 -- --export "$work/month.csv" "$work/month.file" 14 15 7 65 66
+"$sawmauve" publish examples/month.log -o "$work/month.file" 2> /dev/null
+"$sawmauve" nem12 "$work/month.file" --nmi 6123456789 --from FROM --to TO --configuration E1 --register 1 --suffix E1 --stream N1 \
+    --serial SN1 --next-read 20240701 --reason 79 --created 20240602093000 \
+    --method-2 14 --method-3 15 --method-5 7 --method-18 65 --method-19 66 > "$work/month.csv"
+"$crosscheck" nem12 --export "$work/month.csv" "$work/month.file" 14 15 7 65 66

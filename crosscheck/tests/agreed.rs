@@ -1,13 +1,13 @@
 //! 02, W1: values agreed with the skipper.
 
-use crosscheck::book::Filed;
-use crosscheck::calls::{List, Lists};
-use crosscheck::contents;
-use crosscheck::damage::{Edit, edited};
-use crosscheck::head::Head;
-use crosscheck::line::line;
-use crosscheck::plain::Plain;
-use crosscheck::reader::{Fault, check, read, tables};
+use crosscheck::compare::damage::{Edit, edited};
+use crosscheck::compare::plain::Plain;
+use crosscheck::second::book::Filed;
+use crosscheck::second::contents;
+use crosscheck::second::head::Head;
+use crosscheck::second::line::line;
+use crosscheck::second::lists::{List, Lists};
+use crosscheck::second::reader::{Fault, check, read, tables};
 
 mod common;
 use common::*;

@@ -1,14 +1,15 @@
 //! Random books with overflow checks on, and 01's meddled builds, which must be found.
 
-use crosscheck::book::Filed;
-use crosscheck::calls::Lists;
-use crosscheck::counts::Counts;
-use crosscheck::head::Head;
-use crosscheck::random;
-use crosscheck::reader::Figures;
-use crosscheck::rules;
-use crosscheck::run::run;
-use crosscheck::side::{Agreement, Answer, Delivery, RegisterRead, Second, Side};
+use crosscheck::census::counts::Counts;
+use crosscheck::compare::random;
+use crosscheck::compare::run::run;
+use crosscheck::compare::side::{Answer, Second, Side};
+use crosscheck::second::book::Filed;
+use crosscheck::second::head::Head;
+use crosscheck::second::lists::Lists;
+use crosscheck::second::lists::{Agreement, Delivery, RegisterRead};
+use crosscheck::second::reader::Figures;
+use crosscheck::second::rules;
 
 #[test]
 fn random_books_agree_with_the_plain_book() {

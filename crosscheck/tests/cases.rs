@@ -1,12 +1,12 @@
 //! 01, Cases.
 
-use crosscheck::book;
-use crosscheck::calls::Lists;
-use crosscheck::contents;
-use crosscheck::head::{Head, day_number};
-use crosscheck::line::line;
-use crosscheck::reader::{self, Figures};
-use crosscheck::rules::{self, Cause};
+use crosscheck::second::book;
+use crosscheck::second::contents;
+use crosscheck::second::head::{Head, day_number};
+use crosscheck::second::line::line;
+use crosscheck::second::lists::Lists;
+use crosscheck::second::reader::{self, Figures};
+use crosscheck::second::rules::{self, Cause};
 
 mod common;
 use common::*;

@@ -1,6 +1,6 @@
 //! 02, W4: month starts from a table; no date answer changes.
 
-use crosscheck::head::{DAYS_BEFORE, Head, LAST_DAY, date, day_number};
+use crosscheck::second::head::{DAYS_BEFORE, Head, LAST_DAY, date, day_number};
 
 mod common;
 use common::*;

@@ -1,6 +1,6 @@
 //! 02, W9: dials in packed decimal.
 
-use crosscheck::dial::{pack, pack_code, unpack, unpack_code};
+use crosscheck::second::dial::{pack, pack_code, unpack, unpack_code};
 
 const MAX: u32 = u32::MAX;
 

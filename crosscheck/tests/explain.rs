@@ -1,11 +1,11 @@
 //! How one slot came to its outcome: figures of 01 and 02, field by field.
 
-use crosscheck::calls::List;
-use crosscheck::explain::{
+use crosscheck::second::explain::{
     DAYS, FIELDS, FILLED, Fields, LINE, NUMBER, OUTCOME, RULE, SCALED, SPAN, VALUES, explain,
     explain_code,
 };
-use crosscheck::head::Head;
+use crosscheck::second::head::Head;
+use crosscheck::second::lists::List;
 
 mod common;
 use common::*;

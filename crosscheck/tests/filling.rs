@@ -1,6 +1,6 @@
 //! 01, Tests of a slot and Filling.
 
-use crosscheck::head::Head;
+use crosscheck::second::head::Head;
 
 mod common;
 use common::*;

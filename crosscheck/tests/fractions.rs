@@ -1,8 +1,8 @@
 //! 02, W7: the dropped fraction.
 
-use crosscheck::head::Head;
-use crosscheck::reader;
-use crosscheck::rules::{Mean, mean};
+use crosscheck::second::head::Head;
+use crosscheck::second::reader;
+use crosscheck::second::rules::{Mean, mean};
 
 mod common;
 use common::*;

@@ -1,9 +1,9 @@
 //! 02, W6: full days on the office screen.
 
-use crosscheck::book::{self, Filed};
-use crosscheck::calls::{List, Lists};
-use crosscheck::head::Head;
-use crosscheck::plain::Plain;
+use crosscheck::compare::plain::Plain;
+use crosscheck::second::book::{self, Filed};
+use crosscheck::second::head::Head;
+use crosscheck::second::lists::{List, Lists};
 
 mod common;
 use common::*;
@@ -49,7 +49,7 @@ fn the_first_stored_delivery_of_a_slot_raises_its_days_count() {
 #[test]
 fn no_other_call_touches_a_count() {
     let mut lists = three_days();
-    lists.counts = vec![5, 6, 7];
+    lists.counts = vec![5, 6, 7].into();
     book::holiday(THREE, &mut lists.holidays, 1).unwrap();
     register(THREE, &mut lists, (1, 1, 5)).unwrap();
     agree(THREE, &mut lists, (50, 1, 5)).unwrap();
@@ -103,7 +103,7 @@ fn publishing_wants_each_count() {
         [0, 0, 0],
     ] {
         let mut lists = test.lists.clone();
-        lists.counts = counts.to_vec();
+        lists.counts = counts[..].into();
         // 11 goes before 7.
         assert_eq!(publish(THREE, &lists, &mut []), Err(11), "{counts:?}");
         assert_eq!(publish(THREE, &lists, &mut out), Err(11), "{counts:?}");

@@ -1,9 +1,9 @@
 //! 02, W5: marinas with their own connections.
 
-use crosscheck::calls::Lists;
-use crosscheck::head::Head;
-use crosscheck::limits::{limit, limit_code};
-use crosscheck::rules::{self, Cause};
+use crosscheck::second::head::Head;
+use crosscheck::second::limits::{limit, limit_code};
+use crosscheck::second::lists::Lists;
+use crosscheck::second::rules::{self, Cause};
 
 mod common;
 use common::*;

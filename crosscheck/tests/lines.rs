@@ -1,7 +1,7 @@
 //! 02, W2: two hours of straight line.
 
-use crosscheck::head::Head;
-use crosscheck::rules::on_line;
+use crosscheck::second::head::Head;
+use crosscheck::second::rules::on_line;
 
 mod common;
 use common::*;

@@ -1,9 +1,9 @@
 //! 02, W8: export to the market's files.
 
-use crosscheck::damage::{Edit, edited};
-use crosscheck::head::Head;
-use crosscheck::market::{Codes, Texts, nem12, nem12_code};
-use crosscheck::market_back::as_in_file;
+use crosscheck::compare::damage::{Edit, edited};
+use crosscheck::second::head::Head;
+use crosscheck::second::market::{Codes, Texts, nem12, nem12_code};
+use crosscheck::tries::nem12::back::as_in_file;
 
 mod common;
 use common::*;

@@ -1,13 +1,15 @@
 //! Builds with a slip in W6's counts, which the random books must find.
 
-use crosscheck::book::Filed;
-use crosscheck::calls::{Act, Book, List, Lists};
-use crosscheck::counts::Counts;
-use crosscheck::head::Head;
-use crosscheck::random;
-use crosscheck::reader::Figures;
-use crosscheck::run::run;
-use crosscheck::side::{Agreement, Answer, Delivery, RegisterRead, Second, Side};
+use crosscheck::census::counts::Counts;
+use crosscheck::compare::calls::{Act, Book};
+use crosscheck::compare::random;
+use crosscheck::compare::run::run;
+use crosscheck::compare::side::{Answer, Second, Side};
+use crosscheck::second::book::Filed;
+use crosscheck::second::head::Head;
+use crosscheck::second::lists::{Agreement, Delivery, RegisterRead};
+use crosscheck::second::lists::{List, Lists};
+use crosscheck::second::reader::Figures;
 
 struct Miscounting(Slip);
 

@@ -1,13 +1,15 @@
 //! Builds with a slip in W7's shapes, which the random books must find.
 
-use crosscheck::calls::{Book, Lists};
-use crosscheck::counts::Counts;
-use crosscheck::head::Head;
-use crosscheck::random;
-use crosscheck::reader::Figures;
-use crosscheck::rules::{self, Filled, Mean, Quality, Slot, Span, State};
-use crosscheck::run::run;
-use crosscheck::side::{Agreement, Answer, Delivery, RegisterRead, Second, Side};
+use crosscheck::census::counts::Counts;
+use crosscheck::compare::calls::Book;
+use crosscheck::compare::random;
+use crosscheck::compare::run::run;
+use crosscheck::compare::side::{Answer, Second, Side};
+use crosscheck::second::head::Head;
+use crosscheck::second::lists::Lists;
+use crosscheck::second::lists::{Agreement, Delivery, RegisterRead};
+use crosscheck::second::reader::Figures;
+use crosscheck::second::rules::{self, Filled, Mean, Quality, Slot, Span, State};
 
 struct Misfitting(Slip);
 

@@ -1,18 +1,20 @@
 //! Builds with a slip in W10's widths, ranges and layouts, which the random books and the
 //! damaged files must find.
 
-use crosscheck::book::{Filed, MOST_WIDTH};
-use crosscheck::calls::{Book, Lists};
-use crosscheck::contents::Contents;
-use crosscheck::counts::Counts;
-use crosscheck::damage::Bases;
-use crosscheck::file::Frame;
-use crosscheck::head::{DIAL, Head};
-use crosscheck::random;
-use crosscheck::reader::Figures;
-use crosscheck::rules::{self, Advances, Filled, Quality, Slot, Span, State};
-use crosscheck::run::{compare_readers, run};
-use crosscheck::side::{Agreement, Answer, Delivery, RegisterRead, Second, Side};
+use crosscheck::census::counts::Counts;
+use crosscheck::compare::calls::Book;
+use crosscheck::compare::damage::Bases;
+use crosscheck::compare::random;
+use crosscheck::compare::run::{compare_readers, run};
+use crosscheck::compare::side::{Answer, Second, Side};
+use crosscheck::second::book::{Filed, MOST_WIDTH};
+use crosscheck::second::contents::Contents;
+use crosscheck::second::file::Frame;
+use crosscheck::second::head::{DIAL, Head};
+use crosscheck::second::lists::Lists;
+use crosscheck::second::lists::{Agreement, Delivery, RegisterRead};
+use crosscheck::second::reader::Figures;
+use crosscheck::second::rules::{self, Advances, Filled, Quality, Slot, Span, State};
 
 struct Misreading(Slip);
 

@@ -1,6 +1,6 @@
 //! The reader of NEM12, on exports written by hand.
 
-use crosscheck::nem12_reader::{Export, read};
+use crosscheck::tries::nem12::reader::{Export, read};
 
 const HEADER: &str = "100,NEM12,200405011135,MDA1,Ret1";
 const METER: &str = "200,VABD000163,E1Q1,1,E1,N1,METSER123,kWh,30,20040601";

@@ -1,10 +1,10 @@
 //! 02, W14: how far one late figure reaches. In each small book one clause's slots move
 //! and no others beside i, so a sentence without that clause is wrong.
 
-use crosscheck::book::Filed;
-use crosscheck::calls::Lists;
-use crosscheck::head::{Head, Shape};
-use crosscheck::reach::{Books, Moved, Sentence, W14, moved};
+use crosscheck::second::book::Filed;
+use crosscheck::second::head::{Head, Shape};
+use crosscheck::second::lists::Lists;
+use crosscheck::second::reach::{Books, Moved, Sentence, W14, moved};
 
 mod common;
 use common::*;

@@ -1,9 +1,9 @@
 //! 01, The published file: the reader accepts every published file and refuses others.
 
-use crosscheck::contents;
-use crosscheck::damage::{Bases, Edit, edited};
-use crosscheck::head::Head;
-use crosscheck::reader::{Fault, check, read, tables};
+use crosscheck::compare::damage::{Bases, Edit, edited};
+use crosscheck::second::contents;
+use crosscheck::second::head::Head;
+use crosscheck::second::reader::{Fault, check, read, tables};
 
 mod common;
 use common::*;

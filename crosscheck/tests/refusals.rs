@@ -1,8 +1,8 @@
 //! 01, Numbers of a refusal: each number, their order, and that nothing changes.
 
-use crosscheck::book::{self, Filed};
-use crosscheck::calls::{List, Lists};
-use crosscheck::head::Head;
+use crosscheck::second::book::{self, Filed};
+use crosscheck::second::head::Head;
+use crosscheck::second::lists::{List, Lists};
 
 mod common;
 use common::*;

@@ -1,9 +1,9 @@
 //! 02, W12: a berth on paper.
 
-use crosscheck::calls::{List, Lists};
-use crosscheck::head::Head;
-use crosscheck::reader::read;
-use crosscheck::simulate::{Report, draw, simulate, simulate_code};
+use crosscheck::second::head::Head;
+use crosscheck::second::lists::{List, Lists};
+use crosscheck::second::reader::read;
+use crosscheck::second::simulate::{Report, draw, simulate, simulate_code};
 
 mod common;
 use common::*;

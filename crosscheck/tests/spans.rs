@@ -1,6 +1,6 @@
 //! 01, Spans.
 
-use crosscheck::head::Head;
+use crosscheck::second::head::Head;
 
 mod common;
 use common::*;

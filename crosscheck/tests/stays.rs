@@ -1,8 +1,8 @@
 //! 02, W11: a season of stays.
 
-use crosscheck::damage::{Edit, edited};
-use crosscheck::head::Head;
-use crosscheck::stays::{stays, stays_code};
+use crosscheck::compare::damage::{Edit, edited};
+use crosscheck::second::head::Head;
+use crosscheck::second::stays::{stays, stays_code};
 
 mod common;
 use common::*;

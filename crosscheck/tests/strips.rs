@@ -1,6 +1,6 @@
 //! 02, W13: storage on the small box.
 
-use crosscheck::strips::{from_strips, from_strips_code, to_strips, to_strips_code};
+use crosscheck::second::strips::{from_strips, from_strips_code, to_strips, to_strips_code};
 
 mod common;
 use common::*;
@@ -81,7 +81,7 @@ fn strips_are_summed_back() {
 
 #[test]
 fn an_unchanged_day_is_zero() {
-    let mut test = Test::new(crosscheck::head::Head { days: 2, ..HEAD });
+    let mut test = Test::new(crosscheck::second::head::Head { days: 2, ..HEAD });
     test.deliver_all(12_345);
     let file = test.file();
     let strips = strips(30, &file[..6 * 96]);

@@ -1,7 +1,7 @@
 //! 02, W3: holidays look like Sundays.
 
-use crosscheck::head::{Head, day_number};
-use crosscheck::rules::sunday_back;
+use crosscheck::second::head::{Head, day_number};
+use crosscheck::second::rules::sunday_back;
 
 mod common;
 use common::*;

@@ -1,13 +1,13 @@
 //! 02, W10: dials read through salt.
 
-use crosscheck::book::Filed;
-use crosscheck::calls::Lists;
-use crosscheck::contents::{self, Contents};
-use crosscheck::head::Head;
-use crosscheck::line::line;
-use crosscheck::plain::Plain;
-use crosscheck::reader::read;
-use crosscheck::rules::Advances;
+use crosscheck::compare::plain::Plain;
+use crosscheck::second::book::Filed;
+use crosscheck::second::contents::{self, Contents};
+use crosscheck::second::head::Head;
+use crosscheck::second::line::line;
+use crosscheck::second::lists::Lists;
+use crosscheck::second::reader::read;
+use crosscheck::second::rules::Advances;
 
 mod common;
 use common::*;

@@ -1,9 +1,9 @@
 //! A book for tests: lists, short calls, and the published file taken apart.
 #![allow(dead_code)] // each test file uses its part
 
-use crosscheck::book::{self, Filed};
-use crosscheck::calls::Lists;
-use crosscheck::head::Head;
+use crosscheck::second::book::Filed;
+use crosscheck::second::head::Head;
+use crosscheck::second::lists::{Agreement, Delivery, Lists, RegisterRead};
 
 /// 01's Whole: 2024-05-01, D 1, L 30, the limit of kind 1, t 0.
 pub const HEAD: Head = Head {
@@ -17,19 +17,7 @@ pub const HEAD: Head = Head {
 };
 
 pub fn open(head: Head, lists: &mut Lists) -> Result<(), u8> {
-    book::open(
-        head,
-        &mut lists.values,
-        &mut lists.versions,
-        &mut lists.statuses,
-        &mut lists.holidays,
-        &mut lists.readings,
-        &mut lists.read_versions,
-        &mut lists.agreed,
-        &mut lists.agreed_versions,
-        &mut lists.counts,
-        &mut lists.widths,
-    )
+    lists.open(head)
 }
 
 pub fn deliver(
@@ -37,17 +25,13 @@ pub fn deliver(
     lists: &mut Lists,
     (slot, version, value, status): (u32, u32, u32, u8),
 ) -> Result<Filed, u8> {
-    book::deliver(
-        head,
-        &mut lists.values,
-        &mut lists.versions,
-        &mut lists.statuses,
-        &mut lists.counts,
+    let delivery = Delivery {
         slot,
         version,
         value,
-        status,
-    )
+        status: status.into(),
+    };
+    lists.deliver(head, delivery)
 }
 
 pub fn register(
@@ -63,16 +47,13 @@ pub fn register_wide(
     lists: &mut Lists,
     (boundary, version, reading, width): (u32, u32, u32, u32),
 ) -> Result<Filed, u8> {
-    book::register(
-        head,
-        &mut lists.readings,
-        &mut lists.read_versions,
-        &mut lists.widths,
+    let read = RegisterRead {
         boundary,
         version,
         reading,
         width,
-    )
+    };
+    lists.register(head, read)
 }
 
 pub fn agree(
@@ -80,31 +61,16 @@ pub fn agree(
     lists: &mut Lists,
     (slot, version, value): (u32, u32, u32),
 ) -> Result<Filed, u8> {
-    book::agree(
-        head,
-        &mut lists.agreed,
-        &mut lists.agreed_versions,
+    let agreement = Agreement {
         slot,
         version,
         value,
-    )
+    };
+    lists.agree(head, agreement)
 }
 
 pub fn publish(head: Head, lists: &Lists, out: &mut [u8]) -> Result<usize, u8> {
-    book::publish(
-        head,
-        &lists.values,
-        &lists.versions,
-        &lists.statuses,
-        &lists.holidays,
-        &lists.readings,
-        &lists.read_versions,
-        &lists.agreed,
-        &lists.agreed_versions,
-        &lists.counts,
-        &lists.widths,
-        out,
-    )
+    lists.publish(head, out)
 }
 
 pub struct Test {
@@ -141,7 +107,7 @@ impl Test {
     }
 
     pub fn holiday(&mut self, day: u32) {
-        let answer = book::holiday(self.head, &mut self.lists.holidays, day);
+        let answer = self.lists.holiday(self.head, day);
         assert_eq!(answer, Ok(Filed::Stored));
     }
 
