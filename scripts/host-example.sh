@@ -1,10 +1,24 @@
 #!/bin/sh
-# Builds the static libraries of the crates host and questions, links each C program of examples/ with them, and runs that.
+# Compiles each C program of examples/ as C99 and as C++, links it with libsawmauve.a alone, and runs it.
+# Where SAWMAUVE_LIB names a folder, the archive in it is linked and none is built.
 set -e
 cd "$(dirname "$0")/.."
-rt staticlib host
-rt staticlib questions
-for example in host charger berth; do
-    gcc -Wall -Wextra -Werror -O2 -Iinclude "examples/$example.c" target/staticlib/libhost.a target/staticlib/libquestions.a -o "target/$example-example"
-    "target/$example-example"
+if [ -z "${SAWMAUVE_LIB:-}" ]; then
+    make --quiet build/libsawmauve.a > /dev/null
+fi
+archive=${SAWMAUVE_LIB:-build}/libsawmauve.a
+work=$(mktemp -d)
+trap 'rm -rf "$work"' EXIT
+# the slot table of a day, for strips.c
+sh scripts/whole-file.sh | head -c 288 > "$work/table"
+for example in berth charger host log office strips; do
+    gcc -std=c99 -pedantic -Wall -Wextra -Werror -O2 -Iinclude "examples/$example.c" "$archive" -o "$work/c"
+    g++ -Wall -Wextra -Werror -O2 -Iinclude -x c++ "examples/$example.c" -x none "$archive" -o "$work/c++"
+    "$work/c" < "$work/table" > "$work/out"
+    "$work/c++" < "$work/table" | cmp - "$work/out"
+    if [ "$example" = strips ]; then
+        echo "strips: $(wc -c < "$work/out") bytes"
+    else
+        cat "$work/out"
+    fi
 done
