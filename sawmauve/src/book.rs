@@ -1,6 +1,6 @@
 //! A book that owns its ten lists.
 
-use crate::{Error, Explanation, Head, calls};
+use crate::{Call, Error, Explanation, Head, calls};
 
 /// A book: its head and its ten lists, as its calls left them.
 #[derive(Clone, Debug, PartialEq, Eq)]
@@ -38,6 +38,15 @@ pub struct Cell {
     pub status: u8,
     pub agreed_version: u32,
     pub agreed: u32,
+}
+
+/// What stands for a boundary; the version is 0 where nothing came.
+#[derive(Clone, Copy, Debug, PartialEq, Eq)]
+#[allow(missing_docs, reason = "they are their names")]
+pub struct Reading {
+    pub version: u32,
+    pub reading: u32,
+    pub width: u16,
 }
 
 /// The answer that a code stands for.
@@ -216,6 +225,29 @@ impl Book {
             agreed_version: *self.agreed_versions.get(at)?,
             agreed: *self.agreed.get(at)?,
         })
+    }
+
+    /// What stands for a boundary.
+    pub fn reading(&self, boundary: u32) -> Option<Reading> {
+        let at = boundary as usize;
+        Some(Reading {
+            version: *self.reads.get(at)?,
+            reading: *self.readings.get(at)?,
+            width: *self.widths.get(at)?,
+        })
+    }
+
+    /// The version of the cell that a call names; none for a call without a version and for a cell outside the book.
+    pub fn version_of(&self, call: &Call) -> Option<u32> {
+        let (versions, at) = match *call {
+            Call::Delivery { slot, .. } => (&self.versions, slot),
+            Call::Agreed { slot, .. } => (&self.agreed_versions, slot),
+            Call::Register { boundary, .. } => (&self.reads, boundary),
+            Call::Nothing | Call::Limits | Call::Opening { .. } | Call::Holiday { .. } => {
+                return None;
+            }
+        };
+        versions.get(at as usize).copied()
     }
 }
 

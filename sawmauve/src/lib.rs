@@ -11,11 +11,13 @@
 //! # Ok::<(), sawmauve::Error>(())
 //! ```
 //!
+//! [`compare`] lays two files side by side, [`reconcile`] two logs.
 //! [`calls`] has the exports themselves, for lists of any length.
 
 pub mod calls;
 
 mod book;
+mod compare;
 mod date;
 mod error;
 mod explanation;
@@ -23,10 +25,12 @@ mod file;
 mod head;
 mod log;
 mod market;
+mod reconcile;
 mod refusal;
 mod simulate;
 
-pub use book::{Accepted, Book, Cell};
+pub use book::{Accepted, Book, Cell, Reading};
+pub use compare::{Comparison, DaySums, Differing, Lacks, Pair, compare};
 pub use date::{Date, Time, minute, number};
 pub use error::Error;
 pub use explanation::{
@@ -36,6 +40,7 @@ pub use file::{Figures, File, Slot, Span, from_strips};
 pub use head::Head;
 pub use log::{Answer, Call, Log, Played};
 pub use market::Fields;
+pub use reconcile::{Behind, Elsewhere, Listed, Reconciliation, reconcile};
 pub use refusal::{ALL as REFUSALS, Refusal};
 pub use simulate::{Run, simulate};
 

@@ -35,7 +35,7 @@ pub struct Played {
 }
 
 /// A line of a log as a call.
-#[derive(Clone, Copy, Debug, PartialEq, Eq)]
+#[derive(Clone, Copy, Debug, PartialEq, Eq, Hash)]
 #[allow(missing_docs, reason = "the paper's names")]
 pub enum Call {
     Nothing,
@@ -189,6 +189,16 @@ impl fmt::Display for Answer {
 }
 
 impl Call {
+    /// Its version, where it has one.
+    pub fn version(&self) -> Option<u32> {
+        match *self {
+            Call::Delivery { version, .. }
+            | Call::Agreed { version, .. }
+            | Call::Register { version, .. } => Some(version),
+            Call::Nothing | Call::Limits | Call::Opening { .. } | Call::Holiday { .. } => None,
+        }
+    }
+
     /// What a line, without its LF, says; nothing where it is no line of a log.
     pub fn read(line: &[u8]) -> Option<Call> {
         let mut fields = [0; 7];

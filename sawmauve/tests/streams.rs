@@ -13,6 +13,8 @@ fn standard_input_closed() {
         "days -",
         "follow - 2024-05-01 00:00",
         "strips -",
+        "compare - tests/expected/wrap.file",
+        "reconcile ../examples/wrap.log -",
     ] {
         is_trouble(&shell(&format!("$S {words} <&-")), "standard input: closed");
     }
@@ -32,6 +34,16 @@ fn standard_output_closed() {
         &shell("$S show tests/expected/wrap.file >&-"),
         "standard output: closed",
     );
+    let (file, log) = ("tests/expected/wrap.file", "../examples/wrap.log");
+    for words in [
+        format!("compare {file} {file}"),
+        format!("reconcile {log} {log}"),
+    ] {
+        let closed = shell(&format!("$S {words} >&-"));
+        is_trouble(&closed, "standard output: closed");
+        let full = shell(&format!("$S {words} > /dev/full"));
+        is_trouble(&full, "standard output: No space left on device");
+    }
     is_trouble(&shell("$S --help >&-"), "standard output: closed");
 }
 

@@ -374,8 +374,18 @@ fn strips_and_back() {
 #[test]
 fn helps_and_the_version() {
     let verbs = [
-        "publish", "answers", "show", "days", "follow", "stays", "nem12", "simulate", "strips",
+        "publish",
+        "answers",
+        "show",
+        "days",
+        "follow",
+        "stays",
+        "nem12",
+        "simulate",
+        "strips",
         "unstrips",
+        "compare",
+        "reconcile",
     ];
     let whole = String::from_utf8(run(&["--help"]).stdout).unwrap();
     for verb in verbs {

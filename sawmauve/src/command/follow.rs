@@ -3,6 +3,7 @@
 use super::Verb;
 use super::arguments::Arguments;
 use super::streams;
+use super::times::date;
 use super::trouble::{Status, Trouble};
 use sawmauve::{
     Answer, Call, Cell, Date, Error, Explanation, Held, Log, Played, Refusal, Time, minute,
@@ -24,16 +25,12 @@ is scaled, and its record in the file.
     run,
 };
 
-fn day(first: u32, day: u32) -> String {
-    Date::of(first + day).map_or_else(String::new, |date| date.to_string())
-}
-
 /// The slot with its times.
 fn slot_line(played: &Played, first: u32, slot: u32) -> String {
     let head = played.book.head();
     let in_day = (head.slots_per_day() as u32).max(1);
     let from = slot % in_day * head.interval;
-    let (date, to) = (day(first, slot / in_day), Time(from + head.interval));
+    let (date, to) = (date(first, slot / in_day), Time(from + head.interval));
     format!("slot {slot}: {date} {} to {to}\n", Time(from))
 }
 
@@ -94,7 +91,7 @@ fn rule_line(told: &Explanation, first: u32) -> String {
         );
     }
     for reference in &told.references {
-        text += &format!(", {} {}", day(first, reference.day), reference.value);
+        text += &format!(", {} {}", date(first, reference.day), reference.value);
     }
     text + "\n"
 }
@@ -111,8 +108,8 @@ fn span_line(span: Option<Held>, first: u32) -> String {
         ..
     } = span;
     let (from, to, state) = (
-        day(first, span.first),
-        day(first, span.last),
+        date(first, span.first),
+        date(first, span.last),
         state_word(span.state),
     );
     format!(

@@ -3,10 +3,15 @@
 mod answers;
 mod arguments;
 mod closed;
+mod compare;
 mod days;
+mod differences;
+mod folders;
 mod follow;
 mod nem12;
 mod publish;
+mod reconcile;
+mod sheet;
 mod show;
 mod simulate;
 mod stays;
@@ -14,6 +19,7 @@ mod store;
 mod streams;
 mod strips;
 mod tasks;
+mod times;
 mod trouble;
 
 use arguments::{Arguments, Opt};
@@ -30,12 +36,14 @@ struct Verb {
     run: fn(&Arguments) -> Result<Status, Trouble>,
 }
 
-const VERBS: [&Verb; 10] = [
+const VERBS: [&Verb; 12] = [
     &publish::VERB,
     &answers::VERB,
     &show::VERB,
     &days::VERB,
     &follow::VERB,
+    &compare::VERB,
+    &reconcile::VERB,
     &stays::VERB,
     &nem12::VERB,
     &simulate::VERB,

@@ -3,8 +3,9 @@
 use super::Verb;
 use super::arguments::{Arguments, Opt};
 use super::streams;
+use super::times::date;
 use super::trouble::{Status, Trouble, refused_line, tell};
-use sawmauve::{Date, Error, File, Span, Time, state_word};
+use sawmauve::{Error, File, Span, Time, state_word};
 use std::ffi::{OsStr, OsString};
 use std::os::unix::ffi::OsStrExt;
 
@@ -53,10 +54,6 @@ fn line(file: &File) -> Result<Vec<String>, Error> {
     Ok(vec![String::from_utf8_lossy(&file.line()?).into_owned()])
 }
 
-fn date(first: u32, day: u32) -> String {
-    Date::of(first + day).map_or_else(String::new, |date| date.to_string())
-}
-
 fn slots(file: &File) -> Result<Vec<String>, Error> {
     let figures = file.figures();
     let in_day = figures.slots_per_day().max(1);
@@ -89,7 +86,7 @@ fn spans(file: &File) -> Result<Vec<String>, Error> {
 }
 
 /// A name as a field of CSV.
-fn quoted(name: &OsStr) -> Vec<u8> {
+pub fn quoted(name: &OsStr) -> Vec<u8> {
     let bytes = name.as_bytes();
     if !bytes
         .iter()

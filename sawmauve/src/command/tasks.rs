@@ -32,17 +32,23 @@ struct Told {
     folders: BTreeSet<PathBuf>,
 }
 
-/// The *.log of a folder, in the order of their names.
-fn logs_of(folder: &Path) -> Result<Vec<PathBuf>, Trouble> {
+/// What is named *.extension in a folder, in the order of the names.
+pub fn named(folder: &Path, extension: &str) -> Result<Vec<PathBuf>, Trouble> {
     let trouble = |error| Trouble::io(folder.as_os_str(), &error);
-    let mut logs = Vec::new();
+    let mut found = Vec::new();
     for entry in fs::read_dir(folder).map_err(trouble)? {
         let path = entry.map_err(trouble)?.path();
-        if path.extension() == Some(OsStr::new("log")) {
-            logs.push(path);
+        if path.extension() == Some(OsStr::new(extension)) {
+            found.push(path);
         }
     }
-    logs.sort();
+    found.sort();
+    Ok(found)
+}
+
+/// The *.log of a folder.
+fn logs_of(folder: &Path) -> Result<Vec<PathBuf>, Trouble> {
+    let logs = named(folder, "log")?;
     if logs.is_empty() {
         return Err(Trouble::about(folder.as_os_str(), "no *.log in it"));
     }

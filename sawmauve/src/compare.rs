@@ -1,0 +1,205 @@
+//! Two files laid side by side.
+
+use crate::{Figures, File, Slot, Span};
+use std::collections::BTreeMap;
+
+/// What both sides have.
+#[derive(Clone, Copy, Debug, Default, PartialEq, Eq)]
+#[allow(missing_docs, reason = "they are their names")]
+pub struct Pair<T> {
+    pub ours: T,
+    pub theirs: T,
+}
+
+/// An unbroken run of slots that differ: the first one's number, and the records on both sides.
+#[derive(Clone, Debug, PartialEq, Eq)]
+#[allow(missing_docs, reason = "said above")]
+pub struct Differing {
+    pub first: u32,
+    pub slots: Vec<Pair<Slot>>,
+}
+
+/// A day that has a slot which differs, counted from 0 in the book, and its sums in Wh.
+#[derive(Clone, Copy, Debug, PartialEq, Eq)]
+#[allow(missing_docs, reason = "said above")]
+pub struct DaySums {
+    pub day: u32,
+    pub sums: Pair<u64>,
+}
+
+/// What differs between two files, beside the figures of both: spans, those of the same boundaries together; runs of slots; and the days
+/// that hold these. Where first day, days or interval differ the slots are other times, and no span and no slot is listed.
+#[derive(Clone, Debug, PartialEq, Eq)]
+#[allow(missing_docs, reason = "said above")]
+pub struct Comparison {
+    pub figures: Pair<Figures>,
+    pub spans: Vec<Pair<Option<Span>>>,
+    pub runs: Vec<Differing>,
+    pub days: Vec<DaySums>,
+}
+
+/// What a file lacks: missing slots, open spans and disagreeing ones. An equality can hold these too.
+#[derive(Clone, Copy, Debug, PartialEq, Eq)]
+#[allow(missing_docs, reason = "said above")]
+pub struct Lacks {
+    pub missing: u64,
+    pub open: usize,
+    pub disagreeing: usize,
+}
+
+impl<T> Pair<T> {
+    /// The same of both sides.
+    pub fn map<U>(&self, of: impl Fn(&T) -> U) -> Pair<U> {
+        Pair {
+            ours: of(&self.ours),
+            theirs: of(&self.theirs),
+        }
+    }
+}
+
+impl<T: PartialEq> Pair<T> {
+    /// Both sides have the same.
+    pub fn is_equal(&self) -> bool {
+        self.ours == self.theirs
+    }
+
+    /// Itself, where the sides differ.
+    pub fn differing(self) -> Option<Pair<T>> {
+        (!self.is_equal()).then_some(self)
+    }
+}
+
+impl Pair<u64> {
+    /// Ours minus theirs.
+    pub fn difference(&self) -> i128 {
+        i128::from(self.ours) - i128::from(self.theirs)
+    }
+}
+
+impl Differing {
+    /// The slot after its last one.
+    pub fn until(&self) -> u32 {
+        self.first.saturating_add(self.slots.len() as u32)
+    }
+
+    /// Its sums in Wh.
+    pub fn sums(&self) -> Pair<u64> {
+        let sum = |of: fn(&Pair<Slot>) -> Slot| {
+            self.slots
+                .iter()
+                .map(|pair| u64::from(of(pair).value))
+                .sum()
+        };
+        Pair {
+            ours: sum(|pair| pair.ours),
+            theirs: sum(|pair| pair.theirs),
+        }
+    }
+}
+
+impl Comparison {
+    /// One figure of both, where it differs.
+    pub fn figure<T: PartialEq>(&self, of: impl Fn(&Figures) -> T) -> Option<Pair<T>> {
+        self.figures.map(of).differing()
+    }
+
+    /// First day, days and interval are the same.
+    pub fn is_of_same_times(&self) -> bool {
+        let times = |figures: &Figures| (figures.first, figures.days, figures.interval);
+        self.figures.map(times).is_equal()
+    }
+
+    /// Nothing is listed.
+    pub fn is_empty(&self) -> bool {
+        let same_layout = self.figures.map(|figures| figures.layout).is_equal();
+        self.is_of_same_times() && same_layout && self.spans.is_empty() && self.runs.is_empty()
+    }
+
+    /// The sums of both files in Wh.
+    pub fn sums(&self) -> Pair<u64> {
+        self.figures.map(|figures| figures.sum)
+    }
+}
+
+impl Lacks {
+    /// Of a file.
+    pub fn of(file: &File) -> Lacks {
+        let in_state = |state| file.spans().filter(|span| span.state == state).count();
+        Lacks {
+            missing: file.figures().none,
+            open: in_state(2),
+            disagreeing: in_state(3),
+        }
+    }
+
+    /// Nothing is missing, open or disagreeing.
+    pub fn is_complete(&self) -> bool {
+        (self.missing, self.open, self.disagreeing) == (0, 0, 0)
+    }
+}
+
+fn spans(files: Pair<&File>) -> Vec<Pair<Option<Span>>> {
+    let mut by_ends: BTreeMap<(u32, u32), Pair<Option<Span>>> = BTreeMap::new();
+    for span in files.ours.spans() {
+        by_ends.entry((span.first, span.last)).or_default().ours = Some(span);
+    }
+    for span in files.theirs.spans() {
+        by_ends.entry((span.first, span.last)).or_default().theirs = Some(span);
+    }
+    by_ends.into_values().filter_map(Pair::differing).collect()
+}
+
+fn runs(slots: &Pair<Vec<Slot>>) -> Vec<Differing> {
+    let mut runs: Vec<Differing> = Vec::new();
+    for (at, (ours, theirs)) in (0..).zip(slots.ours.iter().zip(&slots.theirs)) {
+        let pair = Pair {
+            ours: *ours,
+            theirs: *theirs,
+        };
+        match (pair.is_equal(), runs.last_mut()) {
+            (true, _) => {}
+            (false, Some(run)) if run.until() == at => run.slots.push(pair),
+            (false, _) => runs.push(Differing {
+                first: at,
+                slots: vec![pair],
+            }),
+        }
+    }
+    runs
+}
+
+fn days(slots: &Pair<Vec<Slot>>, in_day: usize) -> Vec<DaySums> {
+    let in_day = in_day.max(1);
+    let days = slots.ours.chunks(in_day).zip(slots.theirs.chunks(in_day));
+    let sum = |slots: &[Slot]| slots.iter().map(|slot| u64::from(slot.value)).sum();
+    (0..)
+        .zip(days)
+        .filter(|(_, (ours, theirs))| ours != theirs)
+        .map(|(day, (ours, theirs))| DaySums {
+            day,
+            sums: Pair {
+                ours: sum(ours),
+                theirs: sum(theirs),
+            },
+        })
+        .collect()
+}
+
+/// What differs between two files. Nothing is listed exactly where their bytes are equal: what the reader accepts is the writing of what
+/// it gives (`Canonical`).
+pub fn compare(ours: &File, theirs: &File) -> Comparison {
+    let files = Pair { ours, theirs };
+    let mut found = Comparison {
+        figures: files.map(|file| *file.figures()),
+        spans: Vec::new(),
+        runs: Vec::new(),
+        days: Vec::new(),
+    };
+    if found.is_of_same_times() {
+        let slots = files.map(|file| file.slots().collect::<Vec<Slot>>());
+        found.spans = spans(files);
+        found.runs = runs(&slots);
+        found.days = days(&slots, ours.figures().slots_per_day() as usize);
+    }
+    found
+}
