@@ -1,6 +1,7 @@
 #!/bin/sh
 # Compares libsawmauve.a with the second build: random books call by call, damaged files, dials, strips, stays, tables of limits, exports,
-# runs of a berth, books before and after one more delivery, ways of single slots, logs, and every date.
+# runs of a berth, books before and after one more delivery, ways of single slots, logs, pairs of logs and of files, and every
+# date.
 # Arguments, each with a default: seed, number of books, number of damaged files.
 # Where SAWMAUVE_LIB names a folder, the archive in it is compared and none is built.
 set -e
@@ -18,7 +19,7 @@ crosscheck=$CARGO_TARGET_DIR/release/crosscheck
 sawmauve=$CARGO_TARGET_DIR/release/sawmauve
 seed=${1:-1}
 "$crosscheck" compare --seed "$seed" --books "${2:-2000}" --damaged "${3:-20000}"
-for verb in dials strips stays limits nem12 simulate reach explain logs; do
+for verb in dials strips stays limits nem12 simulate reach explain logs reconcile; do
     "$crosscheck" "$verb" --seed "$seed"
 done
 rt check show > /dev/null

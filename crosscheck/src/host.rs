@@ -149,9 +149,6 @@ const UNWRITTEN: u64 = 0xA5C3_96E1_5A3C_691E;
 /// None of 01's numbers: a refused file's figures were written all the same.
 pub const WRITTEN_ON_REFUSAL: u64 = 999;
 
-/// None of 01's numbers: `sawmauve_check` answers another than `sawmauve_read`.
-pub const CHECKED_OTHERWISE: u64 = 998;
-
 fn filed(code: u32) -> Answer {
     match code {
         0 => Answer::Filed(Filed::Stored),
@@ -222,9 +219,6 @@ impl Side for Host {
         let file = lent(file);
         let mut figures = [UNWRITTEN; FIGURES];
         let number = calls::read(&file, &mut lent_mut(&mut figures));
-        if calls::check(&file) != number {
-            return Err(CHECKED_OTHERWISE);
-        }
         if number == 0 {
             return Ok(figures_of(figures));
         }
@@ -239,14 +233,17 @@ impl Side for Host {
         calls::tables(&lent(file))
     }
 
-    /// A list of figures that is not 9 long is refused, 2, and not written.
+    /// `sawmauve_check` answers as `sawmauve_read` does; a list of figures that is not 9 long is refused, 2, and not written.
     fn keeps_convention(&self, file: &[u8]) -> bool {
         let file = lent(file);
-        [0, 1, FIGURES - 1, FIGURES + 1].into_iter().all(|len| {
-            let mut figures = vec![UNWRITTEN; len];
-            let number = calls::read(&file, &mut lent_mut(&mut figures));
-            number == 2 && figures.iter().all(|&figure| figure == UNWRITTEN)
-        })
+        let number = calls::read(&file, &mut [UNWRITTEN; FIGURES]);
+        let checked = calls::check(&file) == number;
+        checked
+            && [0, 1, FIGURES - 1, FIGURES + 1].into_iter().all(|len| {
+                let mut figures = vec![UNWRITTEN; len];
+                let number = calls::read(&file, &mut lent_mut(&mut figures));
+                number == 2 && figures.iter().all(|&figure| figure == UNWRITTEN)
+            })
     }
 }
 

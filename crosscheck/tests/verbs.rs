@@ -2,9 +2,20 @@
 
 use std::process::{Command, Output};
 
-const VERBS: [&str; 12] = [
-    "compare", "dials", "strips", "stays", "limits", "nem12", "simulate", "reach", "explain",
-    "logs", "dates", "bench",
+const VERBS: [&str; 13] = [
+    "compare",
+    "dials",
+    "strips",
+    "stays",
+    "limits",
+    "nem12",
+    "simulate",
+    "reach",
+    "explain",
+    "logs",
+    "reconcile",
+    "dates",
+    "bench",
 ];
 
 fn crosscheck(words: &[&str]) -> Output {
@@ -52,7 +63,15 @@ fn wrong_arguments_are_2_and_told() {
 #[test]
 fn a_short_run_of_each_finds_no_difference() {
     let tried = [
-        "dials", "strips", "stays", "limits", "nem12", "simulate", "reach", "logs",
+        "dials",
+        "strips",
+        "stays",
+        "limits",
+        "nem12",
+        "simulate",
+        "reach",
+        "logs",
+        "reconcile",
     ];
     for verb in tried {
         let words = [

@@ -49,7 +49,7 @@ pub struct Opening {
 }
 
 /// A filling call's numbers, in the order of the log.
-#[derive(Clone, Copy, Debug, PartialEq, Eq)]
+#[derive(Clone, Copy, Debug, PartialEq, Eq, PartialOrd, Ord)]
 pub enum Filling {
     /// Slot, version, value, status.
     Delivery([u32; 4]),

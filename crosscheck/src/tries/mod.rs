@@ -7,6 +7,7 @@ pub mod limits;
 pub mod logs;
 pub mod nem12;
 pub mod reach;
+pub mod reconcile;
 pub mod simulate;
 pub mod stays;
 pub mod strips;

@@ -20,7 +20,7 @@ struct Verb {
 /// The options of the smaller comparisons.
 const TRIES: &str = "[--seed S] [--tries N] [--from I] [--trace]";
 
-const VERBS: [Verb; 12] = [
+const VERBS: [Verb; 13] = [
     Verb {
         name: "compare",
         options: compare::OPTIONS,
@@ -80,6 +80,12 @@ const VERBS: [Verb; 12] = [
         options: TRIES,
         what: "logs and their playing",
         run: small::logs,
+    },
+    Verb {
+        name: "reconcile",
+        options: TRIES,
+        what: "pairs of logs over one truth, and pairs of files",
+        run: small::reconcile,
     },
     Verb {
         name: "dates",

@@ -4,7 +4,7 @@ use std::process::ExitCode;
 
 use crosscheck::host;
 use crosscheck::second::reach::W14;
-use crosscheck::tries::{Comparison, limits, logs, reach, simulate, stays, strips};
+use crosscheck::tries::{Comparison, limits, logs, reach, reconcile, simulate, stays, strips};
 
 pub fn limits(words: &[String]) -> ExitCode {
     let comparison = Comparison {
@@ -37,6 +37,18 @@ pub fn reach(words: &[String]) -> ExitCode {
     };
     comparison.run(words, |rng, index, tally| {
         reach::one(rng, index, &host::Host, &W14, tally)
+    })
+}
+
+/// Pairs of logs and of files, by the package's own `compare` and `reconcile`.
+pub fn reconcile(words: &[String]) -> ExitCode {
+    let comparison = Comparison {
+        name: "reconcile",
+        classes: reconcile::CLASSES,
+        tries: 3000,
+    };
+    comparison.run(words, |rng, index, tally| {
+        reconcile::one(rng, index, reconcile::SAWMAUVE, tally)
     })
 }
 
