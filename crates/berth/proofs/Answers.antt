@@ -1,17 +1,16 @@
 -- What a run answers and leaves, from what its parts do.
-use mathlib.Core.Bool.{Bool, true, false, not}
-use mathlib.Core.List.{List, [], _∷_, _++_}
+use mathlib.Core.Bool.{true}
+use mathlib.Core.List.{List, _++_}
 use mathlib.Core.Path.{_≡_, refl, sym, ap, _∙_}
 use Prim.Native.Nat.{ℕ, _+_, _*_, _≤_}
 use native.Mathlib.Omega.{arith}
 use borrow.Author.Tests.{le-ltb, ltb-false, not-false}
-use lib.Dec.{ltb, eqb}
 use lib.IntN.{pos, _-ℤ_}
 use lib.ListN.{length, drop}
+use Rattle.base.specs.Refusals.{Rule, firstBroken}
+use Rattle.base.proofs.Refusals.{Unbroken, unless-unbroken, unless-refused, none-broken}
 use Rattle.rules.specs.declared.Head.{Head}
 use Rattle.rules.specs.Opening.{headOk, slotCount}
-use Rattle.book.specs.Answers.{Rule}
-use Rattle.book.specs.Answers.Rule.{rule}
 use Rattle.book.specs.Cells.{Book, bookFits}
 use Rattle.file.specs.Reader.{num}
 use Rattle.publishing.specs.Publishing.{publishAfter}
@@ -20,8 +19,8 @@ use Rattle.claim.proofs.WholeLists.{wrote as published-after}
 use Rattle.berth.specs.declared.Report.{Report}
 use Rattle.berth.specs.declared.Simulated.{Simulated}
 use Rattle.berth.specs.declared.Simulated.the-variants.{Run, Refused}
-use Rattle.berth.specs.Run.{trueTotal, callsOf, reportOf, runRules, reportUnless, simulateAnswer, simulateLists, simulateBytes}
-use Rattle.berth.specs.Inner.Refusing.{firstBroken, fileSize}
+use Rattle.berth.specs.Run.{trueTotal, callsOf, reportOf, runRules, simulateAnswer, simulateLists, simulateBytes}
+use Rattle.berth.specs.Inner.Refusing.{fileSize}
 use Rattle.berth.proofs.Written.{file-size, state-back, sum-back, sum-high}
 
 module _ (h : Head) (seed loss : ℕ) (good : headOk h ≡ true) (out : List ℕ) (room : fileSize h ≤ length out) where
@@ -47,22 +46,6 @@ module _ (h : Head) (seed loss : ℕ) (good : headOk h ≡ true) (out : List ℕ
       let rest = drop (length file) out in
       q ∙ rw (p, t, state-back h seed loss good rest, sum-back h seed loss good rest)
 
--- a broken rule refuses with its number
-pub refuses : (rs : List Rule) (r : Report) → (firstBroken rs ≡ 0 → ⊥) → reportUnless rs r ≡ Refused (firstBroken rs)
-refuses [] r some = absurd (some refl)
-refuses (rule n true ∷ rs) r some = refl
-refuses (rule n false ∷ rs) r some = refuses rs r some
-
--- with none broken every test has passed
-pub clear : (a b c d e : Bool) → firstBroken (rule 1 a ∷ rule 2 b ∷ rule 7 c ∷ rule 20 d ∷ rule 21 e ∷ []) ≡ 0
-    → (a ≡ false) × (b ≡ false) × (c ≡ false) × (d ≡ false) × (e ≡ false)
-clear true b c d e z = absurd (omega arith)
-clear false true c d e z = absurd (omega arith)
-clear false false true d e z = absurd (omega arith)
-clear false false false true e z = absurd (omega arith)
-clear false false false false true z = absurd (omega arith)
-clear false false false false false z = (refl, refl, refl, refl, refl)
-
 -- what the contract says
 pub record Meant (h : Head) (seed loss : ℕ) (b : Book) (out : List ℕ) (r : Simulated) (b' : Book) (out' : List ℕ) : Type 0 where
   pub answer : r ≡ simulateAnswer h seed loss b out
@@ -82,21 +65,19 @@ module _ (h : Head) (seed loss : ℕ) (b : Book) (out : List ℕ) where
     pub refused : (n ≡ 0 → ⊥) → Meant h seed loss b out (Refused n) b out
     unfolding simulateAnswer simulateLists simulateBytes
     refused some =
-        let e = refuses rules (reportOf h seed loss) (λ z. some (found ∙ z)) in
+        let e = unless-refused Refused rules (Run (reportOf h seed loss)) (λ z. some (found ∙ z)) in
         record { answer = ap Refused found ∙ sym e; lists = rw e; bytes = rw e }
 
     -- nothing refuses it
-    unbroken : n ≡ 0 → (not (headOk h) ≡ false) × (not (bookFits h b) ≡ false) × (ltb (length out) (length (plainFile h (callsOf h seed loss))) ≡ false)
-        × (eqb seed 0 ≡ false) × (ltb 1000 loss ≡ false)
-    unbroken z =
-        clear (not (headOk h)) (not (bookFits h b)) (ltb (length out) (length (plainFile h (callsOf h seed loss)))) (eqb seed 0) (ltb 1000 loss) (sym found ∙ z)
+    unbroken : n ≡ 0 → Unbroken rules
+    unbroken z = none-broken rules refl (sym found ∙ z)
 
     pub passes : n ≡ 0 → (headOk h ≡ true) × (bookFits h b ≡ true) × (fileSize h ≤ length out)
     passes z =
         let t = unbroken z in
-        let good = not-false _ (t .0) in
-        let room : length (plainFile h (callsOf h seed loss)) ≤ length out = ltb-false _ _ (t .2) in
-        (good, not-false _ (t .1), omega (arith, file-size h seed loss good))
+        let good = not-false _ (t 0) in
+        let room : length (plainFile h (callsOf h seed loss)) ≤ length out = ltb-false _ _ (t 2) in
+        (good, not-false _ (t 1), omega (arith, file-size h seed loss good))
 
     pub ran : n ≡ 0 → {r : Report} {b' : Book} {out' : List ℕ}
         → (r ≡ reportOf h seed loss)
@@ -105,9 +86,5 @@ module _ (h : Head) (seed loss : ℕ) (b : Book) (out : List ℕ) where
         → Meant h seed loss b out (Run r) b' out'
     unfolding simulateAnswer simulateLists simulateBytes
     ran z made =
-        let t = unbroken z in
-        record {
-          answer = rw (t .0, t .1, t .2, t .3, t .4) (ap Run (made .0));
-          lists = rw (t .0, t .1, t .2, t .3, t .4) (made .1);
-          bytes = rw (t .0, t .1, t .2, t .3, t .4) (made .2);
-        }
+        let e = unless-unbroken Refused rules (Run (reportOf h seed loss)) (unbroken z) in
+        record { answer = ap Run (made .0) ∙ sym e; lists = rw e (made .1); bytes = rw e (made .2) }

@@ -10,7 +10,7 @@ use lib.Signed.{mag}
 use mir.Syntax.{w64}
 use mir.Val.{SFits, toZ, ofZ}
 use mir.ValLaws.{toZ-ofZ, toZ-pos}
-use Rattle.rules.proofs.Logic.{either}
+use Rattle.base.proofs.Logic.{either}
 
 -- of a and b, where b is not above a, and where it is
 pub rising : (a b : ℕ) → b ≤ a → pos a -ℤ pos b ≡ pos (a - b)

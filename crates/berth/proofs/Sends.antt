@@ -1,12 +1,12 @@
 -- The slots sent one after another: before slot i the berth, the lists and the true total are those of i steps.
 use mathlib.Core.Bool.{true}
 use mathlib.Core.Path.{_≡_, refl, ap, _∙_}
-use Prim.Native.Nat.{ℕ, _+_, _*_, _/_, _≤_, _<_, zero-le}
+use Prim.Native.Nat.{ℕ, _+_, _*_, _≤_, _<_, zero-le}
 use native.Mathlib.Nat.{mul-le-mul, zero-add}
 use native.Mathlib.Numerals.{add-one}
 use native.Mathlib.Omega.{arith}
+use Rattle.base.specs.Lists.{sum}
 use Rattle.rules.specs.declared.Head.{Head}
-use Rattle.rules.specs.Lists.{sum}
 use Rattle.rules.specs.Opening.{headOk, slotCount}
 use Rattle.rules.proofs.Bounds.{bounded, count-high}
 use Rattle.rules.proofs.Summaries.{sum-small}

@@ -7,10 +7,11 @@ use native.Mathlib.Nat.{mul-comm}
 use native.Mathlib.Omega.{arith}
 use lib.Dec.{leb}
 use borrow.Author.Tests.{le-ltb, le-leb, leb-true}
+use Rattle.base.specs.Lists.{any}
+use Rattle.base.proofs.Sums.{sum-cong, any-none}
 use Rattle.rules.specs.declared.Head.{Head}
 use Rattle.rules.specs.declared.Outcome.{Outcome}
 use Rattle.rules.specs.declared.Span.{Span}
-use Rattle.rules.specs.Lists.{any}
 use Rattle.rules.specs.Opening.{headOk, slotsPerDay, slotCount, Cells}
 use Rattle.rules.specs.Tests.{timeChangeBit, partialBit, causeOf, causeAt, goodAt}
 use Rattle.rules.specs.Spans.{isS, isN, advance, actualIn, filled, start, slotsIn, G, actual, stateOf, inSpan, spanOf, outcomeAt, outcomes}
@@ -19,7 +20,6 @@ use Rattle.rules.proofs.Bounds.{bounded}
 use Rattle.rules.proofs.Outages.{filled-good}
 use Rattle.rules.proofs.Ranges.{apart}
 use Rattle.rules.proofs.Sharp.{sharp-dial}
-use Rattle.rules.proofs.Sums.{sum-cong, any-none}
 use Rattle.file.specs.Layout.{total, figuresOf}
 use Rattle.file.proofs.Lists.{total-sum}
 use Rattle.publishing.specs.Publishing.{published}

@@ -7,25 +7,19 @@ use native.Mathlib.Omega.{arith}
 use lib.Dec.{lit<}
 use lib.ListN.{length}
 use lib.Seq.{take-at}
+use Rattle.base.proofs.Lists.{length-upTo}
 use Rattle.rules.specs.declared.Head.{Head}
 use Rattle.rules.specs.Opening.{headOk, slotCount, Cells}
 use Rattle.rules.specs.Spans.{stateOf, spanOf, outcomeAt, outcomes, spans}
 use Rattle.rules.proofs.Bounds.{bounded, count-high}
-use Rattle.rules.proofs.Lists.{length-upTo}
-use Rattle.rules.proofs.Logic.{and-parts}
 use Rattle.rules.proofs.States.{state-low}
 use Rattle.book.specs.Arguments.{Call}
-use Rattle.book.specs.Cells.{cellsOk, bookOk}
-use Rattle.book.proofs.Agreement.{cells-agree}
-use Rattle.book.proofs.Fits.{fits-of}
-use Rattle.book.proofs.Soundness.{book-sound}
 use Rattle.file.specs.Contents.{span}
 use Rattle.file.specs.Layout.{Content, figuresOf, fileOf}
 use Rattle.file.specs.Reader.{num}
 use Rattle.file.proofs.Content.{length-file, span-field, trailer-field}
 use Rattle.file.proofs.Numbers.{num-take}
 use Rattle.publishing.specs.Publishing.{published}
-use Rattle.publishing.specs.Inner.Publishing.{Sound}
 use Rattle.publishing.proofs.Publishing.{agreed-low, widths-low}
 use Rattle.publishing.proofs.Totals.{sum-low}
 use Rattle.claim.specs.Claim.{plainOf, plainFile}

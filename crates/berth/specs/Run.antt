@@ -1,16 +1,16 @@
 -- A run from a seed: its calls, what it reports, and what it leaves (02, W12).
 use mathlib.Core.Bool.{Bool, cond, not}
 use mathlib.Core.List.{List, [], _∷_, _++_}
-use Prim.Native.Nat.{ℕ, zero, suc, _+_, _*_, _%_}
+use Prim.Native.Nat.{ℕ, zero, suc, _+_, _%_}
 use lib.Dec.{ltb, eqb}
 use lib.IntN.{pos, _-ℤ_}
 use lib.ListN.{length, drop}
+use Rattle.base.specs.Lists.{sum}
+use Rattle.base.specs.Refusals.{Rule, unless}
+use Rattle.base.specs.Refusals.Rule.{rule}
 use Rattle.rules.specs.declared.Head.{Head}
-use Rattle.rules.specs.Lists.{sum}
 use Rattle.rules.specs.Opening.{headOk, slotCount}
 use Rattle.rules.specs.Spans.{stateOf}
-use Rattle.book.specs.Answers.{Rule}
-use Rattle.book.specs.Answers.Rule.{rule}
 use Rattle.book.specs.Arguments.{Call}
 use Rattle.book.specs.Arguments.Call.{delivery, register}
 use Rattle.book.specs.Cells.{Book, bookFits}
@@ -59,13 +59,8 @@ runRules h seed loss fit room =
     rule 1 (not (headOk h)) ∷ rule 2 (not fit) ∷ rule 7 (ltb room (length (plainFile h (callsOf h seed loss))))
     ∷ rule 20 (eqb seed 0) ∷ rule 21 (ltb 1000 loss) ∷ []
 
--- the first broken rule's number, or the report
-abbrev pub reportUnless : List Rule → Report → Simulated
-reportUnless [] r = Run r
-reportUnless (rule n broken ∷ rules) r = cond broken (Refused n) (reportUnless rules r)
-
 unfoldable pub simulateAnswer : Head → ℕ → ℕ → Book → List ℕ → Simulated
-simulateAnswer h seed loss b out = reportUnless (runRules h seed loss (bookFits h b) (length out)) (reportOf h seed loss)
+simulateAnswer h seed loss b out = unless Refused (runRules h seed loss (bookFits h b) (length out)) (Run (reportOf h seed loss))
 
 -- a refusal changes no byte of any list or buffer
 abbrev pub listsWith : Simulated → Book → Book → Book

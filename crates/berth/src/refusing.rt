@@ -7,12 +7,13 @@ ghost use mathlib.Core.List.{[], _∷_};
 ghost use mathlib.Core.Path.{_≡_};
 ghost use lib.Dec.{ltb, eqb};
 ghost use lib.ListN.{length};
+ghost use Rattle.base.specs.Refusals.{firstBroken};
+ghost use Rattle.base.specs.Refusals.Rule.{rule};
 ghost use Rattle.rules.specs.Opening.{headOk};
-ghost use Rattle.book.specs.Answers.Rule.{rule};
 ghost use Rattle.book.specs.Cells.{bookFits};
 ghost use Rattle.book.specs.Lent.{lentBook};
 ghost use Rattle.berth.specs.Run.{runRules};
-ghost use Rattle.berth.specs.Inner.Refusing.{firstBroken, fileSize};
+ghost use Rattle.berth.specs.Inner.Refusing.{fileSize};
 
 // The length of the file of a run.
 fn file_size(head: Head) -> usize

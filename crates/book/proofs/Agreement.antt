@@ -7,23 +7,26 @@ use native.Mathlib.Omega.{arith}
 use lib.Dec.{eqb}
 use lib.ListN.{getD}
 use borrow.Author.Tests.{not-false, eq-eqb}
+use Rattle.base.specs.Refusals.{unless}
+use Rattle.base.specs.Refusals.Rule.{rule}
+use Rattle.base.proofs.Lists.{length-upTo, upTo-at}
+use Rattle.base.proofs.Logic.{passed}
+use Rattle.base.proofs.Refusals.{unless-same}
 use Rattle.rules.specs.declared.Head.{Head}
 use Rattle.rules.specs.Opening.{headOk, slotsPerDay, slotCount}
-use Rattle.rules.proofs.Logic.{passed}
 use Rattle.rules.proofs.Bounds.{bounded, day-below}
-use Rattle.book.specs.Answers.{Answer, isAccepted, unless}
-use Rattle.book.specs.Answers.Answer.{stored, repeat}
-use Rattle.book.specs.Answers.Rule.{rule}
+use Rattle.book.specs.Answers.{Answer, isAccepted}
+use Rattle.book.specs.Answers.Answer.{stored, repeat, refused}
 use Rattle.book.specs.Arguments.{Call, argumentRules}
 use Rattle.book.specs.Arguments.Call.{delivery, holiday, register, agreed}
 use Rattle.book.specs.Cells.{readsOf, allLong, slotsFit, daysFit, readsFit, agreedFits, cellsFits, cellsFit, countsFit, bookFits}
 use Rattle.book.specs.Opening.{opened}
 use Rattle.book.specs.Filling.{inputRules, againstSlot, againstDay, againstBoundary, againstAgreed, againstDelivery, deliverAnswer, holidayAnswer, registerAnswer, agreeAnswer, answer, after, answers, afterAll}
 use Rattle.book.specs.Plain.{deliveries, reads, agreements, named, highest, contentWith, againstKept, plainAnswer, keep, plainAnswers, keptOf, bookOf, deliveredOn, countsOf, listsOf}
-use Rattle.book.proofs.Tables.{length-upTo, getD-upTo, upTo-zero}
+use Rattle.book.proofs.Tables.{upTo-zero}
 use Rattle.book.proofs.Next.{countedIn, booked, after-filed, filed-refused, book-next}
 use Rattle.book.proofs.Counting.{day-positive, not-full, counts-next, counts-none}
-use Rattle.book.proofs.Kept.{Kept, Sound, sound, accepted, accepted-head, unless-same, keep-kept}
+use Rattle.book.proofs.Kept.{Kept, Sound, sound, accepted, accepted-head, keep-kept}
 use Rattle.book.proofs.Clean.{slot-clean, day-clean, read-clean, agreed-clean}
 
 -- the lists of kept calls have the right lengths
@@ -47,12 +50,12 @@ unfolding againstDelivery againstSlot againstKept bookOf countsOf
 against-slot h kept slot version value status good ok lt =
     let b = bounded h good in
     let day : slot / slotsPerDay h < h .days = day-below h b slot lt in
-    simp getD-upTo (rw (not-full h (day-positive b) kept slot, slot-clean h kept ok slot))
+    simp upTo-at (rw (not-full h (day-positive b) kept slot, slot-clean h kept ok slot))
 
 against-day : (h : Head) (kept : List Call) (day : ℕ) → Kept h kept → day < h .days
     → againstDay (getD (bookOf h kept .holidays) day 0) ≡ againstKept kept (holiday day)
 unfolding againstDay againstKept bookOf
-against-day h kept day ok lt = simp getD-upTo (rw (day-clean h kept ok day) (go (named day kept)))
+against-day h kept day ok lt = simp upTo-at (rw (day-clean h kept ok day) (go (named day kept)))
   where
     go : (t : Bool) → cond (eqb (cond t 1 0) 0) stored repeat ≡ cond t repeat stored
     go true = refl
@@ -62,19 +65,19 @@ against-boundary : (h : Head) (kept : List Call) (boundary version reading width
     → againstBoundary (getD (bookOf h kept .readVersions) boundary 0) (getD (bookOf h kept .readings) boundary 0) (getD (bookOf h kept .widths) boundary 0) version reading width
     ≡ againstKept kept (register boundary version reading width)
 unfolding againstBoundary againstKept bookOf
-against-boundary h kept boundary version reading width ok lt = simp getD-upTo (rw (read-clean h kept ok boundary))
+against-boundary h kept boundary version reading width ok lt = simp upTo-at (rw (read-clean h kept ok boundary))
 
 against-agreed : (h : Head) (kept : List Call) (slot version value : ℕ) → Kept h kept → slot < slotCount h
     → againstAgreed (getD (bookOf h kept .agreed .versions) slot 0) (getD (bookOf h kept .agreed .values) slot 0) version value
     ≡ againstKept kept (agreed slot version value)
 unfolding againstAgreed againstKept bookOf
-against-agreed h kept slot version value ok lt = simp getD-upTo (rw (agreed-clean h kept ok slot))
+against-agreed h kept slot version value ok lt = simp upTo-at (rw (agreed-clean h kept ok slot))
 
 -- where the lists fit, answers that are equal for a good head and a sound call are equal behind the rules
 behind : (h : Head) (c : Call) (fit : Bool) (a b : Answer) → fit ≡ true → (headOk h ≡ true → Sound h c → a ≡ b)
-    → unless (inputRules h fit c) a ≡ unless (rule 1 (not (headOk h)) ∷ argumentRules h c) b
+    → unless refused (inputRules h fit c) a ≡ unless refused (rule 1 (not (headOk h)) ∷ argumentRules h c) b
 behind h c fit a b e same =
-    rw e (unless-same (rule 1 (not (headOk h)) ∷ argumentRules h c) a b (λ u. same (not-false _ (u 0)) (sound h c u)))
+    rw e (unless-same refused (rule 1 (not (headOk h)) ∷ argumentRules h c) a b (λ u. same (not-false _ (u 0)) (sound h c u)))
 
 -- the same answer to one call
 answer-agrees : (h : Head) (kept : List Call) (c : Call) → Kept h kept → answer h (listsOf h kept) c ≡ plainAnswer h kept c

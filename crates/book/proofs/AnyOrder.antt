@@ -1,24 +1,23 @@
 -- Where no call of a list is answered 10, every list with the same calls amounts to the same book.
 use mathlib.Core.Path.{_≡_, refl, sym, ap, subst, _∙_}
-use mathlib.Core.Bool.{Bool, true, false, cond, not, _&&_, false≢true}
+use mathlib.Core.Bool.{Bool, true, false, cond, not, _&&_}
 use mathlib.Core.List.{List, [], _∷_, List·Memᴰ, List·Memᴰ·head, List·Memᴰ·tail, List·Memᴰ·not-nil}
 use mathlib.Core.Logic.{_⊎_, inl, inr, ⊎-elim}
-use Prim.Native.Nat.{ℕ, suc, _≤_, zero-le}
+use Prim.Native.Nat.{ℕ, _≤_, zero-le}
 use native.Mathlib.Nat.{le-trans}
-use native.Mathlib.Omega.{arith}
 use lib.Dec.{eqb, ltb}
 use borrow.Author.Tests.{ltb-false}
+use Rattle.base.specs.Refusals.Rule.{rule}
+use Rattle.base.proofs.Refusals.{Unbroken, unless-unbroken}
 use Rattle.rules.specs.declared.Head.{Head}
 use Rattle.rules.specs.Opening.{headOk}
-use Rattle.rules.proofs.Logic.{either}
-use Rattle.book.specs.Answers.{Answer, isAccepted, Rule, unless, byVersion}
+use Rattle.book.specs.Answers.{isAccepted, byVersion}
 use Rattle.book.specs.Answers.Answer.{stored, late, repeat, refused}
-use Rattle.book.specs.Answers.Rule.{rule}
 use Rattle.book.specs.Arguments.{Call, argumentRules}
 use Rattle.book.specs.Arguments.Call.{delivery, holiday, register, agreed}
-use Rattle.book.specs.Plain.{Said, Measured, DialRead, named, deliveries, reads, agreements, slotVersion, slotContent, readVersion, readContent, agreedVersion, agreedContent, againstKept, plainAnswer, keep, plainAnswers, keptOf, bookOf}
+use Rattle.book.specs.Plain.{named, deliveries, reads, agreements, slotVersion, slotContent, readVersion, readContent, agreedVersion, agreedContent, againstKept, plainAnswer, keep, plainAnswers, keptOf, bookOf}
 use Rattle.book.proofs.Said.{member-low, from}
-use Rattle.book.proofs.Kept.{Unbroken, unless-accepted, Kept, keptOf-kept}
+use Rattle.book.proofs.Kept.{unless-accepted, Kept, keptOf-kept}
 use Rattle.book.proofs.Members.{deliveries-from, deliveries-of, reads-from, reads-of, agreements-from, agreements-of, named-from, named-of}
 use Rattle.book.proofs.Order.{Within, AsFar, as-far, same-book}
 
@@ -26,14 +25,9 @@ use Rattle.book.proofs.Order.{Within, AsFar, as-far, same-book}
 abbrev Valid : Head → Call → Type 0
 Valid h c = Unbroken (rule 1 (not (headOk h)) ∷ argumentRules h c)
 
-unless-valid : (rs : List Rule) (a : Answer) → Unbroken rs → unless rs a ≡ a
-unless-valid [] a u = refl
-unless-valid (rule n true ∷ rs) a u = absurd (false≢true (sym (u 0)))
-unless-valid (rule n false ∷ rs) a u = unless-valid rs a (λ k. u (suc k))
-
 valid-answer : (h : Head) (kept : List Call) (c : Call) → Valid h c → plainAnswer h kept c ≡ againstKept kept c
 unfolding plainAnswer
-valid-answer h kept c u = unless-valid (rule 1 (not (headOk h)) ∷ argumentRules h c) (againstKept kept c) u
+valid-answer h kept c u = unless-unbroken refused (rule 1 (not (headOk h)) ∷ argumentRules h c) (againstKept kept c) u
 
 -- the version rule accepts or answers 10, and 10 only where the version is not above the highest
 decided : (before version : ℕ) (same : Bool)

@@ -10,20 +10,21 @@ use native.Mathlib.Omega.{arith}
 use lib.Dec.{leb, ltb, eqb}
 use lib.ListN.{getD, replicate}
 use borrow.Author.Tests.{leb-false, lt-leb, lt-ltb, le-ltb, eqb-true, eqb-false, eq-eqb, ne-eqb}
+use Rattle.base.specs.Lists.{sum}
+use Rattle.base.proofs.Lists.{upTo-at}
+use Rattle.base.proofs.Logic.{or-parts, either}
+use Rattle.base.proofs.Sums.{sum-cong, sum-none}
 use Rattle.rules.specs.declared.Head.{Head}
-use Rattle.rules.specs.Lists.{sum}
 use Rattle.rules.specs.Opening.{intervalOk, slotsPerDay, slotCount}
 use Rattle.rules.proofs.Bounds.{Bounded}
-use Rattle.rules.proofs.Logic.{or-parts, either}
 use Rattle.rules.proofs.Small.{cond-small}
-use Rattle.rules.proofs.Sums.{sum-cong, sum-none}
 use Rattle.book.specs.Answers.{Answer, isAccepted, isStored, byVersion}
 use Rattle.book.specs.Arguments.{Call}
 use Rattle.book.specs.Arguments.Call.{delivery}
 use Rattle.book.specs.Cells.{deliveredIn}
-use Rattle.book.specs.Filling.{storedIn, countsWith, isFull}
+use Rattle.book.specs.Filling.{countsWith, isFull}
 use Rattle.book.specs.Plain.{deliveries, highest, slotVersion, slotContent, bookOf, deliveredOn, countsOf}
-use Rattle.book.proofs.Tables.{getD-upTo, upTo-zero, upTo-same, upTo-filed}
+use Rattle.book.proofs.Tables.{upTo-zero, upTo-same, upTo-filed}
 use Rattle.book.proofs.Said.{ruled, step}
 use Rattle.book.proofs.Next.{same-measured}
 
@@ -179,7 +180,7 @@ module _ (h : Head) (kept : List Call) (slot version value status : ℕ) where
       → countsOf h more ≡ countsWith found (bookOf h kept .slots .versions) (countsOf h kept) slot (slot / slotsPerDay h)
   unfolding countsOf bookOf
   counts-next positive inside within p ok =
-      rw (getD-upTo (slotVersion kept) (slotCount h) slot inside, getD-upTo (deliveredOn h kept) (h .days) (slot / slotsPerDay h) within)
+      rw (upTo-at (slotVersion kept) 0 (slotCount h) slot inside, upTo-at (deliveredOn h kept) 0 (h .days) (slot / slotsPerDay h) within)
       (upTo-filed (deliveredOn h kept) (deliveredOn h more) (h .days) (slot / slotsPerDay h) _ other-day found (this-day positive p ok))
 
 -- a day's slots lie in the book
@@ -225,4 +226,4 @@ pub delivered-on : (h : Head) (kept : List Call) (d : ℕ) → d * slotsPerDay h
 unfolding deliveredIn deliveredOn bookOf
 delivered-on h kept d within =
     sum-cong _ _ (d * slotsPerDay h) (slotsPerDay h)
-    (λ i l m. ap one (getD-upTo (slotVersion kept) (slotCount h) i (omega arith)))
+    (λ i l m. ap one (upTo-at (slotVersion kept) 0 (slotCount h) i (omega arith)))

@@ -6,9 +6,9 @@ use Prim.Native.Nat.{ℕ, zero, suc}
 use lib.Dec.{eqb}
 use lib.ListN.{length, getD}
 use borrow.Author.Tests.{eqb-true}
+use Rattle.base.proofs.Logic.{and-parts, passed}
 use Rattle.rules.specs.declared.Head.{Head}
 use Rattle.rules.specs.Opening.{slotCount, Cells}
-use Rattle.rules.proofs.Logic.{and-parts, passed}
 use Rattle.book.specs.Cells.{Book, allLong, slotsFit, daysFit, readsFit, agreedFits, cellsFits, cellsFit, countsFit, bookFits}
 
 -- length k of those that are all n

@@ -6,38 +6,23 @@ use Prim.Native.Nat.{ℕ, zero, suc, _≤_, _<_}
 use native.Mathlib.Omega.{arith}
 use lib.Dec.{eqb}
 use borrow.Author.Tests.{not-false, leb-false, ltb-false}
+use Rattle.base.specs.Refusals.{Rule, unless}
+use Rattle.base.specs.Refusals.Rule.{rule}
+use Rattle.base.proofs.Refusals.{Unbroken, unless-unbroken, unless-answered}
 use Rattle.rules.specs.declared.Head.{Head}
 use Rattle.rules.specs.Opening.{headOk, slotCount}
-use Rattle.book.specs.Answers.{Answer, isAccepted, Rule, unless}
-use Rattle.book.specs.Answers.Rule.{rule}
+use Rattle.book.specs.Answers.{Answer, isAccepted}
 use Rattle.book.specs.Arguments.{Call, argumentRules}
 use Rattle.book.specs.Arguments.Call.{delivery, holiday, register, agreed}
 use Rattle.book.specs.Plain.{againstKept, plainAnswer, keep, keptOf}
-
--- whether rule k of a list is broken
-abbrev pub broken : List Rule → ℕ → Bool
-broken [] k = false
-broken (rule n t ∷ rs) zero = t
-broken (rule n t ∷ rs) (suc k) = broken rs k
-
-abbrev pub Unbroken : List Rule → Type 0
-Unbroken rs = (k : ℕ) → broken rs k ≡ false
-
-unbroken-next : (n : ℕ) (rs : List Rule) → Unbroken rs → Unbroken (rule n false ∷ rs)
-unbroken-next n rs u zero = refl
-unbroken-next n rs u (suc k) = u k
+use Rattle.book.specs.Answers.Answer.{refused}
 
 -- an accepted answer is the one that follows the rules, and none of them is broken
-pub unless-accepted : (rs : List Rule) (a : Answer) → isAccepted (unless rs a) ≡ true → (unless rs a ≡ a) × Unbroken rs
-unless-accepted [] a ok = (refl, λ k. refl)
-unless-accepted (rule n true ∷ rs) a ok = absurd (false≢true ok)
-unless-accepted (rule n false ∷ rs) a ok = let r = unless-accepted rs a ok in (r .0, unbroken-next n rs (r .1))
-
--- answers that are equal where no rule is broken are equal behind the rules
-pub unless-same : (rs : List Rule) (a b : Answer) → (Unbroken rs → a ≡ b) → unless rs a ≡ unless rs b
-unless-same [] a b same = same (λ k. refl)
-unless-same (rule n true ∷ rs) a b same = refl
-unless-same (rule n false ∷ rs) a b same = unless-same rs a b (λ u. same (unbroken-next n rs u))
+pub unless-accepted : (rules : List Rule) (a : Answer) → isAccepted (unless refused rules a) ≡ true
+    → (unless refused rules a ≡ a) × Unbroken rules
+unless-accepted rules a ok =
+    let u : Unbroken rules = unless-answered refused (λ x. isAccepted x ≡ true) (λ n. false≢true) rules a ok .1 in
+    (unless-unbroken refused rules a u, u)
 
 -- what a call names exists, and its numbers are in bounds
 abbrev pub Sound : Head → Call → Type 0

@@ -5,10 +5,10 @@ use mathlib.Core.List.{List, _∷_}
 use Prim.Native.Nat.{ℕ, suc, _/_}
 use lib.Dec.{eqb}
 use borrow.Author.Tests.{eqb-true, eq-eqb, ne-eqb}
+use Rattle.base.specs.Lists.{upTo}
+use Rattle.base.proofs.Logic.{and-parts}
 use Rattle.rules.specs.declared.Head.{Head}
 use Rattle.rules.specs.Opening.{slotsPerDay, slotCount, Cells}
-use Rattle.rules.proofs.Logic.{and-parts}
-use Rattle.rules.specs.Spans.{upTo}
 use Rattle.book.specs.Answers.{Answer, isAccepted, isStored, byVersion}
 use Rattle.book.specs.Answers.Answer.{done, stored, late, repeat, refused}
 use Rattle.book.specs.Arguments.{Call}

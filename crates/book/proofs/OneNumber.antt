@@ -7,9 +7,9 @@ use native.Mathlib.Omega.{arith}
 use lib.Dec.{leb, ltb}
 use lib.ListN.{length, getD}
 use borrow.Author.Tests.{le-leb, lt-leb, ltb-true, ltb-false, le-ltb, ne-eqb}
+use Rattle.base.proofs.Logic.{either}
 use Rattle.rules.specs.declared.Head.{Head}
 use Rattle.rules.specs.Opening.{headOk, slotCount, Agreed}
-use Rattle.rules.proofs.Logic.{either}
 use Rattle.book.specs.Arguments.{argumentRules}
 use Rattle.book.specs.Cells.{Reads, readsFit, agreedFits}
 use Rattle.book.specs.Filling.{againstBoundary, againstAgreed, registerAnswer, agreeAnswer}

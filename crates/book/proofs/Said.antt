@@ -8,8 +8,8 @@ use native.Mathlib.Nat.{le-antisymm, le-of-lt, le-trans, le-max-left, le-max-rig
 use native.Mathlib.Omega.{arith}
 use lib.Dec.{ltb}
 use borrow.Author.Tests.{ltb-true, ltb-false, eq-eqb, ne-eqb}
-use Rattle.rules.proofs.Logic.{either}
-use Rattle.rules.specs.Spans.{upTo}
+use Rattle.base.specs.Lists.{upTo}
+use Rattle.base.proofs.Logic.{either}
 use Rattle.book.specs.Answers.{Answer, isAccepted, isStored, byVersion}
 use Rattle.book.specs.Answers.Answer.{stored, late, repeat, refused}
 use Rattle.book.specs.Filling.{storedIn}

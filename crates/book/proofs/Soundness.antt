@@ -4,17 +4,17 @@ use mathlib.Core.Bool.{true, false}
 use mathlib.Core.List.{List, []}
 use Prim.Native.Nat.{ℕ, suc, _<_}
 use native.Mathlib.Omega.{arith}
+use Rattle.base.specs.Lists.{any}
+use Rattle.base.proofs.Lists.{upTo-at}
+use Rattle.base.proofs.Sums.{any-none}
 use Rattle.rules.specs.declared.Head.{Head}
 use borrow.Author.Tests.{eq-eqb}
 use Rattle.rules.specs.Opening.{slotCount}
-use Rattle.rules.specs.Lists.{any}
-use Rattle.rules.proofs.Sums.{any-none}
 use Rattle.book.specs.Arguments.{Call}
 use Rattle.book.specs.Cells.{readsOf, slotFaultAt, dayFaultAt, readFaultAt, agreedFaultAt, countFaultAt, cellsOk, bookFits, bookOk}
 use Rattle.book.specs.Opening.{opened}
 use Rattle.book.specs.Filling.{afterAll}
 use Rattle.book.specs.Plain.{keptOf, bookOf, deliveredOn, countsOf, listsOf}
-use Rattle.book.proofs.Tables.{getD-upTo}
 use Rattle.book.proofs.Kept.{Kept, keptOf-kept}
 use Rattle.book.proofs.Clean.{slot-clean, day-clean, read-clean, agreed-clean}
 use Rattle.book.proofs.Agreement.{book-fits, lists-agree}
@@ -25,25 +25,25 @@ module _ (h : Head) (kept : List Call) (ok : Kept h kept) where
   unfolding bookOf
   slots-clean =
       any-none (slotFaultAt (bookOf h kept .slots)) 0 (slotCount h)
-      (λ i l m. let lt : i < slotCount h = omega arith in simp getD-upTo (slot-clean h kept ok i))
+      (λ i l m. let lt : i < slotCount h = omega arith in simp upTo-at (slot-clean h kept ok i))
 
   days-clean : any (dayFaultAt (bookOf h kept .holidays)) 0 (h .days) ≡ false
   unfolding bookOf
   days-clean =
       any-none (dayFaultAt (bookOf h kept .holidays)) 0 (h .days)
-      (λ i l m. let lt : i < h .days = omega arith in simp getD-upTo (day-clean h kept ok i))
+      (λ i l m. let lt : i < h .days = omega arith in simp upTo-at (day-clean h kept ok i))
 
   reads-clean : any (readFaultAt (readsOf (bookOf h kept))) 0 (suc (h .days)) ≡ false
   unfolding bookOf
   reads-clean =
       any-none (readFaultAt (readsOf (bookOf h kept))) 0 (suc (h .days))
-      (λ i l m. let lt : i < suc (h .days) = omega arith in simp getD-upTo (read-clean h kept ok i))
+      (λ i l m. let lt : i < suc (h .days) = omega arith in simp upTo-at (read-clean h kept ok i))
 
   agreements-clean : any (agreedFaultAt (bookOf h kept .agreed)) 0 (slotCount h) ≡ false
   unfolding bookOf
   agreements-clean =
       any-none (agreedFaultAt (bookOf h kept .agreed)) 0 (slotCount h)
-      (λ i l m. let lt : i < slotCount h = omega arith in simp getD-upTo (agreed-clean h kept ok i))
+      (λ i l m. let lt : i < slotCount h = omega arith in simp upTo-at (agreed-clean h kept ok i))
 
   cells-ok : cellsOk h (bookOf h kept) ≡ true
   unfolding cellsOk
@@ -53,7 +53,7 @@ module _ (h : Head) (kept : List Call) (ok : Kept h kept) where
 count-right : (h : Head) (kept : List Call) (d : ℕ) → d < h .days → countFaultAt h (bookOf h kept .slots .versions) (countsOf h kept) d ≡ false
 unfolding countsOf
 count-right h kept d lt =
-    rw (getD-upTo (deliveredOn h kept) (h .days) d lt, delivered-on h kept d (day-within h d lt), eq-eqb (deliveredOn h kept d) (deliveredOn h kept d) refl)
+    rw (upTo-at (deliveredOn h kept) 0 (h .days) d lt, delivered-on h kept d (day-within h d lt), eq-eqb (deliveredOn h kept d) (deliveredOn h kept d) refl)
 
 counts-right : (h : Head) (kept : List Call) → any (countFaultAt h (bookOf h kept .slots .versions) (countsOf h kept)) 0 (h .days) ≡ false
 counts-right h kept =

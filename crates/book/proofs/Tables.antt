@@ -1,21 +1,16 @@
--- Tables f 0, f 1, ..: their length and places, and what one stored call changes in them.
+-- Tables f 0, f 1, ..: what one stored call changes in them.
 use mathlib.Core.Path.{_≡_, refl, ap, _∙_, fun-ext}
 use mathlib.Core.Bool.{Bool, true, false, cond}
 use mathlib.Core.List.{List, _∷_}
-use Prim.Native.Nat.{ℕ, zero, suc, _+_, _<_, _≤_}
+use Prim.Native.Nat.{ℕ, zero, suc, _+_, _≤_}
 use native.Mathlib.Nat.{add-zero, zero-add}
 use native.Mathlib.Omega.{arith}
 use lib.Dec.{eqb}
-use lib.ListN.{getD, set, replicate}
+use lib.ListN.{set, replicate}
 use borrow.Author.Tests.{eqb-true, eqb-false}
-use Rattle.rules.specs.Spans.{upTo}
-use Rattle.rules.proofs.Lists as lists
-pub use Rattle.rules.proofs.Lists.{length-upTo}
+use Rattle.base.specs.Lists.{upTo}
 use Rattle.book.specs.Answers.{Answer, isStored}
 use Rattle.book.specs.Filling.{storedIn}
-
-pub getD-upTo : (f : ℕ → ℕ) (n i : ℕ) → i < n → getD (upTo f 0 n) i 0 ≡ f i
-getD-upTo f n i lt = lists.getD-upTo f 0 0 n i lt ∙ ap f (zero-add i)
 
 pub upTo-zero : (a n : ℕ) → replicate {A = ℕ} n 0 ≡ upTo (λ i. 0) a n
 unfolding upTo

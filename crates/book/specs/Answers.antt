@@ -1,6 +1,5 @@
 -- What a call answers (01, The three calls that fill it; Numbers of a refusal).
 use mathlib.Core.Bool.{Bool, true, false, cond}
-use mathlib.Core.List.{List, [], _∷_}
 use Prim.Native.Nat.{ℕ}
 use lib.Dec.{ltb}
 use Rattle.book.specs.declared.Opened.{Opened}
@@ -49,15 +48,6 @@ isStored stored = true
 isStored late = false
 isStored repeat = false
 isStored (refused n) = false
-
--- a rule from the input: its number, and whether it is broken
-pub data Rule : Type 0 where
-  rule : ℕ → Bool → Rule
-
--- "The lowest applying number is given": the rules stand in the order of their numbers
-abbrev pub unless : List Rule → Answer → Answer
-unless [] a = a
-unless (rule n broken ∷ rules) a = cond broken (refused n) (unless rules a)
 
 -- the version before, the call's, and whether the contents are equal: higher stored, lower late, equal repeat or 10
 unfoldable pub byVersion : ℕ → ℕ → Bool → Answer

@@ -2,12 +2,12 @@
 use mathlib.Core.List.{List, [], _∷_}
 use Prim.Native.Nat.{ℕ}
 use lib.Dec.{leb, ltb, eqb}
+use Rattle.base.specs.Refusals.{Rule}
+use Rattle.base.specs.Refusals.Rule.{rule}
 use Rattle.rules.specs.declared.Head.{Head}
 use Rattle.rules.specs.Opening.{slotCount}
 use Rattle.book.specs.declared.calls.Call as coded
 use Rattle.book.specs.declared.calls.Call.the-variants as call
-use Rattle.book.specs.Answers.{Rule}
-use Rattle.book.specs.Answers.Rule.{rule}
 
 pub data Call : Type 0 where
   -- slot, version, value, status

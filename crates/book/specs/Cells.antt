@@ -4,8 +4,8 @@ use mathlib.Core.List.{List, [], _∷_}
 use Prim.Native.Nat.{ℕ, suc, _*_}
 use lib.Dec.{ltb, eqb}
 use lib.ListN.{length, getD}
+use Rattle.base.specs.Lists.{every, sum, any}
 use Rattle.rules.specs.declared.Head.{Head}
-use Rattle.rules.specs.Lists.{every, sum, any}
 use Rattle.rules.specs.Opening.{slotsPerDay, slotCount, Slots, Agreed, Cells}
 
 -- the lent lists of boundaries, the widths last (02, W10)

@@ -4,11 +4,12 @@ use mathlib.Core.List.{List, [], _∷_}
 use Prim.Native.Nat.{ℕ, _+_, _/_}
 use lib.Dec.{leb, eqb}
 use lib.ListN.{getD, set}
+use Rattle.base.specs.Refusals.{Rule, unless}
+use Rattle.base.specs.Refusals.Rule.{rule}
 use Rattle.rules.specs.declared.Head.{Head}
 use Rattle.rules.specs.Opening.{headOk, slotsPerDay, Slots, Agreed}
-use Rattle.book.specs.Answers.{Answer, isStored, Rule, unless, byVersion}
+use Rattle.book.specs.Answers.{Answer, isStored, byVersion}
 use Rattle.book.specs.Answers.Answer.{stored, repeat, refused}
-use Rattle.book.specs.Answers.Rule.{rule}
 use Rattle.book.specs.Arguments.{Call, argumentRules}
 use Rattle.book.specs.Arguments.Call.{delivery, holiday, register, agreed}
 use Rattle.book.specs.Cells.{Reads, Book, readsOf, slotsFit, daysFit, readsFit, agreedFits, countsFit, slotFault, dayFault, readFault, agreedFault}
@@ -55,7 +56,7 @@ againstDelivery h s counts slot version value status =
 -- a delivery
 unfoldable pub deliverAnswer : Head → Slots → List ℕ → ℕ → ℕ → ℕ → ℕ → Answer
 deliverAnswer h s counts slot version value status =
-    unless (inputRules h (slotsFit h s && countsFit h counts) (delivery slot version value status))
+    unless refused (inputRules h (slotsFit h s && countsFit h counts) (delivery slot version value status))
     (againstDelivery h s counts slot version value status)
 
 -- the slots after a delivery with this answer
@@ -81,7 +82,7 @@ countsAfter h s counts slot version value status =
 
 -- a holiday
 unfoldable pub holidayAnswer : Head → List ℕ → ℕ → Answer
-holidayAnswer h holidays day = unless (inputRules h (daysFit h holidays) (holiday day)) (againstDay (getD holidays day 0))
+holidayAnswer h holidays day = unless refused (inputRules h (daysFit h holidays) (holiday day)) (againstDay (getD holidays day 0))
 
 unfoldable pub holidayAfter : Head → List ℕ → ℕ → List ℕ
 holidayAfter h holidays day = storedIn (holidayAnswer h holidays day) holidays day 1
@@ -89,7 +90,7 @@ holidayAfter h holidays day = storedIn (holidayAnswer h holidays day) holidays d
 -- a register read
 unfoldable pub registerAnswer : Head → Reads → ℕ → ℕ → ℕ → ℕ → Answer
 registerAnswer h r boundary version reading width =
-    unless (inputRules h (readsFit h r) (register boundary version reading width))
+    unless refused (inputRules h (readsFit h r) (register boundary version reading width))
     (againstBoundary (getD (r .readVersions) boundary 0) (getD (r .readings) boundary 0) (getD (r .widths) boundary 0) version reading width)
 
 unfoldable pub registerAfter : Head → Reads → ℕ → ℕ → ℕ → ℕ → Reads
@@ -102,7 +103,7 @@ registerAfter h r boundary version reading width = record {
 -- an agreed value
 unfoldable pub agreeAnswer : Head → Agreed → ℕ → ℕ → ℕ → Answer
 agreeAnswer h a slot version value =
-    unless (inputRules h (agreedFits h a) (agreed slot version value))
+    unless refused (inputRules h (agreedFits h a) (agreed slot version value))
     (againstAgreed (getD (a .versions) slot 0) (getD (a .values) slot 0) version value)
 
 unfoldable pub agreeAfter : Head → Agreed → ℕ → ℕ → ℕ → Agreed

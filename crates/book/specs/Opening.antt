@@ -3,11 +3,12 @@ use mathlib.Core.Bool.{not}
 use mathlib.Core.List.{[], _∷_}
 use Prim.Native.Nat.{suc}
 use lib.ListN.{replicate}
+use Rattle.base.specs.Refusals.{unless}
+use Rattle.base.specs.Refusals.Rule.{rule}
 use Rattle.rules.specs.declared.Head.{Head}
 use Rattle.rules.specs.Opening.{headOk, slotCount}
-use Rattle.book.specs.Answers.{Answer, unless}
+use Rattle.book.specs.Answers.{Answer}
 use Rattle.book.specs.Answers.Answer.{done, stored, late, repeat, refused}
-use Rattle.book.specs.Answers.Rule.{rule}
 use Rattle.book.specs.Cells.{Book, bookFits}
 
 -- "Opening sets all cells to 0", "clears the two lists" (02, W1), the counts (02, W6) and the widths (02, W10)
@@ -26,7 +27,7 @@ opened h = record {
 
 -- "Opening answers done": 1 and 2 alone can refuse it
 unfoldable pub openAnswer : Head → Book → Answer
-openAnswer h b = unless (rule 1 (not (headOk h)) ∷ rule 2 (not (bookFits h b)) ∷ []) done
+openAnswer h b = unless refused (rule 1 (not (headOk h)) ∷ rule 2 (not (bookFits h b)) ∷ []) done
 
 -- a refused opening changes nothing
 abbrev pub openedIn : Answer → Head → Book → Book

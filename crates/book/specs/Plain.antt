@@ -3,13 +3,13 @@ use mathlib.Core.Bool.{Bool, false, not, cond, _&&_, _||_}
 use mathlib.Core.List.{List, [], _∷_}
 use Prim.Native.Nat.{ℕ, suc, max, _*_}
 use lib.Dec.{ltb, eqb}
+use Rattle.base.specs.Lists.{sum, upTo}
+use Rattle.base.specs.Refusals.{unless}
+use Rattle.base.specs.Refusals.Rule.{rule}
 use Rattle.rules.specs.declared.Head.{Head}
-use Rattle.rules.specs.Lists.{sum}
 use Rattle.rules.specs.Opening.{headOk, slotsPerDay, slotCount, Cells}
-use Rattle.rules.specs.Spans.{upTo}
-use Rattle.book.specs.Answers.{Answer, isAccepted, unless, byVersion}
-use Rattle.book.specs.Answers.Answer.{stored, repeat}
-use Rattle.book.specs.Answers.Rule.{rule}
+use Rattle.book.specs.Answers.{Answer, isAccepted, byVersion}
+use Rattle.book.specs.Answers.Answer.{stored, repeat, refused}
 use Rattle.book.specs.Arguments.{Call, argumentRules}
 use Rattle.book.specs.Cells.{Book}
 use Rattle.book.specs.Arguments.Call.{delivery, holiday, register, agreed}
@@ -109,7 +109,7 @@ againstKept kept (agreed slot version value) =
     byVersion (agreedVersion kept slot) version (eqb (agreedContent kept slot) value)
 
 unfoldable pub plainAnswer : Head → List Call → Call → Answer
-plainAnswer h kept c = unless (rule 1 (not (headOk h)) ∷ argumentRules h c) (againstKept kept c)
+plainAnswer h kept c = unless refused (rule 1 (not (headOk h)) ∷ argumentRules h c) (againstKept kept c)
 
 -- "A refused call isn't kept, every other is": the newest stands first
 unfoldable pub keep : Head → List Call → Call → List Call

@@ -7,7 +7,7 @@ ghost use mathlib.Core.Path.{_≡_};
 ghost use Prim.Native.Nat.{_+_, _≤_};
 ghost use lib.Dec.{ltb};
 ghost use lib.ListN.{length, getD};
-ghost use Rattle.rules.specs.Lists.{sum, any};
+ghost use Rattle.base.specs.Lists.{sum, any};
 ghost use Rattle.rules.specs.Opening.{headOk, slotCount};
 ghost use Rattle.rules.specs.Lent.{lentSlots, lentAgreed, lentCells};
 ghost use Rattle.book.specs.Cells.{slotFaultAt, dayFaultAt, readFaultAt, agreedFaultAt, countFaultAt, cellsFit, cellsOk, bookFits, bookOk};

@@ -3,8 +3,8 @@ use mathlib.Core.Bool.{true}
 use mathlib.Core.Path.{_≡_}
 use Prim.Native.Nat.{ℕ, _≤_}
 use borrow.Author.Tests.{leb-true}
+use Rattle.base.proofs.Logic.{and-parts}
 use Rattle.calendar.specs.Calendar.{monthLength, isDate}
-use Rattle.calendar.proofs.Logic.{and-parts}
 
 pub record Bounded (y m d : ℕ) : Type 0 where
   pub year-low : 2000 ≤ y

@@ -4,7 +4,8 @@ use mathlib.Core.Path.{_≡_, refl}
 use Prim.Native.Nat.{ℕ, _+_, _-_, _*_, _/_, _<_}
 use lib.Dec.{eqb}
 use lib.ListN.{getD}
-use Rattle.calendar.specs.Calendar.{leap, monthLengths, monthLength, yearLength, sum, daysBeforeYear}
+use Rattle.base.specs.Lists.{sum}
+use Rattle.calendar.specs.Calendar.{leap, monthLengths, monthLength, yearLength, daysBeforeYear}
 use Rattle.calendar.proofs.Table.{agreed, both-agreed}
 
 pub years-before : (k : ℕ) → k < 100 → daysBeforeYear k ≡ 365 * k + (k + 3) / 4

@@ -6,8 +6,9 @@ use native.Mathlib.Nat.{add-sub-cancel, add-sub-cancel-left}
 use native.Mathlib.Omega.{arith}
 use borrow.Author.Tests.{le-leb}
 use lib.ListN.{getD}
+use Rattle.base.specs.Lists.{sum}
 use Rattle.calendar.specs.declared.Date.{Date}
-use Rattle.calendar.specs.Calendar.{leap, monthLengths, monthLength, yearLength, sum, daysBeforeMonth, daysBeforeYear, dayNumber, isDate, dateOf}
+use Rattle.calendar.specs.Calendar.{leap, monthLengths, monthLength, yearLength, daysBeforeMonth, daysBeforeYear, dayNumber, isDate, dateOf}
 use Rattle.calendar.proofs.Bounds.{bounded}
 use Rattle.calendar.proofs.Places.{within, below, found}
 

@@ -1,4 +1,3 @@
-pub mod Logic
 pub mod Table
 pub mod Closed
 pub mod Starts

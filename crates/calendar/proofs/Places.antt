@@ -7,8 +7,10 @@ use native.Mathlib.Numerals.{add-one}
 use native.Mathlib.Omega.{arith}
 use borrow.Author.Tests.{ltb-true, ltb-false, lt-ltb, le-ltb}
 use lib.Dec.{ltb}
-use Rattle.calendar.specs.Calendar.{sum, place}
-use Rattle.calendar.proofs.Logic.{either}
+use Rattle.base.specs.Lists.{sum}
+use Rattle.base.proofs.Logic.{either}
+use Rattle.base.proofs.Sums.{sum-first}
+use Rattle.calendar.specs.Calendar.{place}
 
 -- n lies r past the start of length a + j, where j is at most k
 pub record Within (f : ℕ → ℕ) (a k n : ℕ) : Type 0 where
@@ -39,22 +41,14 @@ module _ (f : ℕ → ℕ) where
   left-small zero a n = le-refl n
   left-small (suc k) a n = ⊎-elim (λ e. rw e (le-refl n)) (λ e. rw e (omega (arith, left-small k (suc a) (n - f a)))) (either (ltb n (f a)))
 
-  -- `place` takes lengths off at the front, and `sum` adds them at the back
-  pub sum-first : (a k : ℕ) → sum f a (suc k) ≡ f a + sum f (suc a) k
-  unfolding sum
-  sum-first a zero = rw (add-zero a) (omega arith)
-  sum-first a (suc k) =
-      let e : a + suc k ≡ suc a + k = omega arith in
-      rw e (omega (arith, sum-first a k))
-
   pub found : (j k a r : ℕ) → j ≤ k → r < f (a + j) → place f k a (sum f a j + r) ≡ record { at = a + j; left = r }
   unfolding sum
   found zero k a r l h = rw (zero-add, add-zero) (place-here k a r (rw add-zero at h))
   found (suc j) zero a r l h = absurd (not-suc-le-zero l)
   found (suc j) (suc k) a r l h =
       let e : a + suc j ≡ suc a + j = omega arith in
-      let s : sum f a (suc j) + r - f a ≡ sum f (suc a) j + r = omega (arith, sum-first a j) in
-      place-on k a (sum f a (suc j) + r) (omega (arith, sum-first a j))
+      let s : sum f a (suc j) + r - f a ≡ sum f (suc a) j + r = omega (arith, sum-first f a j) in
+      place-on k a (sum f a (suc j) + r) (omega (arith, sum-first f a j))
       ∙ rw (s, e) (found j k (suc a) r (le-of-suc-le-suc l) (rw e at h))
 
   pub below : (j k a r : ℕ) → j ≤ k → r < f (a + j) → sum f a j + r < sum f a (suc k)

@@ -6,7 +6,8 @@ use Prim.Native.Nat.{ℕ, suc, _+_, _-_, _≤_, _<_}
 use native.Mathlib.Omega.{arith}
 use lib.ListN.{getD}
 use mir.Val.{boolByte}
-use Rattle.calendar.specs.Calendar.{leap, monthLengths, monthLength, sum, daysBeforeMonth}
+use Rattle.base.specs.Lists.{sum}
+use Rattle.calendar.specs.Calendar.{leap, monthLengths, monthLength, daysBeforeMonth}
 use Rattle.calendar.proofs.Table.{both-agreed}
 
 -- the source's `MONTH_STARTS`

@@ -1,13 +1,12 @@
 -- `toSunday` leads to the nearest Sunday strictly before a day (02, W3).
-use mathlib.Core.Bool.{Bool, true, false, cond}
 use mathlib.Core.Logic.{⊎-elim}
 use mathlib.Core.Path.{_≡_}
 use Prim.Native.Nat.{ℕ, _+_, _-_, _≤_, _<_}
 use native.Mathlib.Omega.{arith}
 use borrow.Author.Tests.{eqb-true, eqb-false}
 use lib.Dec.{eqb}
+use Rattle.base.proofs.Logic.{either}
 use Rattle.calendar.specs.Calendar.{weekday, toSunday}
-use Rattle.calendar.proofs.Logic.{either}
 
 pub one-to-seven : (n : ℕ) → (1 ≤ toSunday n) × (toSunday n ≤ 7)
 unfolding toSunday

@@ -4,6 +4,7 @@ use mathlib.Core.List.{List, [], _∷_}
 use Prim.Native.Nat.{ℕ, zero, suc, _+_, _-_, _%_}
 use lib.Dec.{leb, ltb, eqb}
 use lib.ListN.{getD}
+use Rattle.base.specs.Lists.{sum}
 use Rattle.calendar.specs.declared.Date.{Date}
 use Rattle.calendar.specs.declared.Place.{Place}
 
@@ -21,11 +22,6 @@ monthLength y m = getD (monthLengths (leap y)) (m - 1) 0
 
 unfoldable pub yearLength : ℕ → ℕ
 yearLength y = cond (leap y) 366 365
-
--- f a + f (a + 1) + .. , k terms
-unfoldable pub sum : (ℕ → ℕ) → ℕ → ℕ → ℕ
-sum f a zero = 0
-sum f a (suc k) = sum f a k + f (a + k)
 
 -- the days of the k months before month k + 1
 unfoldable pub daysBeforeMonth : ℕ → ℕ → ℕ

@@ -1,7 +1,7 @@
 -- Every starred case of 01, and those of 02, holds of the definitions, by computing them.
 use mathlib.Core.Path.{refl}
+use Rattle.base.specs.Lists.{sum, any}
 use Rattle.calendar.specs.Calendar.{leap, monthLengths, monthLength, yearLength, daysBeforeMonth, daysBeforeYear, dayNumber, isDate, toSunday}
-use Rattle.rules.specs.Lists.{sum, any}
 use Rattle.rules.specs.Opening.{firstDay, intervalOk, headOk, slotsPerDay, slotCount}
 use Rattle.rules.specs.Tests.{isGap, timeChangeBit, outageBit, partialBit, causeOf, causeAt, goodAt}
 use Rattle.rules.specs.Weeks.{firstBack, farthestBack, weeksWithin}

@@ -5,13 +5,13 @@ use mathlib.Core.Path.{_≡_}
 use Prim.Native.Nat.{ℕ, _*_, _-_}
 use lib.Dec.{eqb}
 use lib.ListN.{replicate}
+use Rattle.base.specs.Lists.{every}
 use Rattle.calendar.specs.Calendar.{dayNumber}
 use Rattle.rules.specs.declared.Head.{Head}
 use Rattle.rules.specs.declared.Outcome.{Outcome}
 use Rattle.rules.specs.declared.Quality.{Quality}
 use Rattle.rules.specs.declared.tests.Cause.{Cause}
 use Rattle.rules.specs.declared.tests.Cause.the-variants.{Nothing, Demand}
-use Rattle.rules.specs.Lists.{every}
 use Rattle.rules.specs.Opening.{Slots, Cells}
 use Rattle.rules.specs.Tests.{causeAt}
 use Rattle.rules.specs.Filling.{isLinear, linearValue, isReference, references, total, meanOf, fromReferences, shapeOf, shapeAt}

@@ -1,19 +1,16 @@
 -- Two figures for one slot under one version: the first that comes is kept, so the order of a conflict matters.
-use mathlib.Core.Bool.{true}
-use mathlib.Core.List.{List, [], _∷_, List·Memᴰ, List·Memᴰ·head, List·Memᴰ·tail, List·Memᴰ·not-nil}
+use mathlib.Core.List.{[], _∷_, List·Memᴰ, List·Memᴰ·head, List·Memᴰ·tail, List·Memᴰ·not-nil}
 use mathlib.Core.Path.{_≡_, refl, ap}
-use Prim.Native.Nat.{ℕ, _<_}
+use Prim.Native.Nat.{_<_}
 use native.Mathlib.Omega.{arith}
-use lib.Dec.{lit<}
-use lib.ListN.{length}
+use Rattle.base.specs.Lists.{sum, upTo}
 use Rattle.calendar.specs.Calendar.{leap, monthLengths, monthLength, yearLength, daysBeforeMonth, daysBeforeYear, dayNumber, isDate}
 use Rattle.rules.specs.declared.Head.{Head}
 use Rattle.rules.specs.declared.Outcome.{Outcome}
-use Rattle.rules.specs.Lists.{sum}
 use Rattle.rules.specs.Opening.{headOk, intervalOk, firstDay, slotsPerDay, slotCount}
 use Rattle.rules.specs.Tests.{isGap, timeChangeBit, partialBit, causeOf, causeAt, goodAt}
 use Rattle.rules.specs.Filling.{filledAt}
-use Rattle.rules.specs.Spans.{isRead, lastRead, nextRead, between, outcomeAt, upTo}
+use Rattle.rules.specs.Spans.{isRead, lastRead, nextRead, between, outcomeAt}
 use Rattle.book.specs.Answers.{byVersion}
 use Rattle.book.specs.Answers.Answer.{done}
 use Rattle.book.specs.Arguments.{Call, argumentRules}
@@ -21,7 +18,7 @@ use Rattle.book.specs.Arguments.Call.{delivery}
 use Rattle.book.specs.Cells.{allLong, slotsFit, daysFit, readsFit, agreedFits, cellsFit, countsFit, bookFits}
 use Rattle.book.specs.Opening.{opened, openAnswer}
 use Rattle.book.specs.Plain.{deliveries, reads, highest, contentWith, againstKept, plainAnswer, keep, keptOf, bookOf}
-use Rattle.claim.specs.Claim.{plainOf, SameCalls, ConflictMatters}
+use Rattle.claim.specs.Claim.{plainOf, ConflictMatters}
 use Rattle.claim.proofs.WholeLists.{claim}
 
 -- one day of half hours

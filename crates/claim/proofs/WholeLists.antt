@@ -1,6 +1,6 @@
 -- The claim about whole lists.
-use mathlib.Core.Bool.{Bool, true, false, not, cond}
-use mathlib.Core.List.{List, [], _∷_, _++_, List·Memᴰ}
+use mathlib.Core.Bool.{Bool, true, false, cond}
+use mathlib.Core.List.{List, [], _++_, List·Memᴰ}
 use mathlib.Core.Logic.{_↔_}
 use mathlib.Core.Path.{_≡_, refl, sym, ap, subst, _∙_}
 use Prim.Native.Nat.{ℕ, _<_}
@@ -9,18 +9,19 @@ use native.Mathlib.Omega.{arith}
 use lib.Dec.{ltb}
 use lib.ListN.{length, getD, drop}
 use lib.Seq.{ext-getD}
+use Rattle.base.specs.Lists.{upTo}
+use Rattle.base.proofs.Lists.{getD-upTo, upTo-cong}
+use Rattle.base.proofs.Logic.{and-parts, passed}
 use Rattle.calendar.proofs.Dates.{one-date}
 use Rattle.rules.specs.declared.Head.{Head}
 use Rattle.rules.specs.declared.Outcome.{Outcome}
 use Rattle.rules.specs.declared.Span.{Span}
 use Rattle.rules.specs.Opening.{Cells, dayTests, headTests, headOk, firstDay, slotsPerDay, slotCount}
-use Rattle.rules.specs.Spans.{outcomeAt, noSpan, upTo, outcomes, spans}
-use Rattle.rules.proofs.Logic.{and-parts, passed}
+use Rattle.rules.specs.Spans.{outcomeAt, noSpan, outcomes, spans}
 use Rattle.book.specs.Arguments.{Call}
-use Rattle.book.specs.Answers.{Answer, unless}
+use Rattle.book.specs.Answers.{Answer}
 use Rattle.book.specs.Answers.Answer.{done, refused}
-use Rattle.book.specs.Answers.Rule.{rule}
-use Rattle.book.specs.Cells.{Book, bookFits, cellsOk, bookOk}
+use Rattle.book.specs.Cells.{Book, cellsOk, bookOk}
 use Rattle.book.specs.Opening.{opened, openAnswer, openedIn, openAfter}
 use Rattle.book.specs.Filling.{answers}
 use Rattle.book.specs.Plain.{plainAnswers, keptOf}
@@ -35,7 +36,6 @@ use Rattle.file.specs.Layout.{Content, fileOf}
 use Rattle.publishing.specs.Publishing.{published, fileLength, bytesAfter, publishAnswer, publishAfter}
 use Rattle.publishing.specs.Inner.Publishing.{Sound}
 use Rattle.file.proofs.Content.{length-file}
-use Rattle.rules.proofs.Lists.{getD-upTo, upTo-cong}
 use Rattle.publishing.proofs.Files.{files-equal}
 use Rattle.claim.proofs.Last.{answer-last}
 use Rattle.claim.proofs.Accepted.{kept-of, accepted-of}
@@ -127,11 +127,9 @@ sound h cs good =
 -- an accepted opening: the head is good, and the lists are the opened ones
 opens : (h : Head) (b : Book) → openAnswer h b ≡ done → (headOk h ≡ true) × (openAfter h b ≡ opened h)
 unfolding openAnswer openAfter
-opens h b e = (done-head (headOk h) (bookFits h b) e, ap (λ (a : Answer). openedIn a h b) e)
-  where
-    done-head : (x y : Bool) → unless (rule 1 (not x) ∷ rule 2 (not y) ∷ []) done ≡ done → x ≡ true
-    done-head true y e = refl
-    done-head false y e = let z : _≡_ {A = ℕ} 0 1 = cc in absurd (omega arith)
+opens h b e =
+    let (_, kept) = unless-answered refused (λ a. a ≡ done) (λ n r. let z : _≡_ {A = ℕ} 0 1 = cc in omega arith) _ _ e in
+    (not-false _ (kept 0), ap (λ (a : Answer). openedIn a h b) e)
 
 -- equal plain books under one head have equal files
 same-file : (h g : Head) (cs ds : List Call) → h ≡ g → plainOf h cs ≡ plainOf h ds → plainFile h cs ≡ plainFile g ds

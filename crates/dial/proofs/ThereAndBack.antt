@@ -1,16 +1,16 @@
 -- What holds of the conversions together: every reading has one form, `unpack` accepts exactly the forms, and both ways lead back.
-use mathlib.Core.Bool.{true, false}
-use mathlib.Core.List.{List, [], _∷_}
+use mathlib.Core.Bool.{false}
+use mathlib.Core.List.{List}
 use mathlib.Core.Path.{_≡_, refl, sym, ap, _∙_}
 use Prim.Native.Nat.{ℕ, _≤_, _<_, _^_}
 use native.Mathlib.Omega.{arith}
 use borrow.Author.Tests.{eqb-true, eq-eqb, ltb-false, le-ltb, not-false}
 use lib.ListN.{length}
+use Rattle.base.proofs.Refusals.{unless-answered}
 use Rattle.dial.specs.declared.Packed.{Packed}
 use Rattle.dial.specs.declared.Packed.the-variants as packed
 use Rattle.dial.specs.declared.Unpacked.the-variants as unpacked
-use Rattle.dial.specs.Dial.{form, aboveNine, readingOf, Rule, unless, packRules, packAnswer, bytesAfter, packAfter, unpackRules, unpackAnswer}
-use Rattle.dial.specs.Dial.Rule.{rule}
+use Rattle.dial.specs.Dial.{form, aboveNine, readingOf, packRules, packAnswer, bytesAfter, packAfter, unpackRules, unpackAnswer}
 use Rattle.dial.specs.Claim.{OneForm, AcceptsExactly, PackedThenUnpacked, UnpackedThenPacked}
 use Rattle.dial.proofs.Forms.{form-packed, packed-digits, reading-packed, reading-low, packed-reading}
 
@@ -22,26 +22,14 @@ form-read reading h =
     let back : readingOf (form reading) ≡ reading = ap readingOf (form-packed reading) ∙ reading-packed 4 reading (omega arith) in
     rw (digits, back)
 
--- no rule of a list is broken
-abbrev Kept : List Rule → Type 0
-Kept [] = Unit {0}
-Kept (rule n broken ∷ rules) = (broken ≡ false) × Kept rules
-
--- an answer that is no refusal is given where no rule is broken
-kept : {Answer : Type 0} (refused : ℕ → Answer) (rules : List Rule) (a b : Answer) → ((n : ℕ) → refused n ≡ b → ⊥)
-    → unless refused rules a ≡ b → Kept rules × (a ≡ b)
-kept refused [] a b other e = (tt, e)
-kept refused (rule n true ∷ rules) a b other e = absurd (other n e)
-kept refused (rule n false ∷ rules) a b other e =
-    let (k, same) = kept refused rules a b other e in
-    ((refl, k), same)
-
 -- what is read as a reading is the form of that reading
 read-form : (bytes : List ℕ) (reading : ℕ) → unpackAnswer bytes ≡ unpacked.Reading reading → (reading ≤ 99999999) × (form reading ≡ bytes)
 unfolding unpackAnswer
 read-form bytes reading e =
-    let ((four, (digits, _)), same) = kept unpacked.Refused (unpackRules bytes) _ _ (λ n r. let z : _≡_ {A = ℕ} 0 1 = cc in omega arith) e in
-    let long : length bytes ≡ 4 = eqb-true _ _ (not-false _ four) in
+    let (same, kept) =
+    unless-answered unpacked.Refused (λ a. a ≡ unpacked.Reading reading) (λ n r. let z : _≡_ {A = ℕ} 0 1 = cc in omega arith) (unpackRules bytes) _ e in
+    let digits : aboveNine bytes ≡ false = kept 1 in
+    let long : length bytes ≡ 4 = eqb-true _ _ (not-false _ (kept 0)) in
     let read : readingOf bytes ≡ reading = cc in
     let low : reading < 100 ^ 4 = rw (read, long) at (reading-low bytes digits) in
     let back = rw (read, long) at (packed-reading bytes digits) in
@@ -71,8 +59,9 @@ one-reading m n h l e =
 pub packed-then-unpacked : PackedThenUnpacked
 unfolding packAnswer packAfter
 packed-then-unpacked reading bytes e =
-    let ((_, (low, _)), _) = kept packed.Refused (packRules reading bytes) _ _ (λ n r. let z : _≡_ {A = ℕ} 0 1 = cc in omega arith) e in
-    ap (λ (a : Packed). unpackAnswer (bytesAfter a reading bytes)) e ∙ form-read reading (ltb-false _ _ low)
+    let (_, kept) =
+    unless-answered packed.Refused (λ a. a ≡ packed.Done) (λ n r. let z : _≡_ {A = ℕ} 0 1 = cc in omega arith) (packRules reading bytes) _ e in
+    ap (λ (a : Packed). unpackAnswer (bytesAfter a reading bytes)) e ∙ form-read reading (ltb-false _ _ (kept 1))
 
 -- there and back from bytes, into any four
 pub unpacked-then-packed : UnpackedThenPacked

@@ -1,9 +1,11 @@
 -- Dials in packed decimal (02, W9).
-use mathlib.Core.Bool.{Bool, false, cond, not, _||_}
+use mathlib.Core.Bool.{Bool, false, not, _||_}
 use mathlib.Core.List.{List, [], _∷_}
 use Prim.Native.Nat.{ℕ, _+_, _*_, _/_, _%_, _^_}
 use lib.Dec.{ltb, eqb}
 use lib.ListN.{length}
+use Rattle.base.specs.Refusals.{Rule, unless}
+use Rattle.base.specs.Refusals.Rule.{rule}
 use Rattle.dial.specs.declared.Packed.{Packed}
 use Rattle.dial.specs.declared.Packed.the-variants as packed
 use Rattle.dial.specs.declared.Unpacked.{Unpacked}
@@ -43,15 +45,6 @@ readingOf [] = 0
 readingOf (byte ∷ bytes) = 10 * upper byte + lower byte + 100 * readingOf bytes
 
 -- ---- What the two conversions answer
-
--- a number of a refusal, and whether its rule is broken
-pub data Rule : Type 0 where
-  rule : ℕ → Bool → Rule
-
--- the first broken rule's refusal, or the answer where none is broken
-abbrev pub unless : {Answer : Type 0} → (ℕ → Answer) → List Rule → Answer → Answer
-unless refused [] answer = answer
-unless refused (rule n broken ∷ rules) answer = cond broken (refused n) (unless refused rules answer)
 
 -- "other than four bytes is 2, before both"
 abbrev pub notFour : List ℕ → Bool

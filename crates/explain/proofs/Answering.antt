@@ -5,10 +5,10 @@ use Prim.Native.Nat.{ℕ, _≤_, _<_}
 use native.Mathlib.Nat.{zero-add}
 use borrow.Author.Tests.{le-leb, lt-leb}
 use lib.ListN.{getD}
+use Rattle.base.proofs.Lists.{getD-upTo}
 use Rattle.rules.specs.declared.Head.{Head}
 use Rattle.rules.specs.Opening.{Cells, headOk, slotCount}
 use Rattle.rules.specs.Spans.{outcomeAt, outcomes}
-use Rattle.rules.proofs.Lists.{getD-upTo}
 use Rattle.book.specs.Cells.{Book, bookFits, bookOk}
 use Rattle.publishing.specs.Publishing.{published}
 use Rattle.explain.specs.declared.Explanation.{Explanation}

@@ -9,10 +9,11 @@ use native.Mathlib.Numerals.{sub-one}
 use native.Mathlib.Omega.{arith}
 use borrow.Author.Tests.{eq-eqb, ne-eqb}
 use lib.Dec.{eqb}
+use Rattle.base.specs.Lists.{sum}
+use Rattle.base.proofs.Sums.{sum-cong}
 use Rattle.rules.specs.declared.Head.{Head}
 use Rattle.rules.specs.declared.spans.Scaling.{Scaling}
 use Rattle.rules.specs.declared.spans.Summary.{Summary}
-use Rattle.rules.specs.Lists.{sum}
 use Rattle.rules.specs.Opening.{Slots, Agreed, Cells, slotsPerDay, slotCount}
 use Rattle.rules.specs.Spans.{isS, isRead, lastRead, nextRead, filled, shape, start, slotsIn, G, range, R, actual, stateOf, T, allZero, e, E, P}
 use Rattle.rules.specs.Lent.{cells}
@@ -22,7 +23,6 @@ use Rattle.rules.proofs.Bounds.{Bounded}
 use Rattle.rules.proofs.Boundaries.{last-tells, next-tells}
 use Rattle.rules.proofs.Meeting.{scaled-advance}
 use Rattle.rules.proofs.Shapes.{shape-of-s}
-use Rattle.rules.proofs.Sums.{sum-cong}
 use Rattle.explain.specs.declared.Spanned.{Spanned}
 use Rattle.explain.specs.Explain.{noneSpanned, spannedBy, earlier, later}
 use Rattle.explain.specs.Inner.Holding.{unscaled, scalingWith, spannedWith, Between}

@@ -8,13 +8,13 @@ use native.Mathlib.Numerals.{add-one}
 use native.Mathlib.Omega.{arith}
 use borrow.Author.Tests.{ltb-true, ltb-false}
 use lib.Dec.{ltb}
+use Rattle.base.proofs.Logic.{either}
 use Rattle.rules.specs.declared.Head.{Head}
 use Rattle.rules.specs.declared.fills.Fills.{Fills}
 use Rattle.rules.specs.declared.linear.Line.{Line}
 use Rattle.rules.specs.Opening.{Slots, slotCount}
 use Rattle.rules.specs.Tests.{goodAt}
 use Rattle.rules.specs.Inner.Fills.{zeroAt, zeroBefore, bareLine, lineAt, lineBefore, fillsAt}
-use Rattle.rules.proofs.Logic.{either}
 use Rattle.rules.proofs.Outages.{zero-none, good-delivered}
 use Rattle.rules.proofs.Lines.{line-none}
 use Rattle.rules.proofs.Runs.{run-good}

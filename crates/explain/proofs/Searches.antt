@@ -11,13 +11,13 @@ use borrow.Author.Tests.{lt-ltb, le-ltb, ltb-true, ltb-false}
 use lib.Dec.{lit<, ltb}
 use lib.ListN.{length, getD, take, set, length-set, List·getD-eq-default}
 use lib.Seq.{take-suc-set, take-nil, getD-take, getD-set-other, length-take-le, ext-getD}
+use Rattle.base.proofs.Logic.{either}
 use Rattle.rules.specs.declared.Head.{Head}
 use Rattle.rules.specs.Opening.{Slots, slotsPerDay}
 use Rattle.rules.specs.Weeks.{firstBack, farthestBack, weeksWithin}
 use Rattle.rules.specs.Filling.{isReference, references}
 use Rattle.rules.specs.Inner.Ways.{searched, InBook}
 use Rattle.rules.proofs.Bounds.{Bounded}
-use Rattle.rules.proofs.Logic.{either}
 use Rattle.rules.proofs.References.{references-searched}
 use Rattle.explain.specs.References.{eachWeek, eachReference, inFour}
 

@@ -10,6 +10,8 @@ use native.Mathlib.Omega.{arith}
 use borrow.Author.Tests.{ne-eqb}
 use lib.Dec.{eqb}
 use lib.ListN.{length}
+use Rattle.base.proofs.Logic.{either}
+use Rattle.base.proofs.Sums.{any-some}
 use Rattle.rules.specs.declared.Head.{Head}
 use Rattle.rules.specs.declared.Outcome.{Outcome}
 use Rattle.rules.specs.declared.spans.Scaling.{Scaling}
@@ -24,12 +26,10 @@ use Rattle.rules.specs.Inner.Fills.{lineAt, lineThrough, fillsAt}
 use Rattle.rules.specs.Inner.Summaries.{scaledBy}
 use Rattle.rules.specs.Inner.Stretches.{spanStretch, stretchOf, stretchOn, stretchAt, fitOutcome, fitNext, Fits, beginsAt}
 use Rattle.rules.proofs.Bounds.{Bounded}
-use Rattle.rules.proofs.Logic.{either}
 use Rattle.rules.proofs.Lines.{fills-line}
 use Rattle.rules.proofs.Places.{span-end}
 use Rattle.rules.proofs.Scaling.{running, zero-each, shape-positive}
 use Rattle.rules.proofs.Steps.{step-fits, step-done}
-use Rattle.rules.proofs.Sums.{any-some}
 use Rattle.explain.specs.declared.Rule.{Rule}
 use Rattle.explain.specs.declared.Found.{Found}
 use Rattle.explain.specs.declared.Shares.{Shares}

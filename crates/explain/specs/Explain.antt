@@ -5,6 +5,8 @@ use mathlib.Core.Option.{Option, none, some}
 use Prim.Native.Nat.{ℕ, suc, _+_, _-_, _/_}
 use lib.Dec.{leb, eqb}
 use lib.ListN.{getD, length}
+use Rattle.base.specs.Refusals.{firstBroken}
+use Rattle.base.specs.Refusals.Rule.{rule}
 use Rattle.rules.specs.declared.Head.{Head}
 use Rattle.rules.specs.declared.Outcome.{Outcome}
 use Rattle.rules.specs.declared.Quality.the-variants.{N}
@@ -14,8 +16,6 @@ use Rattle.rules.specs.Opening.{Slots, Agreed, Cells, headOk, slotsPerDay, slot
 use Rattle.rules.specs.Tests.{causeAt, goodAt}
 use Rattle.rules.specs.Filling.{isOutageZero, isAgreed, runBefore, runStart, runLength, isLinear, references, filledAt}
 use Rattle.rules.specs.Spans.{isS, lastRead, nextRead, range, actual, R, stateOf, T, E, P, C, outcomeAt}
-use Rattle.book.specs.Answers as answers
-use Rattle.book.specs.Answers.Rule.{rule}
 use Rattle.book.specs.Cells.{Book, bookFits, bookOk}
 use Rattle.explain.specs.declared.Rule.{Rule}
 use Rattle.explain.specs.declared.Rule.the-variants.{Delivered, Agreed as Settled, OutageZero, Linear, SameDay, Nothing}
@@ -148,11 +148,6 @@ nothingTold = record {
   shares = noShares;
   outcome = noOutcome;
 }
-
--- the first broken rule's number, or 0
-abbrev pub firstBroken : List answers.Rule → ℕ
-firstBroken [] = 0
-firstBroken (rule k broken ∷ rules) = cond broken k (firstBroken rules)
 
 -- refused as publishing is, and with 3 for a slot that is none
 unfoldable pub explainRefusal : Head → Book → ℕ → ℕ

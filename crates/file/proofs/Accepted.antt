@@ -8,19 +8,20 @@ use borrow.Author.Tests.{le-leb, eq-eqb}
 use lib.Dec.{lit<, leb, eqb}
 use lib.ListN.{length, length-append}
 use lib.Seq.{take-at}
+use Rattle.base.specs.Lists.{sum}
+use Rattle.base.proofs.Lists.{upTo-list}
+use Rattle.base.proofs.Logic.{bit-le}
+use Rattle.base.proofs.Sums.{sum-cong}
 use Rattle.rules.specs.declared.Outcome.{Outcome}
 use Rattle.rules.specs.declared.Quality.{Quality}
 use Rattle.rules.specs.declared.Quality.the-variants.{A, S, F, N}
-use Rattle.rules.specs.Lists.{sum}
 use Rattle.rules.specs.Spans.{isA, isS, isF, isN}
-use Rattle.rules.proofs.Sums.{sum-cong}
 use Rattle.file.specs.declared.Verdict.the-variants.{Accepted}
 use Rattle.file.specs.Layout.{Content, letter, total, one, row, ranged, spanWidth, trailerRow, figuresOf, tablesOf, fileOf}
 use Rattle.file.specs.Reader.{figures, slotCount, layoutFits, countOf, tablesAt, trailerOk, tablesOk, figuresOk, readFile, partOf, tablesPart}
 use Rattle.file.specs.Contents.{Fitting, WellFormed, slot, noSlot, recordsOf}
-use Rattle.file.proofs.Logic.{bit-le}
 use Rattle.file.proofs.Rows.{length-row}
-use Rattle.file.proofs.Lists.{upTo-list, total-sum, total-le}
+use Rattle.file.proofs.Lists.{total-sum, total-le}
 use Rattle.file.proofs.Head.{slots-le}
 use Rattle.file.proofs.Fitting.{fitting}
 use Rattle.file.proofs.Content.{slot-back, span-back, first-back, days-back, interval-back, layout-back, spans-back, distance-back, trailer-field, length-file}

@@ -3,16 +3,14 @@ use mathlib.Core.Path.{_≡_, sym, ap, _∙_, subst}
 use mathlib.Core.Bool.{Bool, true, cond}
 use Prim.Native.Nat.{ℕ, _+_, _-_, _*_, _≤_, _<_}
 use native.Mathlib.Omega.{arith}
+use Rattle.base.specs.Lists.{sum, any, every, all}
+use Rattle.base.proofs.Logic.{passed}
+use Rattle.base.proofs.Sums.{sum-cong, any-cong, all-at, at-all}
 use Rattle.rules.specs.declared.Quality.{Quality}
 use Rattle.rules.specs.declared.Quality.the-variants.{S, N}
-use Rattle.rules.specs.Lists.{sum, any, every}
-use Rattle.rules.proofs.Logic.{passed}
-use Rattle.rules.proofs.Sums.{sum-cong, any-cong}
 use Rattle.file.specs.declared.slots.SlotRecord.{SlotRecord}
-use Rattle.file.specs.Lists.{all}
 use Rattle.file.specs.Reader.{Tables, ofQuality, scaled, unscaled, recordOk, countOf, startOf, slotsOf, has, spanOk, stateOk, liesIn, outsideOk, tableTests}
 use Rattle.file.proofs.Inside.{ends}
-use Rattle.file.proofs.Stretches.{all-at, at-all}
 
 pub record Agree (T U : Tables) : Type 0 where
   pub perDay : T .perDay ≡ U .perDay

@@ -6,7 +6,7 @@ use Prim.Native.Nat.{ℕ, _+_, _<_, _≤_}
 use native.Mathlib.Omega.{arith}
 use borrow.Author.Tests.{eqb-true, leb-true, lt-leb}
 use lib.ListN.{length}
-use Rattle.rules.proofs.Logic.{passed}
+use Rattle.base.proofs.Logic.{passed}
 use Rattle.file.specs.declared.Figures.{Figures}
 use Rattle.file.specs.declared.Verdict.the-variants.{Accepted, Refused}
 use Rattle.file.specs.Reader.{headTests, trailerTests, figures, trailerOk, tablesOk, figuresOk, verdict, readFile}

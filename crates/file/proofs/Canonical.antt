@@ -8,11 +8,13 @@ use native.Mathlib.Omega.{arith}
 use borrow.Author.Tests.{eqb-true}
 use lib.ListN.{length, take, drop, take-append-drop, length-drop}
 use lib.Seq.{take-add, take-all}
+use Rattle.base.specs.Lists.{sum, upTo}
+use Rattle.base.proofs.Lists.{length-upTo, getD-upTo, upTo-cong}
+use Rattle.base.proofs.Logic.{passed}
+use Rattle.base.proofs.Sums.{all-at}
 use Rattle.rules.specs.declared.Quality.{Quality}
 use Rattle.rules.specs.declared.Quality.the-variants.{A, S, F, N}
-use Rattle.rules.specs.Lists.{sum}
-use Rattle.rules.specs.Spans.{isA, isS, isF, isN, noSpan, upTo}
-use Rattle.rules.proofs.Logic.{passed}
+use Rattle.rules.specs.Spans.{isA, isS, isF, isN, noSpan}
 use Rattle.file.specs.declared.Figures.{Figures}
 use Rattle.file.specs.declared.Verdict.{Verdict}
 use Rattle.file.specs.declared.Verdict.the-variants.{Accepted}
@@ -22,8 +24,6 @@ use Rattle.file.specs.Contents.{Bytes, WellFormed, slot, span, noSlot, s
 use Rattle.file.specs.Claim.{FileOf, Exactly, Canonical}
 use Rattle.file.proofs.Numbers.{num-one, num-lt, num-take, byte-take}
 use Rattle.file.proofs.Rows.{reads, row-reads, table-reads}
-use Rattle.file.proofs.Lists.{length-upTo, getD-upTo, upTo-cong}
-use Rattle.file.proofs.Stretches.{all-at}
 use Rattle.file.proofs.Records.{record-tells}
 use Rattle.file.proofs.SpanRecords.{record-within, from-exact, from-take, span-written}
 use Rattle.file.proofs.Agree.{Agree, count-agree, sum-agree, tables-agree}

@@ -7,15 +7,16 @@ use native.Mathlib.Nat.{add-zero, zero-add, mul-le-mul-right}
 use native.Mathlib.Omega.{arith}
 use lib.Dec.{lit<}
 use lib.ListN.{length, length-append}
+use Rattle.base.specs.Lists.{upTo}
+use Rattle.base.proofs.Lists.{upTo-list}
 use Rattle.rules.specs.declared.Quality.{Quality}
 use Rattle.rules.specs.declared.Quality.the-variants.{A, S, F, N}
-use Rattle.rules.specs.Spans.{noSpan, upTo}
+use Rattle.rules.specs.Spans.{noSpan}
 use Rattle.file.specs.Layout.{Content, row, table, letter, slotRow, ranged, spanRow, spanWidth, trailerRow, figuresOf, tablesOf, fileOf}
 use Rattle.file.specs.Reader.{num, byte, slotAt, spanAt, trailerAt, figures, distance, slotCount}
 use Rattle.file.specs.Contents.{Bytes, Fitting, slot, span, noSlot, slotRecord, spanRecord, qualityOf, outcomeOf, spanOf, contentOf}
 use Rattle.file.proofs.Numbers.{num-skip, num-one}
 use Rattle.file.proofs.Rows.{before, field, field-at, length-row, length-table, table-field, joined-bytes, row-bytes, table-bytes}
-use Rattle.file.proofs.Lists.{upTo-list}
 use Rattle.file.proofs.SpanRecords.{Stands, span-wide, span-read, width-le}
 
 module _ (f : Content) where

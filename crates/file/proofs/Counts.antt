@@ -3,15 +3,15 @@ use mathlib.Core.Path.{_≡_, refl}
 use mathlib.Core.List.{List}
 use Prim.Native.Nat.{ℕ, _+_, _^_, _≤_, _<_}
 use native.Mathlib.Omega.{arith}
+use Rattle.base.specs.Lists.{sum}
+use Rattle.base.proofs.Logic.{bit-le}
+use Rattle.base.proofs.Sums.{summed-on}
 use Rattle.rules.specs.declared.Quality.{Quality}
 use Rattle.rules.specs.declared.Quality.the-variants.{A, S, F, N}
 use Rattle.file.specs.declared.slots.Counted.{Counted}
 use Rattle.file.specs.declared.slots.SlotRecord.{SlotRecord}
-use Rattle.rules.specs.Lists.{sum}
 use Rattle.file.specs.Reader.{ofQuality, slotAt}
 use Rattle.file.specs.Inner.Reading.{one, countIn, countedWith, countedIn, Within}
-use Rattle.file.proofs.Logic.{bit-le}
-use Rattle.file.proofs.Stretches.{summed-on}
 
 one-le : (q : Quality) (r : SlotRecord) → one q r ≤ 1
 one-le q r = bit-le (ofQuality q r)

@@ -5,12 +5,12 @@ use Prim.Native.Nat.{ℕ, zero, suc, _+_, _^_, _≤_, _<_}
 use native.Mathlib.Omega.{arith}
 use lib.ListN.{length}
 use borrow.Author.Tests.{leb-true}
-use Rattle.rules.proofs.Logic.{passed}
-use Rattle.file.specs.Lists.{all}
+use Rattle.base.specs.Lists.{all}
+use Rattle.base.proofs.Logic.{passed}
+use Rattle.base.proofs.Sums.{all-at}
 use Rattle.file.specs.Layout.{Content, ranged}
 use Rattle.file.specs.Reader.{Tables, headTests, tableTests, spanTests, spanOk}
 use Rattle.file.specs.Contents.{WellFormed, Fitting, SpanFits, span, recordsOf}
-use Rattle.file.proofs.Stretches.{all-at}
 use Rattle.file.proofs.Records.{record-tells}
 use Rattle.file.proofs.Layouts.{layout-lt}
 use Rattle.file.proofs.Head.{days-le, interval-is}

@@ -7,9 +7,9 @@ use native.Mathlib.Nat.{mul-le-mul}
 use native.Mathlib.Omega.{arith}
 use borrow.Author.Tests.{leb-true, eqb-true}
 use lib.Dec.{eqb}
-use Rattle.rules.specs.Lists.{every}
+use Rattle.base.specs.Lists.{every}
+use Rattle.base.proofs.Logic.{passed, or-parts}
 use Rattle.rules.specs.Opening.{intervalOk}
-use Rattle.rules.proofs.Logic.{passed, or-parts}
 use Rattle.file.specs.Reader.{headTests}
 
 module _ (first days interval : ℕ) (ok : every (headTests first days interval) ≡ true) where

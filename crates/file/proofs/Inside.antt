@@ -8,13 +8,13 @@ use native.Mathlib.Omega.{arith}
 use borrow.Author.Tests.{ltb-true, leb-true, eqb-true, lt-ltb}
 use lib.Dec.{ltb, eqb}
 use lib.ListN.{length}
-use Rattle.rules.proofs.Logic.{passed}
+use Rattle.base.specs.Lists.{all}
+use Rattle.base.proofs.Logic.{passed}
+use Rattle.base.proofs.Sums.{all-at}
 use Rattle.file.specs.declared.Figures.{Figures}
-use Rattle.file.specs.Lists.{all}
 use Rattle.file.specs.Reader.{Tables, spanTests, spanOk, startOf, slotsOf, slotCount, tablesAt}
 use Rattle.file.specs.Inner.Reading.{Ready}
 use Rattle.file.proofs.Head.{slots-le}
-use Rattle.file.proofs.Stretches.{all-at}
 
 -- a stretch between two boundaries ends where the later one is
 stretch : (a b n : ℕ) → a ≤ b → a * n + (b - a) * n ≡ b * n

@@ -6,7 +6,7 @@ use Prim.Native.Nat.{ℕ, zero, suc, _<_}
 use native.Mathlib.Omega.{arith}
 use borrow.Author.Tests.{eqb-true, ne-eqb, lt-ltb}
 use lib.Dec.{eqb, ltb}
-use Rattle.rules.proofs.Logic.{or-parts}
+use Rattle.base.proofs.Logic.{or-parts}
 use Rattle.file.specs.Reader.{layoutOk}
 
 -- a layout is a byte

@@ -1,5 +1,3 @@
-pub mod Logic
-pub mod Stretches
 pub mod Lists
 pub mod Numbers
 pub mod Rows

@@ -5,11 +5,9 @@ use Prim.Native.Nat.{ℕ, zero, suc, _+_, _*_, _≤_, _<_}
 use native.Mathlib.Nat.{mul-suc}
 use native.Mathlib.Omega.{arith}
 use lib.ListN.{length, getD}
+use Rattle.base.specs.Lists.{sum, upTo}
+use Rattle.base.proofs.Sums.{sum-first}
 use Rattle.rules.specs.declared.Outcome.{Outcome}
-use Rattle.rules.specs.Lists.{sum}
-use Rattle.rules.specs.Spans.{upTo}
-pub use Rattle.rules.proofs.Lists.{length-upTo, upTo-list, upTo-cong, getD-upTo}
-use Rattle.rules.proofs.Sums.{sum-first}
 use Rattle.file.specs.Layout.{total}
 
 -- the sum over such a list

@@ -7,13 +7,10 @@ use native.Mathlib.Nat.{not-suc-le-zero, le-trans, mul-le-mul-right, eq-or-lt-of
 use native.Mathlib.Omega.{arith}
 use borrow.Author.Tests.{leb-true, ltb-true, le-leb, lt-ltb, leb-false, ltb-false}
 use lib.Dec.{leb, ltb}
-use Rattle.rules.specs.Lists.{any}
-use Rattle.rules.proofs.Logic.{and-parts, either}
-use Rattle.rules.proofs.Sums.{any-none, any-place}
-use Rattle.file.specs.Lists.{all}
+use Rattle.base.specs.Lists.{any, all}
+use Rattle.base.proofs.Logic.{and-parts, either, both, together}
+use Rattle.base.proofs.Sums.{any-none, any-place, all-at, at-all, any-some}
 use Rattle.file.specs.Reader.{Tables, scaled, spanOk, liesIn, outsideOk}
-use Rattle.file.proofs.Logic.{both, together}
-use Rattle.file.proofs.Stretches.{all-at, at-all, any-at}
 use Rattle.file.proofs.Inside.{ordered, within, follow}
 
 not-parts : (b : Bool) → not b ≡ true → b ≡ false
@@ -64,7 +61,7 @@ module _ (t : Tables) (ok : all (spanOk t) 0 (t .spans) ≡ true) where
       ⊎-elim
       (λ e. let c = h e in
       let in-j : liesIn t i (c .by) ≡ true = both _ _ (le-leb _ _ (c .from)) (lt-ltb _ _ (c .to)) in
-      let found : any (liesIn t i) 0 (t .spans) ≡ true = any-at (liesIn t i) 0 (t .spans) (c .by) (omega arith) (omega (arith, c .short)) in-j in
+      let found : any (liesIn t i) 0 (t .spans) ≡ true = any-some (liesIn t i) 0 (t .spans) (c .by) (omega arith) (omega (arith, c .short)) in-j in
       rw (e, found))
       (λ e. rw e) (either (marked i))
 
@@ -83,7 +80,7 @@ module _ (t : Tables) (ok : all (spanOk t) 0 (t .spans) ≡ true) where
       (λ i x y. ⊎-elim (λ s. absurd (h i x y (covered i (all-at (outsideOk t) slots e i (omega arith)) s))) (λ s. s) (either (marked i)))
 
   missed : (a k i : ℕ) → any marked a k ≡ false → a ≤ i → i < a + k → marked i ≡ true → ⊥
-  missed a k i e l m s = false≢true (sym e ∙ any-at marked a k i l m s)
+  missed a k i e l m s = false≢true (sym e ∙ any-some marked a k i l m s)
 
   -- no spans: no method 18 or 19 at all
   pub no-spans : t .spans ≡ 0 → not (any marked 0 slots) ≡ all (outsideOk t) 0 slots

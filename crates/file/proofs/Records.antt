@@ -1,19 +1,18 @@
 -- The forms of a slot record, by its letter.
 use mathlib.Core.Path.{_≡_, refl, sym, ap, _∙_}
-use mathlib.Core.Bool.{Bool, true, false, _&&_, _||_}
+use mathlib.Core.Bool.{Bool, true, false, _&&_, _||_, or-false}
 use Prim.Native.Nat.{ℕ, _<_}
 use native.Mathlib.Omega.{arith}
 use borrow.Author.Tests.{eqb-true, ne-eqb}
 use lib.Dec.{lit<, eqb, leb}
+use Rattle.base.proofs.Logic.{and-parts, one-of}
 use Rattle.rules.specs.Spans.{isScaled}
 use Rattle.rules.specs.declared.Quality.{Quality}
 use Rattle.rules.specs.declared.Quality.the-variants.{A, S, F, N}
-use Rattle.rules.proofs.Logic.{and-parts}
 use Rattle.file.specs.declared.slots.SlotRecord.{SlotRecord}
 use Rattle.file.specs.Layout.{letter}
 use Rattle.file.specs.Reader.{ofQuality, isForm, forms, recordOk}
 use Rattle.file.specs.Contents.{qualityOf}
-use Rattle.file.proofs.Logic.{or-false, one-of}
 
 -- ---- What the code tests
 

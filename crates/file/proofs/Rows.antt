@@ -7,7 +7,7 @@ use native.Mathlib.Omega.{arith}
 use lib.Dec.{lit<}
 use lib.ListN.{length, getD, take, drop, length-append}
 use lib.Seq.{take-add, drop-drop}
-use Rattle.rules.specs.Spans.{upTo}
+use Rattle.base.specs.Lists.{upTo}
 use Rattle.file.specs.Layout.{bytes, row, table}
 use Rattle.file.specs.Reader.{num}
 use Rattle.file.specs.Contents.{Bytes}

@@ -2,7 +2,7 @@
 use mathlib.Core.Bool.{Bool}
 use mathlib.Core.Path.{_≡_}
 use Prim.Native.Nat.{ℕ}
-use Rattle.rules.specs.Lists.{every}
+use Rattle.base.specs.Lists.{every}
 use Rattle.file.specs.Reader.{stateRule, inRange}
 
 pub range-same : {i j v w x y : ℕ} → i ≡ j → v ≡ w → x ≡ y → inRange i v x ≡ inRange j w y

@@ -3,13 +3,12 @@ use mathlib.Core.Path.{_≡_, refl}
 use mathlib.Core.List.{List, [], _∷_, _++_}
 use Prim.Native.Nat.{ℕ}
 use lib.ListN.{replicate}
+use Rattle.base.specs.Lists.{sum, any, all}
 use Rattle.rules.specs.declared.Outcome.{Outcome}
 use Rattle.rules.specs.declared.Quality.the-variants.{A, S, F}
 use Rattle.rules.specs.declared.Span.{Span}
-use Rattle.rules.specs.Lists.{sum, any}
 use Rattle.rules.specs.Opening.{intervalOk}
 use Rattle.file.specs.declared.Verdict.the-variants.{Accepted, Refused}
-use Rattle.file.specs.Lists.{all}
 use Rattle.file.specs.Layout.{Content, bytes, row, table, total, trailerRow, figuresOf, tablesOf, fileOf}
 use Rattle.file.specs.Reader.{num, slotAt, spanFrom, figures, layoutOk, layoutFits, recordOk, spanOk, stateOk, outsideOk, trailerOk, tablesOk, figuresOk, readFile}
 

@@ -1,4 +1,3 @@
-pub mod Lists
 pub mod Layout
 pub mod Reader
 pub mod Contents

@@ -4,9 +4,9 @@ use mathlib.Core.List.{List, [], _∷_}
 use Prim.Native.Nat.{ℕ, zero, suc, _+_, _-_, _*_, _/_}
 use lib.Dec.{leb, ltb, eqb}
 use lib.ListN.{length, getD, take}
+use Rattle.base.specs.Lists.{sum, any, every, all, count, oneOf, same, implies}
 use Rattle.rules.specs.declared.Quality.{Quality}
 use Rattle.rules.specs.declared.Quality.the-variants.{A, S, F, N}
-use Rattle.rules.specs.Lists.{sum, any, every}
 use Rattle.rules.specs.Opening.{intervalOk}
 use Rattle.rules.specs.Spans.{isScaled}
 use Rattle.file.specs.declared.Figures.{Figures}
@@ -14,7 +14,6 @@ use Rattle.file.specs.declared.Verdict.{Verdict}
 use Rattle.file.specs.declared.Verdict.the-variants.{Accepted, Refused}
 use Rattle.file.specs.declared.slots.SlotRecord.{SlotRecord}
 use Rattle.file.specs.declared.spans.SpanRecord.{SpanRecord}
-use Rattle.file.specs.Lists.{all, count, oneOf, same, implies}
 use Rattle.file.specs.Layout.{letter, ranged, spanWidth, spanBytes}
 
 -- ---- What stands in the bytes

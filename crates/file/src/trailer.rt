@@ -6,7 +6,7 @@ ghost use mathlib.Core.Path.{_≡_};
 ghost use mathlib.Core.Bool.{true};
 ghost use Prim.Native.Nat.{_*_, _/_, _≤_};
 ghost use lib.ListN.{length};
-ghost use Rattle.rules.specs.Lists.{every};
+ghost use Rattle.base.specs.Lists.{every};
 ghost use Rattle.file.specs.Layout.{spanBytes};
 ghost use Rattle.file.specs.Reader.{figures, headTests, layoutOk, slotCount, trailerOk};
 

@@ -9,8 +9,7 @@ use borrow.Author.Tests.{eq-eqb, ne-eqb, le-leb, le-ltb, leb-true, eqb-true}
 use lib.Dec.{eqb, leb, ltb}
 use lib.ListN.{length, getD, take, drop, length-append, length-drop, take-append-drop}
 use lib.Seq.{split-at, getD-drop, drop-drop, length-take-le}
-use Rattle.rules.specs.Lists.{every}
-use Rattle.rules.proofs.Logic.{and-parts}
+use Rattle.base.proofs.Logic.{and-parts}
 use Rattle.book.specs.Arguments.Call.{delivery}
 use Rattle.book.specs.declared.calls.Call.the-variants as coded
 use Rattle.log.specs.declared.deliveries.Delivery.{Delivery}

@@ -9,7 +9,7 @@ use borrow.Author.Tests.{le-leb, lt-leb, eq-eqb, ne-eqb}
 use lib.Dec.{leb}
 use lib.ListN.{length, getD, drop}
 use lib.Seq.{drop-cons, drop-length}
-use Rattle.rules.specs.Lists.{every}
+use Rattle.base.specs.Lists.{every}
 use Rattle.log.specs.declared.number.Number.{Number}
 use Rattle.log.specs.declared.number.Number.the-variants.{Is, Not}
 use Rattle.log.specs.declared.number.Date.the-variants as date

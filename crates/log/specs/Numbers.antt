@@ -4,7 +4,7 @@ use mathlib.Core.List.{List, [], _∷_}
 use Prim.Native.Nat.{ℕ, _+_, _-_, _*_}
 use lib.Dec.{leb, eqb}
 use lib.ListN.{length, getD, take, drop}
-use Rattle.rules.specs.Lists.{every}
+use Rattle.base.specs.Lists.{every}
 use Rattle.log.specs.declared.number.Number.{Number}
 use Rattle.log.specs.declared.number.Number.the-variants as number
 use Rattle.log.specs.declared.number.Date.{Date}

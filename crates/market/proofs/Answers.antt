@@ -8,8 +8,8 @@ use native.Mathlib.Omega.{arith}
 use borrow.Author.Tests.{leb-true, leb-false, eqb-true, le-leb, lt-leb, ltb-true, ltb-false}
 use lib.Dec.{leb, ltb}
 use lib.ListN.{length, drop, length-append}
-use Rattle.rules.specs.Lists.{every}
-use Rattle.rules.proofs.Logic.{either, passed, and-parts}
+use Rattle.base.specs.Lists.{every}
+use Rattle.base.proofs.Logic.{either, passed, and-parts}
 use Rattle.file.specs.declared.Figures.{Figures}
 use Rattle.file.specs.declared.Verdict.{Verdict}
 use Rattle.file.specs.declared.Verdict.the-variants as verdict

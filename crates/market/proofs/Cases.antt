@@ -1,9 +1,8 @@
 -- Every worked figure holds of the definitions, by computing them.
 use mathlib.Core.Bool.{true}
 use mathlib.Core.Path.{_≡_, refl}
+use Rattle.base.specs.Lists.{every, all}
 use Rattle.calendar.specs.Calendar.{leap, monthLengths, monthLength, yearLength, place, dateOf}
-use Rattle.rules.specs.Lists.{every}
-use Rattle.file.specs.Lists.{all}
 use Rattle.line.specs.Line.{digits, places, decimal}
 use Rattle.market.specs.Fields.{fields, joined, kwh, dateField, codeFor, markOf, marked, oneMark, endsRun, startOf}
 use Rattle.market.specs.Records.{record300, record400, runs, dayRecords}

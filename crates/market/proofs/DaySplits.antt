@@ -6,8 +6,8 @@ use mathlib.Core.Path.{_≡_, refl, sym, ap, subst, _∙_}
 use Prim.Native.Nat.{ℕ, zero, suc, _+_, _-_, _*_, _^_, _≤_, _<_}
 use native.Mathlib.Nat.{eq-or-lt-of-le}
 use native.Mathlib.Omega.{arith}
-use Rattle.rules.proofs.Logic.{either}
-use Rattle.file.proofs.Stretches.{all-at}
+use Rattle.base.proofs.Logic.{either}
+use Rattle.base.proofs.Sums.{all-at}
 use Rattle.market.specs.declared.marks.Mark.{Mark}
 use Rattle.market.specs.Fields.{joined, varies, alike, oneMark}
 use Rattle.market.specs.Records.{record300, record900, runs, dayRecords}

@@ -9,7 +9,8 @@ use borrow.Author.Tests.{leb-true}
 use lib.Dec.{leb, eqb}
 use lib.ListN.{length, take, drop}
 use lib.Seq.{take-append-seam}
-use Rattle.rules.proofs.Logic.{passed}
+use Rattle.base.proofs.Logic.{passed}
+use Rattle.base.proofs.Sums.{all-at}
 use Rattle.file.specs.declared.Figures.{Figures}
 use Rattle.file.specs.declared.Verdict.the-variants as verdict
 use Rattle.file.specs.declared.slots.SlotRecord.{SlotRecord}
@@ -18,7 +19,6 @@ use Rattle.file.specs.Reader.{slotAt, figures, headTests, recordOk, tableTests,
 use Rattle.file.proofs.Answers.{ready, tests-passed}
 use Rattle.file.proofs.Head.{interval-is}
 use Rattle.file.proofs.Numbers.{num-lt}
-use Rattle.file.proofs.Stretches.{all-at}
 use Rattle.line.specs.Line.{decimal}
 use Rattle.market.specs.declared.Codes.{Codes}
 use Rattle.market.specs.declared.Exported.the-variants.{Length}

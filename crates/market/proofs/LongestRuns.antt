@@ -8,7 +8,7 @@ use native.Mathlib.Numerals.{add-one}
 use native.Mathlib.Omega.{arith}
 use borrow.Author.Tests.{eqb-false, ne-eqb, eq-eqb, not-false, ltb-true, ltb-false}
 use lib.Dec.{eqb, ltb}
-use Rattle.rules.proofs.Logic.{either}
+use Rattle.base.proofs.Logic.{either}
 use Rattle.market.specs.declared.marks.Mark.{Mark}
 use Rattle.market.specs.Fields.{alike, endsRun, startOf}
 use Rattle.market.specs.Claim.{HasRecord, Holds, Alike, LongestRuns}

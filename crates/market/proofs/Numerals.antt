@@ -8,10 +8,10 @@ use native.Mathlib.Omega.{arith}
 use borrow.Author.Tests.{leb-true, ltb-true}
 use lib.Dec.{leb, ltb}
 use lib.ListN.{length, getD, length-append}
+use Rattle.base.proofs.Logic.{either, and-parts}
 use Rattle.calendar.specs.Calendar.{leap, monthLengths, monthLength, dayNumber, dateOf}
 use Rattle.calendar.proofs.Bounds.{bounded}
 use Rattle.calendar.proofs.Dates.{number-of-date}
-use Rattle.rules.proofs.Logic.{either, and-parts}
 use Rattle.line.specs.Line.{digits, places, decimal}
 use Rattle.line.proofs.Digits.{length-digits}
 use Rattle.market.specs.Fields.{kwh, dateField}

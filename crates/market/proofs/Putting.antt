@@ -10,7 +10,7 @@ use borrow.Author.Tests.{le-ltb, ltb-true, ltb-false}
 use lib.Dec.{ltb}
 use lib.ListN.{length, take, drop, getD, set, length-append}
 use lib.Seq.{take-suc, length-take-le, set-comm, set-out, sets-eq, length-sets}
-use Rattle.rules.proofs.Logic.{either}
+use Rattle.base.proofs.Logic.{either}
 use Rattle.line.specs.Line.{digits}
 use Rattle.line.proofs.Digits.{length-digits}
 use Rattle.market.specs.Inner.Writing.{capped, stored, Added}

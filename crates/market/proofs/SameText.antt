@@ -8,8 +8,8 @@ use native.Mathlib.Nat.{eq-or-lt-of-le}
 use native.Mathlib.Omega.{arith}
 use borrow.Author.Tests.{eqb-false}
 use lib.Dec.{eqb}
-use Rattle.rules.proofs.Logic.{either}
-use Rattle.file.specs.Lists.{all}
+use Rattle.base.specs.Lists.{all}
+use Rattle.base.proofs.Logic.{either}
 use Rattle.market.specs.declared.marks.Mark.{Mark}
 use Rattle.market.specs.Fields.{Texts, field, fields, joined, kwh, dateField, marked, alike, oneMark, endsRun, startOf, dayMark}
 use Rattle.market.specs.Records.{record100, record200, record300, record900, runs, dayRecords, daysOf}

@@ -8,7 +8,7 @@ use native.Mathlib.Nat.{add-zero, add-suc, suc-add, eq-or-lt-of-le}
 use native.Mathlib.Omega.{arith}
 use borrow.Author.Tests.{eqb-true}
 use lib.Dec.{eqb}
-use Rattle.rules.proofs.Logic.{and-parts}
+use Rattle.base.proofs.Logic.{and-parts}
 use Rattle.line.specs.Line.{digits, decimal}
 use Rattle.market.specs.declared.marks.Mark.{Mark}
 use Rattle.market.specs.Fields.{field, fields, joined, kwh, dateField, hasCode, marked, alike}

@@ -4,10 +4,9 @@ use mathlib.Core.List.{List, [], _∷_, _++_}
 use Prim.Native.Nat.{ℕ, _/_}
 use lib.Dec.{leb, eqb}
 use lib.ListN.{length, getD, drop}
-use Rattle.rules.specs.Lists.{every}
+use Rattle.base.specs.Lists.{every, all}
 use Rattle.file.specs.declared.Verdict.{Verdict}
 use Rattle.file.specs.declared.Verdict.the-variants as verdict
-use Rattle.file.specs.Lists.{all}
 use Rattle.file.specs.Reader.{slotAt, figures, readFile}
 use Rattle.market.specs.declared.Codes.{Codes}
 use Rattle.market.specs.declared.Exported.{Exported}

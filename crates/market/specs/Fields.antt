@@ -3,11 +3,11 @@ use mathlib.Core.Bool.{Bool, true, false, cond, not, _&&_, _||_}
 use mathlib.Core.List.{List, [], _∷_, _++_}
 use Prim.Native.Nat.{ℕ, zero, suc, _+_, _/_}
 use lib.Dec.{eqb}
+use Rattle.base.specs.Lists.{all}
 use Rattle.calendar.specs.Calendar.{dateOf}
 use Rattle.rules.specs.declared.Quality.the-variants.{S, F}
 use Rattle.file.specs.declared.slots.SlotRecord.{SlotRecord}
 use Rattle.file.specs.Layout.{letter}
-use Rattle.file.specs.Lists.{all}
 use Rattle.line.specs.Line.{digits, decimal}
 use Rattle.market.specs.declared.Codes.{Codes}
 use Rattle.market.specs.declared.marks.Mark.{Mark}

@@ -3,7 +3,7 @@ use crate::Codes;
 ghost use mathlib.Core.Bool.{_&&_};
 ghost use mathlib.Core.List.{[], _∷_};
 ghost use mathlib.Core.Path.{_≡_};
-ghost use Rattle.rules.specs.Lists.{every};
+ghost use Rattle.base.specs.Lists.{every};
 ghost use Rattle.market.specs.Export.{inClass, allOf, identifierOk, timeOk, codesOk, suppliedOk};
 ghost use Rattle.market.specs.Fields.{texts};
 ghost use Rattle.market.specs.declared.checks.Class.the-variants.{Identifier, Plain, Digit};

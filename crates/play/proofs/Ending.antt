@@ -7,14 +7,15 @@ use native.Mathlib.Omega.{arith}
 use borrow.Author.Tests.{eq-eqb, ne-eqb}
 use lib.Dec.{eqb}
 use lib.ListN.{length}
+use Rattle.base.specs.Refusals.{unless}
+use Rattle.base.specs.Refusals.Rule.{rule}
 use Rattle.rules.specs.declared.Head.{Head}
 use Rattle.rules.specs.declared.limits.Loaded.{Loaded}
 use Rattle.rules.specs.declared.limits.Loaded.the-variants as loaded
 use Rattle.rules.specs.Limits.{loadAnswer}
 use Rattle.rules.specs.Opening.{headOk}
-use Rattle.book.specs.Answers.{Answer, unless}
+use Rattle.book.specs.Answers.{Answer}
 use Rattle.book.specs.Answers.Answer.{done, refused}
-use Rattle.book.specs.Answers.Rule.{rule}
 use Rattle.book.specs.Cells.{Book, bookFits}
 use Rattle.book.specs.Opening.{opened, openAnswer, openedIn, openAfter}
 use Rattle.book.specs.Filling.{afterAll}
@@ -86,7 +87,7 @@ module _ (h : Head) (b : Book) (good : headOk h ≡ true) where
   unfolding openAnswer
   done-where-fits = rw good (go (bookFits h b))
     where
-      go : (t : Bool) → isDone (unless (rule 2 (not t) ∷ []) done) ≡ t
+      go : (t : Bool) → isDone (unless refused (rule 2 (not t) ∷ []) done) ≡ t
       go true = refl
       go false = refl
 
@@ -94,7 +95,7 @@ module _ (h : Head) (b : Book) (good : headOk h ≡ true) where
   unfolding openAnswer openAfter
   after-where-fits = rw good (go (bookFits h b))
     where
-      go : (t : Bool) → openedIn (unless (rule 2 (not t) ∷ []) done) h b ≡ cond t (opened h) b
+      go : (t : Bool) → openedIn (unless refused (rule 2 (not t) ∷ []) done) h b ≡ cond t (opened h) b
       go true = refl
       go false = refl
 

@@ -4,10 +4,10 @@ use mathlib.Core.List.{List, [], _∷_, List·Memᴰ, List·Memᴰ·head, List·
 use mathlib.Core.Logic.{⊎-elim}
 use mathlib.Core.Path.{_≡_, refl, ap, _∙_}
 use Prim.Native.Nat.{ℕ}
+use Rattle.base.proofs.Logic.{and-parts}
 use lib.ListN.{length}
 use Rattle.rules.specs.declared.Head.{Head}
 use Rattle.rules.specs.Opening.{headOk}
-use Rattle.rules.proofs.Logic.{and-parts}
 use Rattle.book.specs.Answers.{Answer, answerCode}
 use Rattle.book.specs.Answers.Answer.{done, refused}
 use Rattle.book.specs.Arguments.{Call}

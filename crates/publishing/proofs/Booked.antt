@@ -6,12 +6,14 @@ use native.Mathlib.Omega.{arith}
 use borrow.Author.Tests.{eqb-true, eq-eqb, lt-ltb, le-leb}
 use lib.Dec.{ltb, eqb}
 use lib.ListN.{length, getD}
+use Rattle.base.specs.Lists.{sum, any, every, all, same, implies}
+use Rattle.base.proofs.Logic.{both}
+use Rattle.base.proofs.Sums.{any-cong, at-all}
 use Rattle.rules.specs.declared.Head.{Head}
 use Rattle.rules.specs.declared.Outcome.{Outcome}
 use Rattle.rules.specs.declared.Quality.{Quality}
 use Rattle.rules.specs.declared.Quality.the-variants.{S, N}
 use Rattle.rules.specs.declared.Span.{Span}
-use Rattle.rules.specs.Lists.{sum, any, every}
 use Rattle.rules.specs.Opening.{Cells, slotsPerDay}
 use Rattle.rules.specs.Spans.{isS, isN, isScaled, start, slotsIn, spanOf, noSpan, outcomeAt, spans}
 use Rattle.rules.specs.Inner.Lent.{AgreedLow, WidthsLow}
@@ -22,14 +24,10 @@ use Rattle.rules.proofs.Forms.Form.{unscaled, scaledLinear, scaledSameDay}
 use Rattle.rules.proofs.Neighbours.{Neighbours, each-span, side-by-side}
 use Rattle.rules.proofs.Outcomes.{outcome-form, scaled-inside}
 use Rattle.rules.proofs.States.{state-low, range-ordered, range-low, open-exactly, scaled-exactly, scaled-whole, scaled-within, agreed-no-s}
-use Rattle.rules.proofs.Sums.{any-cong}
-use Rattle.file.specs.Lists.{all, same, implies}
 use Rattle.file.specs.Reader.{Tables, ofQuality, scaled, unscaled as isUnscaled, startOf, slotsOf, has, recordOk, inRange, stateRule, spanOk, stateOk, outsideOk, tableTests}
 use Rattle.file.specs.Contents.{slotRecord, spanRecord}
 use Rattle.file.proofs.Accepted.{Tests, testsS, testsN}
-use Rattle.file.proofs.Logic.{both}
 use Rattle.file.proofs.Outside.{covers}
-use Rattle.file.proofs.Stretches.{at-all}
 
 -- every form of an outcome is one that the reader takes
 form-ok : {o : Outcome} → Form o → recordOk (slotRecord o) ≡ true

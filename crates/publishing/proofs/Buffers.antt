@@ -7,11 +7,13 @@ use native.Mathlib.Nat.{zero-add, add-zero}
 use native.Mathlib.Omega.{arith}
 use lib.ListN.{length, take, drop, take-append-drop, length-append, length-drop}
 use lib.Seq.{take-append-seam, take-append-add, drop-append-le, drop-append-add, drop-drop, drop-at, take-add, length-take-le}
+use Rattle.base.specs.Lists.{upTo}
+use Rattle.base.proofs.Lists.{length-upTo}
 use Rattle.rules.specs.declared.Head.{Head}
 use Rattle.file.specs.declared.Figures.{Figures}
 use Rattle.rules.specs.declared.Span.{Span}
 use Rattle.rules.specs.Opening.{Cells, slotCount}
-use Rattle.rules.specs.Spans.{outcomeAt, upTo, outcomes, spans}
+use Rattle.rules.specs.Spans.{outcomeAt, outcomes, spans}
 use Rattle.rules.specs.Inner.Stretches.{beginsAt}
 use Rattle.rules.specs.Inner.Passes.{listOf, begunBefore}
 use Rattle.rules.proofs.Bounds.{Bounded}
@@ -22,7 +24,6 @@ use Rattle.publishing.specs.Inner.Publishing.{firstSlots, bufferAt, next
 use Rattle.file.specs.Inner.Writing.{written}
 use Rattle.file.proofs.Written.{length-written, written-more}
 use Rattle.file.proofs.Rows.{length-row, length-table}
-use Rattle.rules.proofs.Lists.{length-upTo}
 use Rattle.publishing.proofs.Totals.{slots-next, begun-next}
 
 -- the bytes of d from place a up to place m

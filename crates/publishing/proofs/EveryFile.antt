@@ -1,25 +1,23 @@
 -- Every file that publishing writes is read back as what the book publishes.
-use mathlib.Core.Bool.{Bool, true, false, not}
-use mathlib.Core.List.{List, [], _∷_}
-use mathlib.Core.Path.{_≡_, refl, ap, _∙_}
+use mathlib.Core.Bool.{true}
+use mathlib.Core.List.{List}
+use mathlib.Core.Path.{_≡_, ap, _∙_}
 use Prim.Native.Nat.{ℕ, _+_, _<_}
 use native.Mathlib.Nat.{mul-comm, mul-le-mul-right}
 use native.Mathlib.Omega.{arith}
-use lib.Dec.{ltb}
 use lib.ListN.{length, take, drop}
 use lib.Seq.{take-at}
+use Rattle.base.proofs.Logic.{and-parts}
+use Rattle.base.proofs.Sums.{sum-cong}
 use Rattle.rules.specs.declared.Head.{Head}
 use Rattle.rules.specs.declared.Outcome.{Outcome}
 use Rattle.rules.specs.declared.Span.{Span}
 use Rattle.rules.specs.Opening.{Cells, headOk, slotCount, slotsPerDay}
 use Rattle.rules.specs.Spans.{start, slotsIn}
 use Rattle.rules.proofs.Bounds.{bounded}
-use Rattle.rules.proofs.Logic.{and-parts}
 use Rattle.rules.proofs.Neighbours.{Neighbours, each-span}
 use Rattle.rules.proofs.Places.{span-end}
 use Rattle.rules.proofs.States.{scaled-sum, scaled-within}
-use Rattle.rules.proofs.Sums.{sum-cong}
-use Rattle.book.specs.Answers.Rule.{rule}
 use Rattle.book.specs.Cells.{Book, cellsOk, bookFits, bookOk}
 use Rattle.book.proofs.Fits.{fits-of}
 use Rattle.file.specs.Layout.{fileOf}
@@ -28,24 +26,17 @@ use Rattle.file.proofs.Content.{length-file}
 use Rattle.file.proofs.Canonical.{content-back}
 use Rattle.publishing.specs.declared.Published.{Published}
 use Rattle.publishing.specs.declared.Published.the-variants.{Length}
-use Rattle.publishing.specs.Publishing.{published, fileLength, lengthUnless, publishAnswer, bytesAfter, publishAfter}
+use Rattle.publishing.specs.Publishing.{published, fileLength, publishAnswer, bytesAfter, publishAfter}
 use Rattle.publishing.specs.Claim.{SumsToR, EveryFile}
 use Rattle.publishing.specs.Inner.Publishing.{Sound}
 use Rattle.publishing.proofs.Files.{slots-own, slot-own, well-formed, published-accepted}
 
--- a length is answered where no rule is broken
-kept : (a b c d : Bool) (m n : ℕ) → lengthUnless (rule 1 (not a) ∷ rule 2 (not b) ∷ rule 11 (not c) ∷ rule 7 d ∷ []) m ≡ Length n
-    → (a ≡ true) × (b ≡ true) × (c ≡ true) × (m ≡ n)
-kept true true true true m n e = (refl, refl, refl, cc)
-kept true true true false m n e = (refl, refl, refl, cc)
-kept true true false d m n e = (refl, refl, cc, cc)
-kept true false c d m n e = (refl, cc, cc, cc)
-kept false b c d m n e = (cc, cc, cc, cc)
-
 module _ (h : Head) (b : Book) (out : List ℕ) (n : ℕ) (e : publishAnswer h b out ≡ Length n) where
   answered : (headOk h ≡ true) × (bookFits h b ≡ true) × (bookOk h b ≡ true) × (fileLength h (b .cells) ≡ n)
   unfolding publishAnswer
-  answered = kept (headOk h) (bookFits h b) (bookOk h b) (ltb (length out) (fileLength h (b .cells))) (fileLength h (b .cells)) n e
+  answered =
+      let (same, kept) = unless-answered Refused (λ a. a ≡ Length n) (λ k r. let z : _≡_ {A = ℕ} 0 1 = cc in omega arith) _ _ e in
+      (not-false _ (kept 0), not-false _ (kept 1), not-false _ (kept 2), cc)
 
   sound : Sound h (b .cells)
   unfolding bookOk

@@ -6,12 +6,13 @@ use Prim.Native.Nat.{ℕ, _<_}
 use native.Mathlib.Nat.{zero-add}
 use native.Mathlib.Omega.{arith}
 use lib.ListN.{length}
+use Rattle.base.specs.Lists.{every}
+use Rattle.base.proofs.Lists.{length-upTo, getD-upTo}
+use Rattle.base.proofs.Logic.{passed}
 use Rattle.rules.specs.declared.Head.{Head}
-use Rattle.rules.specs.Lists.{every}
 use Rattle.rules.specs.Opening.{Cells, dayTests, headTests, headOk, firstDay, slotsPerDay, slotCount}
 use Rattle.rules.specs.Spans.{outcomeAt, outcomes}
 use Rattle.rules.proofs.Bounds.{bounded}
-use Rattle.rules.proofs.Logic.{passed}
 use Rattle.rules.proofs.Outcomes.{outcome-fits}
 use Rattle.file.specs.declared.Verdict.the-variants.{Accepted}
 use Rattle.file.specs.Layout.{figuresOf, tablesOf, fileOf}
@@ -19,7 +20,6 @@ use Rattle.file.specs.Reader.{headTests as trailerHead, layoutOk, layoutFits, r
 use Rattle.file.specs.Contents.{Fitting, WellFormed, noSlot, slot, slotRecord, recordsOf}
 use Rattle.publishing.specs.Publishing.{published}
 use Rattle.publishing.specs.Inner.Publishing.{Sound}
-use Rattle.rules.proofs.Lists.{length-upTo, getD-upTo}
 use Rattle.file.proofs.Content.{injective}
 use Rattle.file.proofs.Agree.{Agree, tables-agree}
 use Rattle.file.proofs.Fitting.{fitting}

@@ -9,17 +9,18 @@ use native.Mathlib.Omega.{arith}
 use borrow.Author.Tests.{ltb-true, ltb-false, lt-ltb, le-ltb, not-true}
 use lib.Dec.{ltb}
 use lib.ListN.{length, getD, drop, List·getD-eq-default}
+use Rattle.base.specs.Lists.{any}
+use Rattle.base.proofs.Lists.{length-upTo}
+use Rattle.base.proofs.Logic.{passed, either}
+use Rattle.base.proofs.Sums.{any-some}
 use Rattle.rules.specs.declared.Head.{Head}
-use Rattle.rules.specs.Lists.{any}
 use Rattle.rules.specs.Opening.{Cells, headOk, slotCount}
 use Rattle.rules.specs.Spans.{outcomeAt, outcomes, spans}
 use Rattle.rules.specs.Inner.Lent.{AgreedLow, WidthsLow, Whole}
 use Rattle.rules.specs.Inner.Stretches.{readCount}
 use Rattle.rules.proofs.Bounds.{bounded}
 use Rattle.rules.proofs.Counts.{span-count}
-use Rattle.rules.proofs.Logic.{passed, either}
 use Rattle.rules.proofs.Neighbours.{spans-few}
-use Rattle.rules.proofs.Sums.{any-some}
 use Rattle.book.specs.Cells.{slotFaultAt, dayFaultAt, numberFault, readFault, readFaultAt, agreedFaultAt, readsOf, cellsOk, Book, bookFits, bookOk}
 use Rattle.book.proofs.Fits.{lengths-of}
 use Rattle.publishing.specs.Publishing.{published, fileLength, publishAnswer, publishAfter}
@@ -27,7 +28,6 @@ use Rattle.publishing.specs.declared.Published.{Published}
 use Rattle.publishing.specs.declared.Published.the-variants.{Length, Refused}
 use Rattle.file.specs.Layout.{fileOf}
 use Rattle.publishing.specs.Inner.Publishing.{Sound, Put, Left}
-use Rattle.rules.proofs.Lists.{length-upTo}
 
 -- a number that is no fault is within its limit
 number-low : (limit version number : ℕ) → numberFault limit version number ≡ false → number ≤ limit

@@ -2,10 +2,12 @@
 use mathlib.Core.Bool.{Bool, true, false, cond}
 use mathlib.Core.List.{List, [], _∷_, _++_}
 use mathlib.Core.Path.{_≡_, refl, sym, ap, _∙_}
-use Prim.Native.Nat.{ℕ, zero, suc, _+_, _*_, _≤_}
+use Prim.Native.Nat.{ℕ, _+_, _*_, _≤_}
 use native.Mathlib.Nat.{add-zero, zero-add}
 use native.Mathlib.Numerals.{add-one}
 use native.Mathlib.Omega.{arith}
+use Rattle.base.specs.Lists.{sum, upTo}
+use Rattle.base.proofs.Lists.{upTo-snoc}
 use Rattle.rules.specs.declared.Head.{Head}
 use Rattle.rules.specs.declared.Outcome.{Outcome}
 use Rattle.rules.specs.declared.Quality.{Quality}
@@ -13,9 +15,8 @@ use Rattle.rules.specs.declared.Quality.the-variants.{A, S, F, N}
 use lib.ListN.{length, length-append}
 use Rattle.rules.specs.declared.pass.Pass.{Pass}
 use Rattle.rules.specs.declared.stretch.Begins.{Begins}
-use Rattle.rules.specs.Lists.{sum}
 use Rattle.rules.specs.Opening.{Cells, firstDay, slotCount}
-use Rattle.rules.specs.Spans.{isA, isS, isF, isN, outcomeAt, upTo, outcomes, spans}
+use Rattle.rules.specs.Spans.{isA, isS, isF, isN, outcomeAt, outcomes, spans}
 use Rattle.rules.specs.Inner.Lent.{AgreedLow, WidthsLow}
 use Rattle.rules.specs.Inner.Fills.{fillsAt}
 use Rattle.rules.specs.Inner.Stretches.{beginsAt}
@@ -30,14 +31,6 @@ use Rattle.publishing.specs.declared.tables.Progress.{Progress}
 use Rattle.file.specs.Inner.Writing.{written}
 use Rattle.publishing.specs.Inner.Publishing.{totalsOf, addedTo, firstSlots, progressAt, nextBytes}
 use Rattle.file.proofs.Lists.{total-sum}
-
--- one element more
-pub upTo-snoc : {X : Type 0} (f : ℕ → X) (a k : ℕ) → upTo f a (suc k) ≡ upTo f a k ++ (f (a + k) ∷ [])
-unfolding upTo
-upTo-snoc {X} f a zero = ap (λ (x : X). x ∷ []) (ap f (sym (add-zero a)))
-upTo-snoc {X} f a (suc k) =
-    let e : suc a + k ≡ a + suc k = omega arith in
-    ap (λ (l : List X). f a ∷ l) (upTo-snoc f (suc a) k ∙ ap (λ (m : ℕ). upTo f (suc a) k ++ (f m ∷ [])) e)
 
 total-snoc : (g : Outcome → ℕ) (os : List Outcome) (o : Outcome) → total g (os ++ (o ∷ [])) ≡ total g os + g o
 unfolding total

@@ -3,9 +3,9 @@ use mathlib.Core.List.{List}
 use mathlib.Core.Path.{_≡_}
 use Prim.Native.Nat.{ℕ, _≤_, _<_}
 use lib.ListN.{length, take}
+use Rattle.base.specs.Lists.{sum}
 use Rattle.rules.specs.declared.Head.{Head}
 use Rattle.rules.specs.declared.Span.{Span}
-use Rattle.rules.specs.Lists.{sum}
 use Rattle.rules.specs.Opening.{Cells, slotCount}
 use Rattle.rules.specs.Spans.{start, slotsIn, R, spanOf, outcomeAt}
 use Rattle.book.specs.Cells.{Book}

@@ -1,14 +1,14 @@
 -- What publishing answers, and what it leaves in the buffer (01, The published file; Numbers of a refusal).
-use mathlib.Core.Bool.{cond, not}
+use mathlib.Core.Bool.{not}
 use mathlib.Core.List.{List, [], _∷_, _++_}
 use Prim.Native.Nat.{ℕ, _+_, _*_}
 use lib.Dec.{ltb}
 use lib.ListN.{length, drop}
+use Rattle.base.specs.Refusals.{unless}
+use Rattle.base.specs.Refusals.Rule.{rule}
 use Rattle.rules.specs.declared.Head.{Head}
 use Rattle.rules.specs.Opening.{Cells, headOk, firstDay}
 use Rattle.rules.specs.Spans.{outcomes, spans}
-use Rattle.book.specs.Answers.{Rule}
-use Rattle.book.specs.Answers.Rule.{rule}
 use Rattle.book.specs.Cells.{Book, bookFits, bookOk}
 use Rattle.publishing.specs.declared.Published.{Published}
 use Rattle.publishing.specs.declared.Published.the-variants.{Length, Refused}
@@ -29,18 +29,13 @@ published h b = record {
 unfoldable pub fileLength : Head → Cells → ℕ
 fileLength h b = 6 * length (outcomes h b) + 14 * length (spans h b) + 32
 
--- the first broken rule's number, or the length
-abbrev pub lengthUnless : List Rule → ℕ → Published
-lengthUnless [] n = Length n
-lengthUnless (rule k broken ∷ rules) n = cond broken (Refused k) (lengthUnless rules n)
-
 -- 11, of all cells and counts, goes before 7
 unfoldable pub publishAnswer : Head → Book → List ℕ → Published
 publishAnswer h b out =
-    lengthUnless
+    unless Refused
     (rule 1 (not (headOk h)) ∷ rule 2 (not (bookFits h b)) ∷ rule 11 (not (bookOk h b))
     ∷ rule 7 (ltb (length out) (fileLength h (b .cells))) ∷ [])
-    (fileLength h (b .cells))
+    (Length (fileLength h (b .cells)))
 
 -- the file stands in the first bytes; bytes after it, and all on a refusal, stay
 abbrev pub bytesAfter : Published → Content → List ℕ → List ℕ

@@ -7,11 +7,11 @@ use native.Mathlib.Omega.{arith}
 use borrow.Author.Tests.{leb-true, lt-ltb, le-ltb}
 use lib.Dec.{leb}
 use lib.ListN.{getD}
+use Rattle.base.proofs.Logic.{and-parts}
 use Rattle.calendar.specs.declared.Date.{Date}
 use Rattle.calendar.specs.Calendar.{leap, monthLengths, monthLength, dayNumber, isDate, dateOf}
 use Rattle.calendar.proofs.Bounds.{Bounded, bounded}
 use Rattle.calendar.proofs.Dates.{number-of-date}
-use Rattle.rules.proofs.Logic.{and-parts}
 use Rattle.rules.specs.declared.Head.{Head}
 use Rattle.rules.specs.Opening.{headOk}
 use Rattle.explain.specs.declared.naming.Named.{Named}

@@ -4,17 +4,18 @@ use mathlib.Core.List.{List, [], _∷_}
 use Prim.Native.Nat.{ℕ}
 use lib.Dec.{leb, eqb}
 use lib.ListN.{getD, length}
+use Rattle.base.specs.Refusals.{firstBroken}
+use Rattle.base.specs.Refusals.Rule.{rule}
 use Rattle.rules.specs.declared.Head.{Head}
 use Rattle.rules.specs.declared.tests.Cause.{Cause}
 use Rattle.rules.specs.declared.tests.Cause.the-variants as cause
 use Rattle.rules.specs.Opening.{headOk, slotCount}
-use Rattle.book.specs.Answers.Rule.{rule}
 use Rattle.book.specs.Cells.{Book, bookFits, bookOk}
 use Rattle.file.specs.Layout.{letter}
 use Rattle.explain.specs.declared.Rule.{Rule}
 use Rattle.explain.specs.declared.Rule.the-variants as applied
 use Rattle.explain.specs.declared.Explanation.{Explanation}
-use Rattle.explain.specs.Explain.{explanationOf, firstBroken}
+use Rattle.explain.specs.Explain.{explanationOf}
 
 -- the causes in the order of 01, 0 where there is none
 abbrev pub causeCode : Cause → ℕ

@@ -5,17 +5,18 @@ use Prim.Native.Nat.{ℕ}
 use lib.Dec.{eqb}
 use lib.IntN.{ℤ, pos}
 use lib.ListN.{length}
+use Rattle.base.specs.Refusals.{unless}
 use Rattle.rules.specs.declared.Head.{Head}
 use Rattle.book.specs.Cells.{Book, bookFits}
 use Rattle.claim.specs.Claim.{leftBy, plainFile}
 use Rattle.berth.specs.declared.Simulated.{Simulated}
 use Rattle.berth.specs.declared.Simulated.the-variants.{Run, Refused}
-use Rattle.berth.specs.Run.{callsOf, reportOf, runRules, reportUnless, listsWith, bytesWith}
+use Rattle.berth.specs.Run.{callsOf, reportOf, runRules, listsWith, bytesWith}
 
 -- a report of another length is a list of the wrong length, 2
 unfoldable pub hostAnswer : Head → ℕ → ℕ → Book → List ℕ → List ℤ → Simulated
 hostAnswer h seed loss b out report =
-    reportUnless (runRules h seed loss (eqb (length report) 2 && bookFits h b) (length out)) (reportOf h seed loss)
+    unless Refused (runRules h seed loss (eqb (length report) 2 && bookFits h b) (length out)) (Run (reportOf h seed loss))
 
 -- 0, or the refusal's number
 abbrev pub simulatedCode : Simulated → ℕ

@@ -1,16 +1,16 @@
 -- Two books with the same cells from a good slot on fill every slot behind it alike, its references aside.
-use mathlib.Core.Bool.{Bool, true, false, not, _||_, false≢true}
+use mathlib.Core.Bool.{Bool, true, _||_, false≢true}
 use mathlib.Core.List.{List}
 use mathlib.Core.Logic.{⊎-elim}
 use mathlib.Core.Path.{_≡_, refl, sym, ap, ap₂, _∙_}
 use Prim.Native.Nat.{ℕ, zero, suc, _+_, _-_, _≤_, _<_}
 use native.Mathlib.Nat.{eq-or-lt-of-le}
 use native.Mathlib.Omega.{arith}
+use Rattle.base.proofs.Logic.{either}
 use Rattle.rules.specs.declared.Head.{Head}
 use Rattle.rules.specs.Opening.{Slots, slotCount}
 use Rattle.rules.specs.Tests.{goodAt}
 use Rattle.rules.specs.Filling.{outageBefore, outageAfter, isOutageZero, inRun, runBefore, runFrom, runStart, runLength, isLinear, linearValue}
-use Rattle.rules.proofs.Logic.{either}
 use Rattle.rules.proofs.Runs.{run-good}
 use Rattle.reach.proofs.Alike.{SameAt, cond-same, and-same, gap-same, outage-same, good-same, past-gap}
 

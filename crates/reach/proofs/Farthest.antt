@@ -7,11 +7,12 @@ use native.Mathlib.Omega.{arith}
 use borrow.Author.Tests.{ne-eqb}
 use lib.Dec.{lit<, lit≤}
 use lib.ListN.{getD, take}
+use Rattle.base.specs.Lists.{sum}
+use Rattle.base.proofs.Lists.{upTo-at}
 use Rattle.calendar.specs.Calendar.{leap, monthLengths, monthLength, yearLength, daysBeforeMonth, daysBeforeYear, dayNumber, isDate, toSunday}
 use Rattle.rules.specs.declared.Head.{Head}
 use Rattle.rules.specs.declared.Outcome.{Outcome}
 use Rattle.reach.proofs.Heads.{headOn}
-use Rattle.rules.specs.Lists.{sum}
 use Rattle.rules.specs.Opening.{firstDay, slotsPerDay, slotCount}
 use Rattle.rules.specs.Tests.{timeChangeBit, outageBit, partialBit, causeOf}
 use Rattle.rules.specs.Weeks.{firstBack, farthestBack, weeksWithin}
@@ -20,13 +21,12 @@ use Rattle.rules.specs.Spans.{outcomeAt}
 use Rattle.book.specs.Arguments.{Call}
 use Rattle.book.specs.Arguments.Call.{delivery, holiday}
 use Rattle.book.specs.Plain.{deliveries, reads, agreements, named, highest, contentWith, slotContent, bookOf}
-use Rattle.book.proofs.Tables.{getD-upTo}
 use Rattle.reach.proofs.Sparse.{Sparse, goodIn, status-at, good-at, outcome-last}
 
 -- a day of the book
 holiday-at : (h : Head) (kept : List Call) (d : ℕ) → d < h .days → getD (bookOf h kept .holidays) d 0 ≡ cond (named d kept) 1 0
 unfolding bookOf
-holiday-at h kept d m = getD-upTo (λ d. cond (named d kept) 1 0) (h .days) d m
+holiday-at h kept d m = upTo-at (λ d. cond (named d kept) 1 0) (h .days) d m
 
 -- slot k is a reference where its kept delivery is good and has no outage bit
 reference-at : (h : Head) (kept : List Call) (k : ℕ) (t : Bool) → k < slotCount h → k / slotsPerDay h < h .days → named (k / slotsPerDay h) kept ≡ false

@@ -1,5 +1,5 @@
 -- Two books that differ at slot i alone fill every slot alike that is not of clauses 1 to 3, and give it the same shape.
-use mathlib.Core.Bool.{true, false, false≢true}
+use mathlib.Core.Bool.{true, false≢true}
 use mathlib.Core.List.{List}
 use mathlib.Core.Logic.{_⊎_, inl, inr, ⊎-elim}
 use mathlib.Core.Path.{_≡_, refl, sym, _∙_}
@@ -8,14 +8,14 @@ use native.Mathlib.Nat.{eq-or-lt-of-le}
 use native.Mathlib.Omega.{arith}
 use borrow.Author.Tests.{ltb-true, ltb-false}
 use lib.Dec.{ltb}
+use Rattle.base.specs.Lists.{any}
+use Rattle.base.proofs.Logic.{either}
+use Rattle.base.proofs.Sums.{any-place, any-some}
 use Rattle.rules.specs.declared.Head.{Head}
-use Rattle.rules.specs.Lists.{any}
 use Rattle.rules.specs.Opening.{Slots, Agreed, slotsPerDay, slotCount}
 use Rattle.rules.specs.Tests.{goodAt}
-use Rattle.rules.specs.Filling.{isOutageZero, isLinear, linearValue, references, filledAt, shapeAt}
-use Rattle.rules.proofs.Logic.{either}
+use Rattle.rules.specs.Filling.{isOutageZero, isLinear, linearValue, filledAt, shapeAt}
 use Rattle.rules.proofs.Shapes.{shape-good}
-use Rattle.rules.proofs.Sums.{any-place, any-some}
 use Rattle.reach.specs.Reach.{HasCause, InRunAt, DaysLater}
 use Rattle.reach.proofs.Alike.{SameAt, good-same}
 use Rattle.reach.proofs.Behind.{zero-behind, linear-behind, value-behind}

@@ -4,18 +4,18 @@ use mathlib.Core.Logic.{_⊎_, inl, ⊎-elim}
 use mathlib.Core.Path.{_≡_, refl, ap, _∙_}
 use Prim.Native.Nat.{ℕ, _+_, _*_, _≤_}
 use native.Mathlib.Omega.{arith}
+use Rattle.base.specs.Lists.{sum}
 use Rattle.calendar.specs.Calendar.{leap, monthLengths, monthLength, yearLength, daysBeforeMonth, daysBeforeYear, dayNumber, isDate}
 use Rattle.rules.specs.declared.Head.{Head}
 use Rattle.rules.specs.declared.Outcome.{Outcome}
-use Rattle.rules.specs.Lists.{sum, any}
 use Rattle.rules.specs.Opening.{headOk, intervalOk, firstDay, slotsPerDay, slotCount}
 use Rattle.rules.specs.Spans.{outcomeAt}
 use Rattle.book.specs.Answers.{byVersion}
-use Rattle.book.specs.Answers.Answer.{stored, late}
+use Rattle.book.specs.Answers.Answer.{stored}
 use Rattle.book.specs.Arguments.{Call, argumentRules}
 use Rattle.book.specs.Arguments.Call.{delivery, holiday}
 use Rattle.book.specs.Plain.{deliveries, named, highest, contentWith, againstKept, plainAnswer, keep, keptOf, bookOf}
-use Rattle.reach.specs.Needed.{Late, figure, Moves, OnlyLater, Needed}
+use Rattle.reach.specs.Needed.{Late, Moves, OnlyLater, Needed}
 use Rattle.reach.proofs.Sparse.{Sparse, left-good, spanless}
 use Rattle.reach.proofs.Farthest.{year, more, weeksKept, feastKept, again, sparse-again, weeks-before, feast-before, weeks-method, feast-method}
 use Rattle.reach.proofs.Outside.{cut, apart, no-span}

@@ -8,17 +8,17 @@ use native.Mathlib.Omega.{arith}
 use lib.Dec.{lit<, lit≤, eqb}
 use lib.ListN.{length, getD}
 use borrow.Author.Tests.{eqb-true}
+use Rattle.base.specs.Lists.{every, sum, any, upTo}
+use Rattle.base.proofs.Logic.{passed}
 use Rattle.calendar.specs.Calendar.{leap, monthLengths, monthLength, yearLength, daysBeforeMonth, daysBeforeYear, dayNumber, isDate, toSunday}
 use Rattle.rules.specs.declared.Head.{Head}
 use Rattle.rules.specs.declared.Outcome.{Outcome}
 use Rattle.reach.proofs.Heads.{headOn}
-use Rattle.rules.specs.Lists.{every, sum, any}
 use Rattle.rules.specs.Opening.{Cells, headOk, intervalOk, firstDay, slotsPerDay, slotCount}
 use Rattle.rules.specs.Tests.{isGap, timeChangeBit, outageBit, partialBit, causeOf, causeAt, goodAt}
 use Rattle.rules.specs.Weeks.{firstBack, farthestBack, weeksWithin}
 use Rattle.rules.specs.Filling.{outageAt, outageBefore, outageAfter, isOutageZero, isAgreed, inRun, runBefore, runFrom, runStart, runLength, isLinear, lineValue, linearValue, isReference, weekBack, weeksBack, references, total, meanOf, fromReferences, filledAt}
-use Rattle.rules.specs.Spans.{isRead, lastRead, nextRead, advance, rangeOf, leastIn, isNear, stateBy, start, slotsIn, G, range, actual, R, stateOf, inSpan, between, outcomeAt, upTo, spanOf, spanTo, spanFrom, spansFrom, spans}
-use Rattle.rules.proofs.Logic.{passed}
+use Rattle.rules.specs.Spans.{isRead, lastRead, nextRead, advance, rangeOf, leastIn, isNear, stateBy, start, slotsIn, G, range, actual, R, stateOf, inSpan, between, outcomeAt, spanOf, spanTo, spanFrom, spansFrom, spans}
 use Rattle.book.specs.Answers.{Answer, isStored, byVersion}
 use Rattle.book.specs.Arguments.{argumentRules}
 use Rattle.book.specs.Arguments.Call.{delivery, register}

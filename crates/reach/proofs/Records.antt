@@ -7,10 +7,10 @@ use native.Mathlib.Nat.{mul-suc, mul-zero, zero-add, not-suc-le-zero, le-of-suc-
 use native.Mathlib.Omega.{arith}
 use lib.ListN.{length, getD, take, drop, length-drop}
 use lib.Seq.{take-at, drop-append-add, drop-append-le, take-append-le}
+use Rattle.base.proofs.Lists.{length-upTo, getD-upTo}
 use Rattle.rules.specs.declared.Head.{Head}
 use Rattle.rules.specs.Opening.{Cells, slotCount}
 use Rattle.rules.specs.Spans.{outcomeAt, noSpan, outcomes, spans}
-use Rattle.rules.proofs.Lists.{length-upTo, getD-upTo}
 use Rattle.file.specs.Contents.{noSlot}
 use Rattle.file.specs.Layout.{row, table, slotRow, spanRow, trailerRow, figuresOf, tablesOf, fileOf}
 use Rattle.file.proofs.Content.{length-file}

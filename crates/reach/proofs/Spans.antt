@@ -4,14 +4,14 @@ use mathlib.Core.Path.{_≡_, ap}
 use Prim.Native.Nat.{ℕ, _+_, _-_, _*_, _≤_, _<_}
 use native.Mathlib.Omega.{arith}
 use lib.Dec.{eqb}
+use Rattle.base.specs.Lists.{sum, any}
+use Rattle.base.proofs.Sums.{sum-cong, any-cong}
 use Rattle.rules.specs.declared.Head.{Head}
 use Rattle.rules.specs.declared.Outcome.{Outcome}
 use Rattle.rules.specs.declared.Quality.{Quality}
-use Rattle.rules.specs.Lists.{sum, any}
 use Rattle.rules.specs.Opening.{Slots, Cells, slotsPerDay}
 use Rattle.rules.specs.Filling.{filledAt, shapeAt}
 use Rattle.rules.specs.Spans.{isS, isN, actualIn, start, slotsIn, G, range, actual, R, stateOf, T, allZero, e, E, C, P, newValue, inSpan, spanOf}
-use Rattle.rules.proofs.Sums.{sum-cong, any-cong}
 
 -- a book with other slots
 abbrev pub withSlots : Cells → Slots → Cells

@@ -5,6 +5,7 @@ use mathlib.Core.Path.{_≡_, sym, ap, _∙_}
 use Prim.Native.Nat.{ℕ, suc, _+_, _-_, _*_, _/_, _≤_, _<_}
 use native.Mathlib.Omega.{arith}
 use lib.ListN.{length, getD, take}
+use Rattle.base.proofs.Lists.{upTo-at}
 use Rattle.rules.specs.declared.Head.{Head}
 use Rattle.rules.specs.Opening.{Cells, slotsPerDay, slotCount}
 use Rattle.rules.specs.Tests.{isGap, outageBit, isGood, causeOf, causeAt, goodAt}
@@ -14,7 +15,6 @@ use Rattle.rules.specs.Spans.{isRead, outcomeAt, spans}
 use Rattle.rules.proofs.References.{references-searched}
 use Rattle.book.specs.Arguments.{Call}
 use Rattle.book.specs.Plain.{deliveries, reads, agreements, highest, slotVersion, slotContent, readVersion, agreedVersion, bookOf}
-use Rattle.book.proofs.Tables.{getD-upTo}
 use Rattle.reach.proofs.LastSlot.{outside, no-spans, weeks-one, filled-last}
 
 -- the slot's kept delivery is good
@@ -41,15 +41,15 @@ module _ (h : Head) (kept : List Call) where
   module _ (k : ℕ) (l : k < slotCount h) where
     pub version-at : getD (b .slots .versions) k 0 ≡ slotVersion kept k
     unfolding bookOf
-    version-at = getD-upTo (slotVersion kept) (slotCount h) k l
+    version-at = upTo-at (slotVersion kept) (slotCount h) k l
 
     pub value-at : getD (b .slots .values) k 0 ≡ slotContent kept k .value
     unfolding bookOf
-    value-at = getD-upTo (λ i. slotContent kept i .value) (slotCount h) k l
+    value-at = upTo-at (λ i. slotContent kept i .value) (slotCount h) k l
 
     pub status-at : getD (b .slots .statuses) k 0 ≡ slotContent kept k .status
     unfolding bookOf
-    status-at = getD-upTo (λ i. slotContent kept i .status) (slotCount h) k l
+    status-at = upTo-at (λ i. slotContent kept i .status) (slotCount h) k l
 
     pub good-at : goodAt h (b .slots) k ≡ goodIn h kept k
     unfolding goodAt causeAt
@@ -74,11 +74,11 @@ module _ (h : Head) (kept : List Call) where
 
     free-at : agreements k kept ≡ [] → isAgreed (b .agreed .versions) k ≡ false
     unfolding isAgreed bookOf highest
-    free-at e = rw (getD-upTo (agreedVersion kept) (slotCount h) k l, e)
+    free-at e = rw (upTo-at (agreedVersion kept) (slotCount h) k l, e)
 
   read-none : ((d : ℕ) → reads d kept ≡ []) → (d : ℕ) → d ≤ h .days → isRead (b .readVersions) d ≡ false
   unfolding isRead bookOf highest
-  read-none u d l = rw (getD-upTo (readVersion kept) (suc (h .days)) d (omega arith), u d)
+  read-none u d l = rw (upTo-at (readVersion kept) (suc (h .days)) d (omega arith), u d)
 
   module _ (i p j : ℕ) (x : Sparse h kept i p j) where
     in-book : p < slotCount h

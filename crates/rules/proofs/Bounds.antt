@@ -7,9 +7,9 @@ use native.Mathlib.Nat.{mul-le-mul, mul-comm, le-refl, le-pred-of-lt, div-lt-iff
 use native.Mathlib.Omega.{arith}
 use borrow.Author.Tests.{leb-true, eqb-true}
 use lib.Dec.{eqb, lit≤}
+use Rattle.base.proofs.Logic.{or-parts, passed}
 use Rattle.rules.specs.declared.Head.{Head}
 use Rattle.rules.specs.Opening.{firstDay, intervalOk, dayTests, headTests, headOk, slotsPerDay, slotCount}
-use Rattle.rules.proofs.Logic.{or-parts, passed}
 
 pub record Bounded (h : Head) : Type 0 where
   pub interval-low : 5 ≤ h .interval

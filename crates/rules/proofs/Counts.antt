@@ -8,14 +8,14 @@ use native.Mathlib.Nat.{add-zero, zero-add}
 use native.Mathlib.Numerals.{add-one}
 use native.Mathlib.Omega.{arith}
 use lib.ListN.{length, length-append, getD}
+use Rattle.base.specs.Lists.{sum}
+use Rattle.base.proofs.Sums.{sum-first, sum-none, sum-place}
 use Rattle.rules.specs.declared.Head.{Head}
-use Rattle.rules.specs.Lists.{sum}
 use Rattle.rules.specs.Opening.{Cells}
 use Rattle.rules.specs.Spans.{isRead, nextRead, spanTo, spanFrom, spansFrom, spans}
 use Rattle.rules.specs.Inner.Stretches.{readCount}
 use Rattle.rules.proofs.Boundaries.{next-tells, next-none}
 use Rattle.rules.proofs.Stretches.{is-read, unread}
-use Rattle.rules.proofs.Sums.{sum-first, sum-none, sum-place}
 
 -- 1 for a boundary with a reading
 abbrev one : List ℕ → ℕ → ℕ

@@ -6,6 +6,7 @@ use mathlib.Core.Path.{_≡_}
 use Prim.Native.Nat.{ℕ, _+_}
 use lib.Dec.{eqb}
 use lib.ListN.{getD}
+use Rattle.base.proofs.Logic.{and-parts, either}
 use Rattle.rules.specs.declared.Head.{Head}
 use Rattle.rules.specs.declared.Outcome.{Outcome}
 use Rattle.rules.specs.declared.Quality.the-variants.{A, S, F}
@@ -14,7 +15,6 @@ use Rattle.rules.specs.Tests.{goodAt}
 use Rattle.rules.specs.Filling.{isAgreed, isOutageZero, isLinear, linearValue, references, fromReferences, filledAt}
 use Rattle.rules.specs.Spans.{isS, filled, stateOf, newValue, inSpan}
 use Rattle.rules.specs.Inner.Fills.{agreedOf}
-use Rattle.rules.proofs.Logic.{and-parts, either}
 
 -- the first rule that applies to a slot with a cause
 module _ (h : Head) (s : Slots) (a : Agreed) (holidays : List ℕ) (i : ℕ) (cause : goodAt h s i ≡ false) where

@@ -12,10 +12,10 @@ use lib.Signed.{mag, ltZ, nonNeg, quotZ, remZ, mag-rem}
 use mir.Syntax.{w32, w64}
 use mir.Val.{Fits, SFits, toZ, ofZ}
 use mir.ValLaws.{toZ-ofZ, toZ-pos}
+use Rattle.base.proofs.Logic.{either}
 use Rattle.rules.specs.declared.linear.Line.{Line}
 use Rattle.rules.specs.Filling.{floorOver, lineValue}
 use Rattle.rules.specs.Inner.Fills.{Drawn}
-use Rattle.rules.proofs.Logic.{either}
 
 -- a / m and (a + 1) / m
 module _ (a m : ℕ) (p : 0 < m) where

@@ -6,13 +6,13 @@ use mathlib.Core.Path.{_≡_}
 use Prim.Native.Nat.{ℕ, _+_, _≤_}
 use lib.Dec.{eqb, lit≤}
 use lib.ListN.{length}
+use Rattle.base.proofs.Logic.{either}
 use Rattle.rules.specs.declared.Head.{Head}
 use Rattle.rules.specs.declared.Outcome.{Outcome}
 use Rattle.rules.specs.declared.Quality.the-variants.{A, S, F, N}
 use Rattle.rules.specs.Opening.{Slots, Agreed}
 use Rattle.rules.specs.Filling.{references, fromReferences, filledAt}
 use Rattle.rules.specs.Spans.{isS}
-use Rattle.rules.proofs.Logic.{either}
 use Rattle.rules.proofs.Fillings.{filled-by}
 
 -- of a slot before its span is scaled

@@ -1,8 +1,4 @@
-pub mod Logic
 pub mod Ranges
-pub mod Lists
-pub mod Sums
-pub mod Looked
 pub mod Tables
 pub mod Bounds
 pub mod Floors

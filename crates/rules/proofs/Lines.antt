@@ -9,15 +9,15 @@ use native.Mathlib.Numerals.{add-one}
 use native.Mathlib.Omega.{arith}
 use borrow.Author.Tests.{ltb-true, le-leb, lt-leb}
 use lib.ListN.{getD}
+use Rattle.base.specs.Lists.{every}
+use Rattle.base.proofs.Logic.{either, passed}
 use Rattle.rules.specs.declared.Head.{Head}
 use Rattle.rules.specs.declared.fills.Fills.{Fills}
 use Rattle.rules.specs.declared.linear.Line.{Line}
-use Rattle.rules.specs.Lists.{every}
 use Rattle.rules.specs.Opening.{Slots, slotCount}
 use Rattle.rules.specs.Tests.{goodAt}
 use Rattle.rules.specs.Filling.{inRun, runBefore, runFrom, runLength, isLinear, lineValue, linearValue}
 use Rattle.rules.specs.Inner.Fills.{zeroAt, zeroBefore, bareLine, fullLine, lineThrough, lineAt, lineBefore, endTests, lengthWithin, Drawn, fillsAt}
-use Rattle.rules.proofs.Logic.{either, passed}
 use Rattle.rules.proofs.Bounds.{Bounded, cap-high}
 use Rattle.rules.proofs.Runs.{before-low, before-none, before-on, from-on, place-within, start-kept, length-kept, linear-kept, start-first, length-first, linear-first, linear-tells}
 use Rattle.rules.proofs.Small.{good-small}

@@ -6,10 +6,11 @@ use Prim.Native.Nat.{ℕ, _-_, _*_, _≤_}
 use native.Mathlib.Nat.{sub-self}
 use borrow.Author.Tests.{leb-true, eq-eqb}
 use lib.Dec.{leb}
+use Rattle.base.specs.Lists.{sum}
+use Rattle.base.proofs.Sums.{sum-cong}
 use Rattle.rules.specs.declared.Head.{Head}
 use Rattle.rules.specs.declared.range.Range.{Range}
 use Rattle.rules.specs.declared.spans.Summary.{Summary}
-use Rattle.rules.specs.Lists.{sum}
 use Rattle.rules.specs.Opening.{Slots, Agreed, Cells, slotsPerDay}
 use Rattle.rules.specs.Spans.{leastIn, isNear, stateBy, filled, shape, start, slotsIn, G, range, R, actual, stateOf, T, allZero, e, E, P, spanOf, isS}
 use Rattle.rules.specs.Lent.{cells}
@@ -17,7 +18,6 @@ use Rattle.rules.specs.Inner.Summaries.{summaryOf, scalingOf}
 use Rattle.rules.specs.Inner.Stretches.{scalingAt, spanStretch, stretchBy}
 use Rattle.rules.proofs.Shapes.{shape-of-s}
 use Rattle.rules.proofs.States.{stated}
-use Rattle.rules.proofs.Sums.{sum-cong}
 
 -- state 1 is given only where R ≥ V
 pub scaled-advance : (hole full : Bool) (range : Range) (r v t : ℕ) → stateBy hole full range r v t ≡ 1 → v ≤ r

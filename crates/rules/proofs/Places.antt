@@ -7,13 +7,13 @@ use native.Mathlib.Nat.{add-mul, mul-comm, mul-le-mul-right, le-div-iff-mul-le, 
 use native.Mathlib.Omega.{arith}
 use borrow.Author.Tests.{leb-true, leb-false}
 use lib.Dec.{leb}
+use Rattle.base.proofs.Logic.{either}
 use Rattle.rules.specs.declared.Head.{Head}
 use Rattle.rules.specs.declared.Outcome.{Outcome}
 use Rattle.rules.specs.declared.Span.{Span}
 use Rattle.rules.specs.Opening.{Cells, slotsPerDay, slotCount}
 use Rattle.rules.specs.Filling.{filledAt}
 use Rattle.rules.specs.Spans.{lastRead, nextRead, start, slotsIn, spanOf, inSpan, between, outcomeAt}
-use Rattle.rules.proofs.Logic.{either}
 use Rattle.rules.proofs.Bounds.{Bounded}
 use Rattle.rules.proofs.Boundaries.{Last, Next, last-tells, last-found, next-tells, next-found}
 use Rattle.rules.proofs.Neighbours.{Neighbours, neighbours}

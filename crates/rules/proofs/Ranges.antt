@@ -6,9 +6,9 @@ use Prim.Native.Nat.{ℕ, _+_, _-_, _≤_, _<_}
 use native.Mathlib.Omega.{arith}
 use borrow.Author.Tests.{leb-true, leb-false, le-leb}
 use lib.Dec.{leb}
+use Rattle.base.proofs.Logic.{and-parts, either}
 use Rattle.rules.specs.declared.range.Range.{Range}
 use Rattle.rules.specs.Spans.{advance, rangeOf, leastIn, isNear}
-use Rattle.rules.proofs.Logic.{and-parts, either}
 
 -- |a − v|
 abbrev pub apart : ℕ → ℕ → ℕ

@@ -11,6 +11,7 @@ use lib.Dec.{lit<, leb, ltb}
 use lib.ListN.{length, getD, take, set, length-set}
 use native.Mathlib.Nat.{le-refl, add-mul, mul-le-mul-right, add-mul-div-right, le-div-iff-mul-le, div-lt-iff-lt-mul}
 use lib.Seq.{take-suc-set, take-nil}
+use Rattle.base.proofs.Logic.{either}
 use Rattle.rules.specs.declared.Head.{Head}
 use Rattle.rules.specs.declared.Quality.the-variants.{S, N}
 use Rattle.rules.specs.Opening.{Slots, slotsPerDay}
@@ -18,7 +19,6 @@ use Rattle.rules.specs.Weeks.{firstBack, farthestBack, weeksWithin}
 use Rattle.rules.specs.Filling.{total, isReference, weekBack, weeksBack, references, meanOf, fromReferences}
 use Rattle.rules.specs.Inner.Ways.{searched, InBook}
 use Rattle.rules.proofs.Bounds.{Bounded}
-use Rattle.rules.proofs.Logic.{either}
 
 -- one more element
 total-suc : (l : List ℕ) (i : ℕ) → total (take i l) + getD l i 0 ≡ total (take (suc i) l)

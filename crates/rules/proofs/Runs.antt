@@ -8,13 +8,13 @@ use native.Mathlib.Nat.{div-lt-iff-lt-mul, le-div-iff-mul-le, mul-le-mul, le-ref
 use native.Mathlib.Omega.{arith}
 use borrow.Author.Tests.{leb-true, le-leb, lt-leb, le-ltb, lt-ltb, not-true}
 use lib.ListN.{getD}
+use Rattle.base.specs.Lists.{every}
+use Rattle.base.proofs.Logic.{and-parts, either, passed}
 use Rattle.rules.specs.declared.Head.{Head}
-use Rattle.rules.specs.Lists.{every}
 use Rattle.rules.specs.Opening.{Slots, slotCount}
 use Rattle.rules.specs.Tests.{goodAt}
 use Rattle.rules.specs.Filling.{isOutageZero, isAgreed, inRun, runBefore, runFrom, runStart, runLength, lineTests, isLinear}
 use Rattle.rules.specs.Inner.Fills.{lengthWithin}
-use Rattle.rules.proofs.Logic.{and-parts, either, passed}
 
 -- what `isLinear` tells
 pub record Linear (h : Head) (s : Slots) (start g : ℕ) : Type 0 where

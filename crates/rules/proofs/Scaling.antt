@@ -4,12 +4,12 @@ use mathlib.Core.Path.{_≡_, refl}
 use Prim.Native.Nat.{ℕ, suc, _+_, _-_, _≤_, _<_}
 use native.Mathlib.Omega.{arith}
 use borrow.Author.Tests.{eqb-true, eqb-false}
+use Rattle.base.specs.Lists.{sum, any}
+use Rattle.base.proofs.Sums.{sum-cong, sum-grows, sum-place, any-place}
 use Rattle.rules.specs.declared.Head.{Head}
 use Rattle.rules.specs.declared.Outcome.{Outcome}
-use Rattle.rules.specs.Lists.{sum, any}
 use Rattle.rules.specs.Opening.{Cells}
 use Rattle.rules.specs.Spans.{isS, filled, shape, start, slotsIn, R, actual, T, allZero, e, E, C, P, newValue}
-use Rattle.rules.proofs.Sums.{sum-cong, sum-grows, sum-place, any-place}
 use Rattle.rules.proofs.Shapes.{shape-of-s}
 use Rattle.rules.proofs.Shares.{share-high, share-whole, telescope}
 

@@ -9,6 +9,7 @@ use native.Mathlib.Omega.{arith}
 use borrow.Author.Tests.{eqb-false}
 use lib.Dec.{eqb}
 use lib.ListN.{length, take}
+use Rattle.base.proofs.Logic.{either}
 use Rattle.rules.specs.declared.Head.{Head}
 use Rattle.rules.specs.declared.Outcome.{Outcome}
 use Rattle.rules.specs.Opening.{Slots, Agreed, slotsPerDay}
@@ -16,7 +17,6 @@ use Rattle.rules.specs.Tests.{goodAt}
 use Rattle.rules.specs.Weeks.{firstBack, farthestBack, weeksWithin}
 use Rattle.rules.specs.Filling.{weeksBack, references, total, fromReferences, filledAt, shapeOf, shapeAt}
 use Rattle.rules.specs.Inner.Summaries.{shapeIn}
-use Rattle.rules.proofs.Logic.{either}
 use Rattle.rules.proofs.Fillings.{filled-by}
 use Rattle.rules.proofs.Forms.{Filled, filled-form}
 use Rattle.rules.proofs.Forms.Filled.{delivered, agreed, outage, linear, sameDay, nothing}

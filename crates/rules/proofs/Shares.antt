@@ -3,9 +3,9 @@ use mathlib.Core.Path.{_≡_}
 use Prim.Native.Nat.{ℕ, zero, suc, _+_, _-_, _*_, _≤_, _<_}
 use native.Mathlib.Nat.{div-le-of-le-mul, div-mul-le-self, le-div-iff-mul-le, mul-comm, mul-le-mul-left, le-trans, mul-div-cancel, mul-zero, zero-div}
 use native.Mathlib.Omega.{arith}
-use Rattle.rules.specs.Lists.{sum}
+use Rattle.base.specs.Lists.{sum}
+use Rattle.base.proofs.Sums.{sum-grows}
 use Rattle.rules.specs.Spans.{share}
-use Rattle.rules.proofs.Sums.{sum-grows}
 
 pub share-grows : (t p c e : ℕ) → 0 < e → p ≤ c → share t p e ≤ share t c e
 unfolding share

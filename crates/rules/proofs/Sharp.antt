@@ -7,12 +7,12 @@ use native.Mathlib.Omega.{arith}
 use borrow.Author.Tests.{leb-true, leb-false, le-leb, lt-leb}
 use lib.Dec.{leb}
 use lib.ListN.{getD}
+use Rattle.base.specs.Lists.{any}
+use Rattle.base.proofs.Logic.{either}
 use Rattle.rules.specs.declared.Head.{Head}
 use Rattle.rules.specs.declared.range.Range.{Range}
-use Rattle.rules.specs.Lists.{any}
 use Rattle.rules.specs.Opening.{Cells}
 use Rattle.rules.specs.Spans.{isS, isN, rangeOf, leastIn, isNear, stateBy, filled, start, slotsIn, G, range, actual, R, stateOf, spanOf}
-use Rattle.rules.proofs.Logic.{either}
 use Rattle.rules.proofs.Ranges.{apart, advance-below}
 
 -- 01's state: 2 if a slot is N; else, if a slot is S, 1 when R ≥ V and 3 when R < V; else 0 when |R − V| ≤ t and 3 otherwise

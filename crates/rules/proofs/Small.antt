@@ -7,8 +7,9 @@ use Prim.Native.Nat.{ℕ, zero, suc, _+_, _-_, _*_, _/_, _≤_, zero-le}
 use native.Mathlib.Nat.{div-le-of-le-mul, suc-mul, add-comm, add-le-add, mul-le-mul-left}
 use native.Mathlib.Omega.{arith}
 use borrow.Author.Tests.{ltb-false}
-use lib.Dec.{leb, ltb, eqb}
+use lib.Dec.{leb, eqb}
 use lib.ListN.{length, getD, take}
+use Rattle.base.proofs.Logic.{and-parts, either}
 use Rattle.rules.specs.declared.Head.{Head}
 use Rattle.rules.specs.declared.tests.Cause.the-variants.{Nothing, Gap, TimeChange, Partial, Demand}
 use Rattle.rules.specs.Opening.{Slots, Agreed, slotsPerDay}
@@ -16,7 +17,6 @@ use Rattle.rules.specs.Tests.{isGood, timeChangeBit, partialBit, causeOf
 use Rattle.rules.specs.Weeks.{firstBack, farthestBack, weeksWithin}
 use Rattle.rules.specs.Filling.{isReference, weekBack, weeksBack, references, total, meanOf, isLinear, linearValue, fromReferences, filledAt, shapeOf, shapeAt}
 use Rattle.rules.specs.Inner.Lent.{AgreedLow}
-use Rattle.rules.proofs.Logic.{and-parts, either}
 use Rattle.rules.proofs.Bounds.{Bounded, cap, cap-high, good-cap}
 use Rattle.rules.proofs.Floors.{line-small}
 use Rattle.rules.proofs.Runs.{place-low, linear-tells}

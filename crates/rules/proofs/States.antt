@@ -5,16 +5,16 @@ use Prim.Native.Nat.{ℕ, _+_, _≤_, _<_}
 use native.Mathlib.Omega.{arith}
 use borrow.Author.Tests.{leb-true, eq-eqb}
 use lib.Dec.{leb, eqb, lit≤}
+use Rattle.base.specs.Lists.{sum, any}
+use Rattle.base.proofs.Sums.{sum-cong, sum-plus, any-cong, any-none}
 use Rattle.rules.specs.declared.Head.{Head}
 use Rattle.rules.specs.declared.Outcome.{Outcome}
 use Rattle.rules.specs.declared.Quality.the-variants.{S}
 use Rattle.rules.specs.declared.Span.{Span}
-use Rattle.rules.specs.Lists.{sum, any}
 use Rattle.rules.specs.Opening.{Cells}
 use Rattle.rules.specs.Inner.Lent.{WidthsLow}
 use Rattle.rules.specs.Spans.{isS, isN, actualIn, isScaled, isNear, stateBy, filled, start, slotsIn, range, R, actual, stateOf, newValue, inSpan, spanOf, outcomeAt}
 use Rattle.rules.proofs.Bounds.{Bounded}
-use Rattle.rules.proofs.Sums.{sum-cong, sum-plus, any-cong, any-none}
 use Rattle.rules.proofs.Forms.{Filled, filled-form}
 use Rattle.rules.proofs.Forms.Filled.{delivered, agreed, outage, linear, sameDay, nothing}
 use Rattle.rules.proofs.Neighbours.{Neighbours}

@@ -8,6 +8,7 @@ use native.Mathlib.Numerals.{add-one}
 use native.Mathlib.Omega.{arith}
 use borrow.Author.Tests.{ne-eqb}
 use lib.Dec.{eqb}
+use Rattle.base.proofs.Sums.{sum-grows, any-some}
 use Rattle.rules.specs.declared.Head.{Head}
 use Rattle.rules.specs.declared.Outcome.{Outcome}
 use Rattle.rules.specs.declared.Quality.the-variants.{S}
@@ -30,7 +31,6 @@ use Rattle.rules.proofs.Outcomes.{advance-low}
 use Rattle.rules.proofs.Scaling.{running, zero-each, shape-positive}
 use Rattle.rules.proofs.Small.{shape-small}
 use Rattle.rules.proofs.Summaries.{sum-small}
-use Rattle.rules.proofs.Sums.{sum-grows, any-some}
 
 -- the outcome of slot i of a scaled span
 abbrev newly : Head → Cells → ℕ → ℕ → ℕ → Outcome

@@ -11,6 +11,7 @@ use native.Mathlib.Omega.{arith}
 use borrow.Author.Tests.{eq-eqb, ne-eqb}
 use lib.Dec.{eqb}
 use lib.ListN.{length, getD}
+use Rattle.base.proofs.Logic.{either}
 use Rattle.rules.specs.declared.Head.{Head}
 use Rattle.rules.specs.declared.stretch.Begins.the-variants.{Nothing}
 use Rattle.rules.specs.Opening.{Cells, slotsPerDay, slotCount}
@@ -18,7 +19,6 @@ use Rattle.rules.specs.Spans.{isRead, lastRead, nextRead, stateOf, spanT
 use Rattle.rules.specs.Inner.Stretches.{unscaledTo, spanStretch, stretchOf, stretchOn, stretchAt, carriedAt, beginsAt, beginsWith, stretchFrom}
 use Rattle.rules.proofs.Bounds.{Bounded, day-below}
 use Rattle.rules.proofs.Boundaries.{next-tells}
-use Rattle.rules.proofs.Logic.{either}
 
 module _ (r : List ℕ) where
   pub is-read : (d : ℕ) → (getD r d 0 ≡ 0 → ⊥) → isRead r d ≡ true

@@ -7,12 +7,12 @@ use native.Mathlib.Nat.{add-zero, add-le-add, suc-mul, mul-le-mul, le-refl, le-t
 use native.Mathlib.Numerals.{add-one}
 use native.Mathlib.Omega.{arith}
 use lib.Dec.{lit≤}
+use Rattle.base.specs.Lists.{sum, any}
 use Rattle.rules.specs.declared.Head.{Head}
 use Rattle.rules.specs.declared.Outcome.{Outcome}
 use Rattle.rules.specs.declared.Quality.{Quality}
 use Rattle.rules.specs.declared.Quality.the-variants.{A, S, F, N}
 use Rattle.rules.specs.declared.spans.Summary.{Summary}
-use Rattle.rules.specs.Lists.{sum, any}
 use Rattle.rules.specs.Opening.{Slots, Agreed, slotCount}
 use Rattle.rules.specs.Filling.{filledAt, shapeAt}
 use Rattle.rules.specs.Spans.{isA, isS, isF}

@@ -1,4 +1,3 @@
-pub mod Lists
 pub mod Opening
 pub mod Lent
 pub mod Limits

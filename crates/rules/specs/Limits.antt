@@ -4,9 +4,9 @@ use mathlib.Core.List.{List, [], _∷_}
 use Prim.Native.Nat.{ℕ, zero, suc, _-_}
 use lib.Dec.{leb, ltb}
 use lib.ListN.{length, getD}
+use Rattle.base.specs.Lists.{every, any}
 use Rattle.rules.specs.declared.limits.Loaded.{Loaded}
 use Rattle.rules.specs.declared.limits.Loaded.the-variants.{Limit, Refused}
-use Rattle.rules.specs.Lists.{every, any}
 
 -- the limit before place i, counted from 0; the first is at least 1, so above 0
 unfoldable pub limitBefore : List ℕ → ℕ → ℕ

@@ -3,9 +3,9 @@ use mathlib.Core.Bool.{Bool, _||_}
 use mathlib.Core.List.{List, [], _∷_}
 use Prim.Native.Nat.{ℕ, _+_, _*_, _/_}
 use lib.Dec.{leb, eqb}
+use Rattle.base.specs.Lists.{every}
 use Rattle.calendar.specs.Calendar.{dayNumber, isDate}
 use Rattle.rules.specs.declared.Head.{Head}
-use Rattle.rules.specs.Lists.{every}
 
 -- the day number of the first day
 unfoldable pub firstDay : Head → ℕ

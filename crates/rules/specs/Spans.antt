@@ -5,13 +5,13 @@ use mathlib.Core.Option.{Option, none, some}
 use Prim.Native.Nat.{ℕ, zero, suc, _+_, _-_, _*_, _/_, _%_}
 use lib.Dec.{leb, eqb}
 use lib.ListN.{getD}
+use Rattle.base.specs.Lists.{sum, any, upTo}
 use Rattle.rules.specs.declared.Head.{Head}
 use Rattle.rules.specs.declared.Outcome.{Outcome}
 use Rattle.rules.specs.declared.Quality.{Quality}
 use Rattle.rules.specs.declared.Quality.the-variants.{A, S, F, N}
 use Rattle.rules.specs.declared.Span.{Span}
 use Rattle.rules.specs.declared.range.Range.{Range}
-use Rattle.rules.specs.Lists.{sum, any}
 use Rattle.rules.specs.Opening.{Cells, slotsPerDay, slotCount}
 use Rattle.rules.specs.Filling.{filledAt, shapeAt}
 
@@ -175,11 +175,6 @@ unfoldable pub outcomeAt : Head → Cells → ℕ → Outcome
 outcomeAt h b i =
     let d = i / slotsPerDay h in
     between h b (lastRead (b .readVersions) d) (nextRead (b .readVersions) (d + 1) (h .days - d)) i
-
--- f a, f (a + 1), .. , k of them
-unfoldable pub upTo : {X : Type 0} → (ℕ → X) → ℕ → ℕ → List X
-upTo f a zero = []
-upTo f a (suc k) = f a ∷ upTo f (suc a) k
 
 unfoldable pub outcomes : Head → Cells → List Outcome
 outcomes h b = upTo (outcomeAt h b) 0 (slotCount h)

@@ -1,7 +1,7 @@
 // The harbour's table of demand limits (02, W5).
 ghost use mathlib.Core.Path.{_≡_};
 ghost use lib.ListN.{length};
-ghost use Rattle.rules.specs.Lists.{any};
+ghost use Rattle.base.specs.Lists.{any};
 ghost use Rattle.rules.specs.Limits.{breaksAt, tableOk, loadAnswer};
 
 // The demand limit in W, or the refusal's number.

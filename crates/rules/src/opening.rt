@@ -2,7 +2,7 @@
 use crate::Head;
 ghost use mathlib.Core.Path.{_≡_};
 ghost use mathlib.Core.Bool.{true};
-ghost use Rattle.rules.specs.Lists.{every};
+ghost use Rattle.base.specs.Lists.{every};
 ghost use Rattle.rules.specs.Opening.{intervalOk, dayTests, headOk, firstDay, slotsPerDay, slotCount};
 
 pub fn is_interval(interval: u32) -> bool

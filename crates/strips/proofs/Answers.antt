@@ -7,9 +7,9 @@ use native.Mathlib.Omega.{arith}
 use borrow.Author.Tests.{eqb-true, not-true, not-false}
 use lib.Dec.{eqb}
 use lib.ListN.{length}
+use Rattle.base.proofs.Logic.{and-parts}
 use Rattle.rules.specs.Opening.{intervalOk}
 use Rattle.rules.proofs.Bounds.{interval-bounds}
-use Rattle.rules.proofs.Logic.{and-parts}
 use Rattle.strips.specs.declared.Laid.{Laid}
 use Rattle.strips.specs.declared.Laid.the-variants.{Done, Refused}
 use Rattle.strips.specs.Strips.{perDay, wholeDays, lengthsOk, laidAnswer, laidAfter}

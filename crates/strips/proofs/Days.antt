@@ -7,8 +7,8 @@ use native.Mathlib.Numerals.{add-one}
 use borrow.Author.Tests.{lt-ltb, le-ltb, ltb-true, ltb-false}
 use lib.Dec.{lit<, ltb}
 use mathlib.Core.List.{List}
-use Rattle.rules.specs.Lists.{sum}
-use Rattle.rules.proofs.Logic.{either}
+use Rattle.base.specs.Lists.{sum}
+use Rattle.base.proofs.Logic.{either}
 use Rattle.strips.specs.Strips.{dayEarlier, differenceIn, restoredValue}
 
 earlier-first : (n : ℕ) (v : ℕ → ℕ) (i : ℕ) → i < n → dayEarlier n v i ≡ 0

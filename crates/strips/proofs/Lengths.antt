@@ -6,7 +6,7 @@ use native.Mathlib.Nat.{add-zero, mul-one, mul-assoc, mul-mod-right, mul-le-mul-
 use native.Mathlib.Omega.{arith}
 use borrow.Author.Tests.{eq-eqb, ne-eqb, eqb-true}
 use lib.Dec.{eqb}
-use Rattle.rules.proofs.Sums.{any-none, any-some, any-place}
+use Rattle.base.proofs.Sums.{any-none, any-some, any-place}
 use Rattle.strips.specs.Strips.{wholeDays}
 
 module _ (n t : ℕ) where

@@ -8,7 +8,7 @@ use native.Mathlib.Omega.{arith}
 use borrow.Author.Tests.{lt-ltb, ltb-true}
 use lib.Dec.{lit<, ltb}
 use lib.ListN.{getD}
-use Rattle.rules.proofs.Logic.{either}
+use Rattle.base.proofs.Logic.{either}
 use Rattle.strips.specs.Strips.{byteOf, number, recordByte, inTable, valueAt}
 use Rattle.strips.specs.Inner.Laying.{spaced, recordOf}
 

@@ -10,9 +10,9 @@ use borrow.Author.Tests.{lt-ltb, le-ltb, ltb-true, ltb-false, eqb-true, eqb-fals
 use lib.Dec.{ltb, eqb}
 use lib.ListN.{length, getD, set, length-set}
 use lib.Seq.{ext-getD, getD-set-same, getD-set-other}
-use Rattle.rules.specs.Spans.{upTo}
-use Rattle.rules.proofs.Lists.{length-upTo, upTo-list, getD-upTo}
-use Rattle.rules.proofs.Logic.{either}
+use Rattle.base.specs.Lists.{upTo}
+use Rattle.base.proofs.Lists.{length-upTo, upTo-list, getD-upTo}
+use Rattle.base.proofs.Logic.{either}
 use Rattle.strips.specs.Inner.Laying.{strewn}
 
 pub upTo-at : (f : ℕ → ℕ) (k i : ℕ) → i < k → getD (upTo f 0 k) i 0 ≡ f i

@@ -8,9 +8,9 @@ use native.Mathlib.Omega.{arith}
 use borrow.Author.Tests.{eq-eqb}
 use lib.Dec.{lit<, eqb}
 use lib.ListN.{length, getD}
-use Rattle.rules.specs.Spans.{upTo}
+use Rattle.base.specs.Lists.{upTo}
+use Rattle.base.proofs.Lists.{length-upTo}
 use Rattle.rules.proofs.Bounds.{interval-bounds}
-use Rattle.rules.proofs.Lists.{length-upTo}
 use Rattle.strips.specs.Strips.{slotsOf, recordByte, inTable, inStrips, valueAt, storedAt, stripsOf, dayEarlier, differenceAt, differenceIn, restoredValue, restoredAt, tableOf, perDay, lengthsOk, laidAnswer, laidAfter}
 use Rattle.strips.specs.Claim.{Bytes, Returns, ThereAndBack, BackAndThere}
 use Rattle.strips.proofs.Numbers.{number-cong, number-lt, number-record, record-number, record-again, add-difference, difference-added}

@@ -4,9 +4,8 @@ use mathlib.Core.List.{List, [], _∷_}
 use Prim.Native.Nat.{ℕ, suc, _+_, _-_, _*_, _/_, _%_, _^_}
 use lib.Dec.{ltb, eqb}
 use lib.ListN.{length, getD}
-use Rattle.rules.specs.Lists.{every, any, sum}
+use Rattle.base.specs.Lists.{every, any, sum, upTo}
 use Rattle.rules.specs.Opening.{intervalOk}
-use Rattle.rules.specs.Spans.{upTo}
 use Rattle.strips.specs.declared.Laid.{Laid}
 use Rattle.strips.specs.declared.Laid.the-variants.{Done, Refused}
 

@@ -9,15 +9,14 @@ use native.Mathlib.Omega.{arith}
 use borrow.Author.Tests.{le-leb, lt-leb, lt-ltb, le-ltb, leb-true, leb-false, ltb-true, ltb-false}
 use lib.Dec.{leb, ltb}
 use lib.ListN.{length, getD}
-use Rattle.rules.specs.Lists.{sum}
-use Rattle.rules.specs.Spans.{upTo}
-use Rattle.rules.proofs.Lists.{length-upTo, upTo-cong, getD-upTo}
-use Rattle.rules.proofs.Logic.{either, and-parts}
+use Rattle.base.specs.Lists.{sum, upTo}
+use Rattle.base.proofs.Lists.{length-upTo, upTo-cong, getD-upTo}
+use Rattle.base.proofs.Logic.{either, and-parts}
+use Rattle.base.proofs.Sums.{all-at}
 use Rattle.rules.proofs.Summaries.{sum-small}
 use Rattle.file.specs.Reader.{slotAt, figures}
 use Rattle.file.specs.Contents.{Bytes}
 use Rattle.file.proofs.Numbers.{num-lt}
-use Rattle.file.proofs.Stretches.{all-at}
 use Rattle.totals.specs.Stays.{stayTotal, pairCount, firstOf, endOf, totalsOf, pairOk, pairsOk}
 use Rattle.totals.specs.Inner.Adding.{holds, withDay, Room, least, totalsBefore}
 

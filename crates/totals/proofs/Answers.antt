@@ -5,10 +5,9 @@ use mathlib.Core.Path.{_≡_, refl}
 use Prim.Native.Nat.{ℕ, _/_, _<_}
 use native.Mathlib.Omega.{arith}
 use lib.ListN.{length}
-use Rattle.rules.specs.Lists.{every}
+use Rattle.base.specs.Lists.{every, all}
 use Rattle.file.specs.declared.Figures.{Figures}
 use Rattle.file.specs.declared.Verdict.the-variants as verdict
-use Rattle.file.specs.Lists.{all}
 use Rattle.file.specs.Reader.{figures, readFile}
 use Rattle.file.proofs.Answers.{ready, tests-passed}
 use Rattle.file.proofs.Head.{interval-pos, per-day-le, days-le}

@@ -7,8 +7,8 @@ use native.Mathlib.Nat.{zero-add, not-suc-le-zero, eq-or-lt-of-le, ne-of-lt, ne-
 use native.Mathlib.Omega.{arith}
 use lib.ListN.{length, getD, set, length-set}
 use lib.Seq.{getD-set-same, getD-set-other, ext-getD}
-use Rattle.rules.specs.Spans.{upTo}
-use Rattle.rules.proofs.Lists.{length-upTo, getD-upTo}
+use Rattle.base.specs.Lists.{upTo}
+use Rattle.base.proofs.Lists.{length-upTo, getD-upTo}
 
 -- the list d after k turns
 pub record Replaced (f : ℕ → ℕ) (d list : List ℕ) (k : ℕ) : Type 0 where

@@ -4,11 +4,9 @@ use mathlib.Core.List.{List, [], _∷_}
 use Prim.Native.Nat.{ℕ, _+_, _-_, _*_, _/_, _%_}
 use lib.Dec.{leb, ltb, eqb}
 use lib.ListN.{length, getD}
-use Rattle.rules.specs.Lists.{sum, every}
-use Rattle.rules.specs.Spans.{upTo}
+use Rattle.base.specs.Lists.{sum, every, upTo, all}
 use Rattle.file.specs.declared.Verdict.{Verdict}
 use Rattle.file.specs.declared.Verdict.the-variants as verdict
-use Rattle.file.specs.Lists.{all}
 use Rattle.file.specs.Reader.{slotAt, figures, readFile}
 use Rattle.totals.specs.declared.Totalled.{Totalled}
 use Rattle.totals.specs.declared.Totalled.the-variants.{Done, Refused}

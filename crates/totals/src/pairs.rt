@@ -1,6 +1,6 @@
 // The list of pairs: what is refused with 18 and 19.
 ghost use mathlib.Core.Path.{_≡_};
-ghost use Rattle.rules.specs.Lists.{every};
+ghost use Rattle.base.specs.Lists.{every};
 ghost use Rattle.totals.specs.Stays.{listTests, pairOk, pairsOk};
 
 // At most 64 pairs of two numbers each, and as many totals.

@@ -6,12 +6,14 @@ use native.Mathlib.Omega.{arith}
 use lib.ListN.{drop}
 use borrow.Author.Tests.{not-true, not-false, le-leb, lt-leb, lt-ltb, le-ltb, eq-eqb, ne-eqb}
 use borrow.Author.Needs.{needs}
+use Rattle.base.specs.Refusals.{unless}
+use Rattle.base.proofs.Logic.{and-parts}
 use Rattle.rules.specs.Opening.{headOk, slotCount, Slots}
 use Rattle.rules.specs.Lent.{lentSlots}
-use Rattle.rules.proofs.Logic.{and-parts}
 use Rattle.rules.proofs.opening.head_ok.Reads as head-ok-reads
 use Rattle.rules.proofs.opening.slot_count.Reads as slot-count-reads
-use Rattle.book.specs.Answers.{Answer, unless}
+use Rattle.book.specs.Answers.{Answer}
+use Rattle.book.specs.Answers.Answer.{refused}
 use Rattle.book.specs.Arguments.{argumentRules}
 use Rattle.book.specs.Arguments.Call.{delivery}
 use Rattle.book.specs.Cells.{slotsFit, countsFit}
@@ -49,7 +51,7 @@ whole c = deliverAnswer (c .args .head) (lent c) (c .args .counts .now) (c .args
 
 abbrev past : ℕ → Start → Answer
 past k c =
-    unless
+    unless refused
     (drop k
     (inputRules (c .args .head) (slotsFit (c .args .head) (lent c) && countsFit (c .args .head) (c .args .counts .now))
     (delivery (c .args .slot) (c .args .version) (c .args .value) (c .args .status))))

@@ -7,9 +7,11 @@ use native.Mathlib.Omega.{arith}
 use lib.ListN.{length, getD, drop}
 use borrow.Author.Tests.{not-true, not-false, le-leb, lt-leb}
 use borrow.Author.Needs.{needs}
+use Rattle.base.specs.Refusals.{unless}
 use Rattle.rules.specs.Opening.{headOk}
 use Rattle.rules.proofs.opening.head_ok.Reads as head-ok-reads
-use Rattle.book.specs.Answers.{Answer, filedMeant, unless}
+use Rattle.book.specs.Answers.{Answer, filedMeant}
+use Rattle.book.specs.Answers.Answer.{refused}
 use Rattle.book.specs.Arguments.{argumentRules}
 use Rattle.book.specs.Arguments.Call.{holiday}
 use Rattle.book.specs.Cells.{daysFit}
@@ -47,7 +49,7 @@ whole c = holidayAnswer (c .args .head) (lent c) (c .args .day)
 
 abbrev past : ℕ → Start → Answer
 past k c =
-    unless (drop k (inputRules (c .args .head) (daysFit (c .args .head) (lent c)) (holiday (c .args .day))))
+    unless refused (drop k (inputRules (c .args .head) (daysFit (c .args .head) (lent c)) (holiday (c .args .day))))
     (againstDay (getD (lent c) (c .args .day) 0))
 
 -- ---- The tests that were passed

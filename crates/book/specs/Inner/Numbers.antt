@@ -3,15 +3,17 @@ use mathlib.Core.List.{[], _∷_}
 use Prim.Native.Nat.{ℕ}
 use lib.Dec.{leb, ltb, eqb}
 use lib.ListN.{length, getD}
+use Rattle.base.specs.Refusals.{unless}
+use Rattle.base.specs.Refusals.Rule.{rule}
 use Rattle.rules.specs.Opening.{Agreed}
-use Rattle.book.specs.Answers.{Answer, unless}
-use Rattle.book.specs.Answers.Rule.{rule}
+use Rattle.book.specs.Answers.{Answer}
+use Rattle.book.specs.Answers.Answer.{refused}
 use Rattle.book.specs.Cells.{Reads}
 use Rattle.book.specs.Filling.{againstBoundary, againstAgreed, storedIn}
 
 unfoldable pub numberAnswer : Agreed → ℕ → ℕ → ℕ → Answer
 numberAnswer a place version number =
-    unless (rule 3 (leb (length (a .values)) place) ∷ rule 4 (eqb version 0) ∷ rule 12 (ltb 99999999 number) ∷ [])
+    unless refused (rule 3 (leb (length (a .values)) place) ∷ rule 4 (eqb version 0) ∷ rule 12 (ltb 99999999 number) ∷ [])
     (againstAgreed (getD (a .versions) place 0) (getD (a .values) place 0) version number)
 
 unfoldable pub numberAfter : Agreed → ℕ → ℕ → ℕ → Agreed
@@ -23,7 +25,7 @@ numberAfter a place version number = record {
 -- a register read, with its width (02, W10)
 unfoldable pub readAnswer : Reads → ℕ → ℕ → ℕ → ℕ → Answer
 readAnswer r boundary version reading width =
-    unless
+    unless refused
     (rule 3 (leb (length (r .readings)) boundary)
     ∷ rule 4 (eqb version 0)
     ∷ rule 6 (ltb 99999999 reading)

@@ -4,7 +4,8 @@ use Prim.Native.Nat.{_-_, _≤_, _<_}
 use native.Mathlib.Nat.{sub-zero}
 use native.Mathlib.Omega.{arith}
 use borrow.Author.Needs.{needs}
-use Rattle.calendar.specs.Calendar.{monthLength, sum, daysBeforeMonth, place}
+use Rattle.base.specs.Lists.{sum}
+use Rattle.calendar.specs.Calendar.{monthLength, daysBeforeMonth, place}
 use Rattle.calendar.proofs.Places.{place-here, place-next}
 use Rattle.calendar.proofs.Starts.{next-start}
 use Rattle.calendar.proofs.month_at.Statement.{statement}

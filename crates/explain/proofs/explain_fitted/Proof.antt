@@ -1,7 +1,7 @@
 -- `explain_fitted` refuses cells and counts that no calls could leave.
 use mathlib.Core.Path.{sym, _∙_}
 use borrow.Author.Tests.{not-true, not-false}
-use Rattle.rules.proofs.Logic.{and-parts}
+use Rattle.base.proofs.Logic.{and-parts}
 use Rattle.book.specs.Cells.{bookOk}
 use Rattle.book.specs.Lent.{lentBook}
 use Rattle.book.proofs.Fits.{fits-of}

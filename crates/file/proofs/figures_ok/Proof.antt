@@ -1,12 +1,13 @@
+use mathlib.Core.Bool.{and-true}
 -- `file::figures_ok` meets its contract.
 use mathlib.Core.Path.{ap, _∙_, sym}
 use Prim.Native.Nat.{ℕ}
 use lib.Dec.{eqb}
 use borrow.Author.Needs.{needs}
 use borrow.Author.Tests.{not-true, not-false}
+use Rattle.base.proofs.Logic.{tests-true, tests-false}
 use Rattle.file.specs.Reader.{figuresOk}
 use Rattle.file.specs.Inner.Reading.{countedIn}
-use Rattle.file.proofs.Logic.{and-true, tests-true, tests-false}
 use Rattle.file.proofs.figures_ok.Statement.{statement}
 use Rattle.file.proofs.figures_ok.Tie as tie
 

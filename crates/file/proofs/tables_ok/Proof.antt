@@ -1,9 +1,9 @@
+use mathlib.Core.Bool.{and-true}
 -- `file::tables_ok` meets its contract.
 use mathlib.Core.Path.{sym, _∙_}
 use borrow.Author.Needs.{needs}
 use borrow.Author.Tests.{not-true, not-false}
 use Rattle.file.specs.Reader.{tablesOk}
-use Rattle.file.proofs.Logic.{and-true}
 use Rattle.file.proofs.tables_ok.Statement.{statement}
 use Rattle.file.proofs.tables_ok.Tie as tie
 

@@ -4,15 +4,14 @@ use mathlib.Core.Bool.{Bool, true, cond}
 use mathlib.Core.List.{List}
 use Prim.Native.Nat.{ℕ, _+_, _*_, _^_, _≤_}
 use lib.ListN.{length}
+use Rattle.base.specs.Lists.{sum, every, count}
 use Rattle.rules.specs.declared.Quality.{Quality}
 use Rattle.rules.specs.declared.Quality.the-variants.{A, S, F, N}
-use Rattle.rules.specs.Lists.{sum, every}
 use Rattle.file.specs.declared.Figures.{Figures}
 use Rattle.file.specs.declared.slots.Counted.{Counted}
 use Rattle.file.specs.declared.slots.Kind.{Kind}
 use Rattle.file.specs.declared.slots.Kind.the-variants.{Substituted, None, Scaled, Unscaled}
 use Rattle.file.specs.declared.slots.SlotRecord.{SlotRecord}
-use Rattle.file.specs.Lists.{count}
 use Rattle.file.specs.Layout.{spanBytes}
 use Rattle.file.specs.Reader.{slotAt, headTests, slotCount, ofQuality, scaled, unscaled}
 

@@ -1,4 +1,5 @@
 -- `put_file`: the trailer behind both tables ends the file.
+use Rattle.base.proofs.Lists.{length-upTo}
 use Rattle.publishing.proofs.Buffers.{file-put}
 use mathlib.Core.Path.{_≡_}
 use Prim.Native.Nat.{_+_, _*_, _≤_}
@@ -10,7 +11,6 @@ use Rattle.rules.specs.Lent.{slots, agreedLists, cells}
 use Rattle.rules.proofs.Bounds.{bounded, count-high}
 use Rattle.rules.proofs.Neighbours.{spans-few}
 use Rattle.publishing.specs.Publishing.{fileLength}
-use Rattle.rules.proofs.Lists.{length-upTo}
 use Rattle.publishing.proofs.Totals.{filled-low, figures-found}
 use borrow.Author.Needs.{needs}
 use Rattle.publishing.proofs.put_file.Statement.{statement}

@@ -5,20 +5,22 @@ use mathlib.Core.List.{List, [], _∷_}
 use Prim.Native.Nat.{ℕ, _+_, _*_, _≤_, _<_}
 use lib.Dec.{ltb}
 use lib.ListN.{length}
+use Rattle.base.specs.Lists.{upTo}
+use Rattle.base.specs.Refusals.{unless}
+use Rattle.base.specs.Refusals.Rule.{rule}
 use Rattle.rules.specs.declared.Head.{Head}
 use Rattle.rules.specs.declared.Outcome.{Outcome}
 use Rattle.rules.specs.Opening.{Cells, headOk, slotCount}
-use Rattle.rules.specs.Spans.{isA, isS, isF, isN, outcomeAt, upTo, spans}
+use Rattle.rules.specs.Spans.{isA, isS, isF, isN, outcomeAt, spans}
 use Rattle.rules.specs.Inner.Lent.{Whole}
 use Rattle.rules.specs.Inner.Stretches.{beginsAt}
 use Rattle.rules.specs.Inner.Passes.{passAt, listOf, begunBefore}
-use Rattle.book.specs.Answers.Rule.{rule}
 use Rattle.book.specs.Cells.{Book, cellsFit, cellsOk}
 use Rattle.publishing.specs.declared.Published.{Published}
 use Rattle.publishing.specs.declared.tables.Totals.{Totals}
 use Rattle.publishing.specs.declared.tables.Progress.{Progress}
 use Rattle.file.specs.Layout.{one, total, row, table, slotRow, spanRow}
-use Rattle.publishing.specs.Publishing.{published, fileLength, lengthUnless, publishAnswer, bytesAfter, publishAfter}
+use Rattle.publishing.specs.Publishing.{published, fileLength, publishAnswer, bytesAfter, publishAfter}
 use Rattle.file.specs.Inner.Writing.{written}
 
 -- the counts of each quality and the sum of a list of outcomes
@@ -68,7 +70,7 @@ pub record Sound (h : Head) (b : Cells) : Type 0 where
 
 -- what publishing them answers, and leaves of a buffer d
 abbrev pub putAnswer : Head → Cells → List ℕ → Published
-putAnswer h b d = lengthUnless (rule 7 (ltb (length d) (fileLength h b)) ∷ []) (fileLength h b)
+putAnswer h b d = unless Refused (rule 7 (ltb (length d) (fileLength h b)) ∷ []) (Length (fileLength h b))
 
 abbrev pub Put : Head → Cells → List ℕ → Published → List ℕ → Type 0
 Put h b d p e = (p ≡ putAnswer h b d) × (e ≡ bytesAfter (putAnswer h b d) (published h b) d)

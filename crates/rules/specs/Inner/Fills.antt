@@ -4,12 +4,12 @@ use mathlib.Core.List.{List, [], _∷_}
 use Prim.Native.Nat.{ℕ, zero, suc, _+_, _-_, _*_, _≤_}
 use lib.Dec.{leb, ltb}
 use lib.ListN.{getD}
+use Rattle.base.specs.Lists.{every}
 use Rattle.rules.specs.declared.Head.{Head}
 use Rattle.rules.specs.declared.Outcome.{Outcome}
 use Rattle.rules.specs.declared.Quality.the-variants.{A, F}
 use Rattle.rules.specs.declared.fills.Fills.{Fills}
 use Rattle.rules.specs.declared.linear.Line.{Line}
-use Rattle.rules.specs.Lists.{every}
 use Rattle.rules.specs.Opening.{Slots, slotCount}
 use Rattle.rules.specs.Tests.{isGap, goodAt}
 use Rattle.rules.specs.Filling.{outageBefore, outageAfter, inRun, runBefore, runFrom, runStart, runLength, isLinear}

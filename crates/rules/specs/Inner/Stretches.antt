@@ -5,6 +5,7 @@ use mathlib.Core.Option.{Option, none, some}
 use mathlib.Core.Path.{_≡_}
 use Prim.Native.Nat.{ℕ, zero, suc, _+_, _-_, _*_, _/_, _%_, _≤_, _<_}
 use lib.Dec.{eqb}
+use Rattle.base.specs.Lists.{sum}
 use Rattle.rules.specs.declared.Head.{Head}
 use Rattle.rules.specs.declared.Span as declared
 use Rattle.rules.specs.declared.readings.Next as coded
@@ -17,7 +18,6 @@ use Rattle.rules.specs.declared.fills.Fills.{Fills}
 use Rattle.rules.specs.declared.stretch.Stretch.{Stretch}
 use Rattle.rules.specs.declared.stretch.Begins.{Begins}
 use Rattle.rules.specs.declared.stretch.Begins.the-variants.{Span, Nothing}
-use Rattle.rules.specs.Lists.{sum}
 use Rattle.rules.specs.Opening.{Slots, Cells, slotsPerDay, slotCount}
 use Rattle.rules.specs.Spans.{isS, isRead, spanOf, lastRead, nextRead, T, allZero, E, P, stateOf, spanFrom}
 use Rattle.rules.specs.Inner.Fills.{fillsAt}

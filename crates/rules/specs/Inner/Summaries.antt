@@ -3,12 +3,12 @@ use mathlib.Core.Bool.{cond, _||_}
 use mathlib.Core.List.{List}
 use Prim.Native.Nat.{ℕ, _+_, _-_, _≤_, _<_}
 use lib.Dec.{eqb}
+use Rattle.base.specs.Lists.{sum, any}
 use Rattle.rules.specs.declared.Head.{Head}
 use Rattle.rules.specs.declared.Outcome.{Outcome}
 use Rattle.rules.specs.declared.spans.Summary.{Summary}
 use Rattle.rules.specs.declared.spans.Scaling.{Scaling}
 use Rattle.rules.specs.declared.spans.Scaled.{Scaled}
-use Rattle.rules.specs.Lists.{sum, any}
 use Rattle.rules.specs.Opening.{Slots, Agreed}
 use Rattle.rules.specs.Filling.{filledAt, shapeAt}
 use Rattle.rules.specs.Spans.{isS, isN, actualIn, share}

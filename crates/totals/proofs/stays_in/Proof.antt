@@ -5,7 +5,7 @@ use native.Mathlib.Omega.{arith}
 use borrow.Author.Needs.{needs}
 use borrow.Author.Tests.{not-true, not-false, eqb-true}
 use lib.ListN.{length}
-use Rattle.rules.proofs.Logic.{passed}
+use Rattle.base.proofs.Logic.{passed}
 use Rattle.file.specs.declared.Figures.{Figures}
 use Rattle.totals.specs.Stays.{listTests}
 use Rattle.totals.proofs.Adding.{before-all}

@@ -5,7 +5,7 @@ use mathlib.Core.Path.{_≡_}
 use Prim.Native.Nat.{ℕ, _+_, _*_, _^_, _≤_, _<_}
 use lib.Dec.{leb, ltb}
 use lib.ListN.{length, getD}
-use Rattle.rules.specs.Spans.{upTo}
+use Rattle.base.specs.Lists.{upTo}
 use Rattle.totals.specs.Stays.{stayTotal, pairCount, firstOf, endOf}
 
 -- the day lies in the stay

@@ -5,9 +5,9 @@ use mathlib.Core.Path.{_≡_, sym, _∙_}
 use Prim.Native.Nat.{_≤_, _-_, zero-le}
 use native.Mathlib.Omega.{arith}
 use lib.ListN.{length}
-use Rattle.rules.specs.Lists.{any}
+use Rattle.base.specs.Lists.{any}
+use Rattle.base.proofs.Sums.{any-empty, none-on, one-found}
 use Rattle.book.specs.Cells.{agreedFaultAt}
-use Rattle.rules.proofs.Looked.{none-yet, none-on, one-found}
 use Rattle.book.proofs.sound.bad_agreed.Statement.{statement}
 use Rattle.book.proofs.sound.bad_agreed.Tie as tie
 
@@ -18,7 +18,7 @@ abbrev μ-loop : tie.MeasureT-loop
 μ-loop values versions i₀ i = length values - i
 
 loop-holds : tie.Need-loop-holds Inv-loop μ-loop
-loop-holds c = (zero-le, none-yet (agreedFaultAt (record { values = c .before .before .args .values .now; versions = c .before .before .args .versions .now })))
+loop-holds c = (zero-le, any-empty _ _)
 
 mul-number-fault : tie.Need-mul-number-fault Inv-loop μ-loop
 mul-number-fault c = search needs

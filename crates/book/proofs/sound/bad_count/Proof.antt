@@ -6,9 +6,9 @@ use Prim.Native.Nat.{ℕ, _*_, _-_, _≤_, _<_, zero-le}
 use native.Mathlib.Omega.{arith}
 use lib.ListN.{length}
 use borrow.Author.Tests.{eq-eqb, ne-eqb}
-use Rattle.rules.specs.Lists.{any}
+use Rattle.base.specs.Lists.{any}
+use Rattle.base.proofs.Sums.{any-empty, none-on, one-found}
 use Rattle.rules.proofs.Bounds.{bounded, count-high}
-use Rattle.rules.proofs.Looked.{none-yet, none-on, one-found}
 use Rattle.book.specs.Cells.{deliveredIn, countFaultAt}
 use Rattle.book.proofs.Counting.{day-within}
 use Rattle.book.proofs.sound.bad_count.Statement.{statement}
@@ -21,7 +21,7 @@ abbrev μ-loop : tie.MeasureT-loop
 μ-loop head versions counts day₀ day = length counts - day
 
 loop-holds : tie.Need-loop-holds Inv-loop μ-loop
-loop-holds c = (zero-le, none-yet (countFaultAt (c .before .before .args .head) (c .before .before .args .versions .now) (c .before .before .args .counts .now)))
+loop-holds c = (zero-le, any-empty _ _)
 
 slots-per-day-requires : tie.Need-slots-per-day-requires Inv-loop μ-loop
 slots-per-day-requires c κs = c .before .before .before .before .pre .0

@@ -5,9 +5,9 @@ use mathlib.Core.Path.{_≡_, sym, _∙_}
 use Prim.Native.Nat.{_≤_, _-_, zero-le}
 use native.Mathlib.Omega.{arith}
 use lib.ListN.{length}
-use Rattle.rules.specs.Lists.{any}
+use Rattle.base.specs.Lists.{any}
+use Rattle.base.proofs.Sums.{any-empty, none-on, one-found}
 use Rattle.book.specs.Cells.{dayFaultAt}
-use Rattle.rules.proofs.Looked.{none-yet, none-on, one-found}
 use Rattle.book.proofs.sound.bad_day.Statement.{statement}
 use Rattle.book.proofs.sound.bad_day.Tie as tie
 
@@ -18,7 +18,7 @@ abbrev μ-loop : tie.MeasureT-loop
 μ-loop holidays i₀ i = length holidays - i
 
 loop-holds : tie.Need-loop-holds Inv-loop μ-loop
-loop-holds c = (zero-le, none-yet (dayFaultAt (c .before .args .holidays .now)))
+loop-holds c = (zero-le, any-empty _ _)
 
 shared-slice-read-day-fault : tie.Need-shared-slice-read-day-fault Inv-loop μ-loop
 shared-slice-read-day-fault c = omega arith

@@ -5,10 +5,10 @@ use mathlib.Core.Path.{_≡_, sym, _∙_}
 use Prim.Native.Nat.{_≤_, _-_, zero-le}
 use native.Mathlib.Omega.{arith}
 use lib.ListN.{length}
-use Rattle.rules.specs.Lists.{any}
+use Rattle.base.specs.Lists.{any}
+use Rattle.base.proofs.Sums.{any-empty, none-on, one-found}
 use Rattle.book.specs.Cells.{readFaultAt}
 use Rattle.book.specs.Lent.{readLists}
-use Rattle.rules.proofs.Looked.{none-yet, none-on, one-found}
 use Rattle.book.proofs.sound.bad_read.Statement.{statement}
 use Rattle.book.proofs.sound.bad_read.Tie as tie
 
@@ -19,7 +19,7 @@ abbrev μ-loop : tie.MeasureT-loop
 μ-loop readings versions widths i₀ i = length readings - i
 
 loop-holds : tie.Need-loop-holds Inv-loop μ-loop
-loop-holds c = (zero-le, none-yet (readFaultAt (readLists (c .before .before .before .args .readings .now) (c .before .before .before .args .versions .now) (c .before .before .before .args .widths .now))))
+loop-holds c = (zero-le, any-empty _ _)
 
 mul-read-fault : tie.Need-mul-read-fault Inv-loop μ-loop
 mul-read-fault c = search needs

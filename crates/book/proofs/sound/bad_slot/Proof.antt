@@ -5,10 +5,10 @@ use mathlib.Core.Path.{_≡_, sym, _∙_}
 use Prim.Native.Nat.{_≤_, _-_, zero-le}
 use native.Mathlib.Omega.{arith}
 use lib.ListN.{length}
-use Rattle.rules.specs.Lists.{any}
+use Rattle.base.specs.Lists.{any}
+use Rattle.base.proofs.Sums.{any-empty, none-on, one-found}
 use Rattle.rules.specs.Lent.{slots}
 use Rattle.book.specs.Cells.{slotFaultAt}
-use Rattle.rules.proofs.Looked.{none-yet, none-on, one-found}
 use Rattle.book.proofs.sound.bad_slot.Statement.{statement}
 use Rattle.book.proofs.sound.bad_slot.Tie as tie
 
@@ -19,7 +19,7 @@ abbrev μ-loop : tie.MeasureT-loop
 μ-loop values versions statuses i₀ i = length values - i
 
 loop-holds : tie.Need-loop-holds Inv-loop μ-loop
-loop-holds c = (zero-le, none-yet (slotFaultAt (slots (c .before .before .before .args .values .now) (c .before .before .before .args .versions .now) (c .before .before .before .args .statuses .now))))
+loop-holds c = (zero-le, any-empty _ _)
 
 mul-slot-fault : tie.Need-mul-slot-fault Inv-loop μ-loop
 mul-slot-fault c = search needs

@@ -1,6 +1,6 @@
 -- `sound::book_ok` looks at the cells, then at the counts.
 use mathlib.Core.Path.{_≡_, sym, _∙_}
-use Rattle.rules.specs.Lists.{any}
+use Rattle.base.specs.Lists.{any}
 use Rattle.book.specs.Cells.{countFaultAt, bookOk}
 use Rattle.book.specs.Lent.{lentBook}
 use Rattle.book.proofs.Fits.{lengths-of, fits-of}

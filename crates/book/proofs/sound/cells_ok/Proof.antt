@@ -2,7 +2,7 @@
 use mathlib.Core.Bool.{true, false, and-true}
 use mathlib.Core.Path.{_≡_, sym, _∙_}
 use Prim.Native.Nat.{suc}
-use Rattle.rules.specs.Lists.{any}
+use Rattle.base.specs.Lists.{any}
 use Rattle.rules.specs.Opening.{slotCount}
 use Rattle.rules.specs.Lent.{slots, agreedLists, cells}
 use Rattle.book.specs.Cells.{slotFaultAt, dayFaultAt, readFaultAt, agreedFaultAt, readsOf, cellsOk}

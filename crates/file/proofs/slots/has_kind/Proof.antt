@@ -4,9 +4,9 @@ use mathlib.Core.Path.{_≡_, sym, ap, _∙_}
 use Prim.Native.Nat.{_≤_, _-_, _+_}
 use native.Mathlib.Omega.{arith}
 use borrow.Author.Needs.{needs}
-use Rattle.rules.specs.Lists.{any}
+use Rattle.base.specs.Lists.{any}
+use Rattle.base.proofs.Sums.{any-empty, any-on, any-some}
 use Rattle.file.specs.Inner.Reading.{kindAt, isKind}
-use Rattle.file.proofs.Stretches.{any-none, any-on, any-at}
 use Rattle.file.proofs.slots.has_kind.Statement.{statement}
 use Rattle.file.proofs.slots.has_kind.Tie as tie
 
@@ -17,7 +17,7 @@ abbrev μ-loop : tie.MeasureT-loop
 μ-loop file kind a k i₀ i = k - i
 
 loop-holds : tie.Need-loop-holds Inv-loop μ-loop
-loop-holds c = (search needs, any-none _ _)
+loop-holds c = (search needs, any-empty _ _)
 
 add-slot-at : tie.Need-add-slot-at Inv-loop μ-loop
 add-slot-at c = search needs
@@ -33,7 +33,7 @@ returns c =
     let args = c .before .before .before .before .before .before .args in
     let loop = c .before .before .before .before .loop in
     let is-kind = ap (isKind (args .kind)) (sym (c .before .before .slot-at .ensures)) ∙ sym (c .before .is-kind .ensures) in
-    sym (any-at (kindAt (args .file .now) (args .kind)) (args .a) (args .k) (args .a + loop .i) (omega arith) (omega arith) (is-kind ∙ c .if1 .taken))
+    sym (any-some (kindAt (args .file .now) (args .kind)) (args .a) (args .k) (args .a + loop .i) (omega arith) (omega arith) (is-kind ∙ c .if1 .taken))
 
 add-i : tie.Need-add-i Inv-loop μ-loop
 add-i c = search needs

@@ -4,11 +4,11 @@ use mathlib.Core.Path.{_≡_, sym, ap, ap₂, _∙_}
 use Prim.Native.Nat.{_≤_, _-_, _+_, _*_, _^_}
 use native.Mathlib.Omega.{arith}
 use borrow.Author.Needs.{needs}
-use Rattle.rules.specs.Lists.{sum, any}
+use Rattle.base.specs.Lists.{sum, any}
+use Rattle.base.proofs.Sums.{sum-empty, sum-more, any-empty, any-more}
 use Rattle.file.specs.declared.slots.Kind.the-variants.{Substituted, None, Scaled, Unscaled}
 use Rattle.file.specs.Reader.{slotAt}
 use Rattle.file.specs.Inner.Reading.{isKind, kindAt}
-use Rattle.file.proofs.Stretches.{sum-none, sum-more, any-none, any-more}
 use Rattle.file.proofs.slots.tally_of.Statement.{statement}
 use Rattle.file.proofs.slots.tally_of.Tie as tie
 
@@ -24,7 +24,7 @@ abbrev μ-loop : tie.MeasureT-loop
 μ-loop file a k none₀ scaled₀ unscaled₀ substituted₀ energy₀ i₀ none scaled unscaled substituted energy i = k - i
 
 loop-holds : tie.Need-loop-holds Inv-loop μ-loop
-loop-holds c = (search needs, search needs, sym (any-none _ _), sym (any-none _ _), sym (any-none _ _), sym (any-none _ _), sym (sum-none _ _))
+loop-holds c = (search needs, search needs, sym (any-empty _ _), sym (any-empty _ _), sym (any-empty _ _), sym (any-empty _ _), sym (sum-empty _ _))
 
 add-slot-at : tie.Need-add-slot-at Inv-loop μ-loop
 add-slot-at c = search needs

@@ -1,9 +1,8 @@
 -- `spans::fields_ok`: the tests in their order.
 use mathlib.Core.Path.{_≡_}
-use mathlib.Core.Bool.{false}
+use mathlib.Core.Bool.{false, and-true}
 use borrow.Author.Tests.{le-leb, lt-leb}
 use lib.Dec.{leb}
-use Rattle.file.proofs.Logic.{and-true}
 use Rattle.file.proofs.spans.fields_ok.Statement.{statement}
 use Rattle.file.proofs.spans.fields_ok.Tie as tie
 

@@ -1,8 +1,7 @@
 -- `file::spans::state_rule` meets its contract.
-use mathlib.Core.Bool.{not}
+use mathlib.Core.Bool.{not, and-true, and-false}
 use mathlib.Core.Path.{sym}
 use borrow.Author.Tests.{ne-eqb}
-use Rattle.file.proofs.Logic.{and-true, and-false}
 use Rattle.file.proofs.spans.state_rule.Statement.{statement}
 use Rattle.file.proofs.spans.state_rule.Tie as tie
 

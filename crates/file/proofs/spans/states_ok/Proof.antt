@@ -4,9 +4,9 @@ use Prim.Native.Nat.{_≤_, _-_}
 use native.Mathlib.Nat.{sub-zero}
 use borrow.Author.Needs.{needs}
 use borrow.Author.Tests.{not-true, not-false}
-use Rattle.file.specs.Lists.{all}
+use Rattle.base.specs.Lists.{all}
+use Rattle.base.proofs.Sums.{all-more, all-fails, all-done, all-at}
 use Rattle.file.specs.Reader.{tablesAt, stateOk}
-use Rattle.file.proofs.Stretches.{all-more, all-fails, all-done, all-at}
 use Rattle.file.proofs.spans.states_ok.Statement.{statement}
 use Rattle.file.proofs.spans.states_ok.Tie as tie
 

@@ -1,8 +1,8 @@
+use mathlib.Core.Bool.{and-true}
 -- `file::trailer::head_ok` meets its contract.
 use mathlib.Core.Path.{sym, _∙_}
 use borrow.Author.Needs.{needs}
 use borrow.Author.Tests.{le-leb, lt-leb, not-true, not-false}
-use Rattle.file.proofs.Logic.{and-true}
 use Rattle.file.proofs.trailer.head_ok.Statement.{statement}
 use Rattle.file.proofs.trailer.head_ok.Tie as tie
 

@@ -1,9 +1,10 @@
+use mathlib.Core.Bool.{and-true}
 -- `file::trailer::trailer_ok` meets its contract.
 use mathlib.Core.Path.{sym, _∙_}
 use borrow.Author.Tests.{le-leb, not-true, not-false}
 use borrow.Author.Needs.{needs}
+use Rattle.base.proofs.Logic.{tests-true, tests-false}
 use Rattle.file.specs.Reader.{trailerOk}
-use Rattle.file.proofs.Logic.{tests-true, tests-false, and-true}
 use Rattle.file.proofs.trailer.trailer_ok.Statement.{statement}
 use Rattle.file.proofs.trailer.trailer_ok.Tie as tie
 

@@ -5,8 +5,8 @@ use Prim.Native.Nat.{_≤_, _-_}
 use native.Mathlib.Nat.{sub-zero}
 use borrow.Author.Tests.{not-true, not-false}
 use lib.ListN.{length, getD}
-use Rattle.file.proofs.Stretches.{all-more, all-fails, all-done}
-use Rattle.file.specs.Lists.{all}
+use Rattle.base.specs.Lists.{all}
+use Rattle.base.proofs.Sums.{all-more, all-fails, all-done}
 use Rattle.market.specs.Export.{inClass, allOf}
 use Rattle.market.proofs.checks.all_of.Statement.{statement}
 use Rattle.market.proofs.checks.all_of.Tie as tie

@@ -4,8 +4,8 @@ use mathlib.Core.Path.{_≡_, sym, ap₂, _∙_}
 use Prim.Native.Nat.{_≤_, _-_, _+_}
 use native.Mathlib.Nat.{sub-zero}
 use borrow.Author.Tests.{not-true, not-false}
-use Rattle.file.proofs.Stretches.{all-more, all-fails, all-done}
-use Rattle.file.specs.Lists.{all}
+use Rattle.base.specs.Lists.{all}
+use Rattle.base.proofs.Sums.{all-more, all-fails, all-done}
 use Rattle.file.specs.Reader.{slotAt}
 use Rattle.market.specs.Fields.{markOf, alike, oneMark}
 use Rattle.market.proofs.marks.is_one.Statement.{statement}

@@ -1,14 +1,13 @@
 -- `limits::is_broken`. No limit passed breaks the table, and the one before is known.
 use borrow.Author.Needs.{needs}
 use mathlib.Core.Bool.{false}
-use mathlib.Core.Path.{_≡_, refl, sym}
+use mathlib.Core.Path.{_≡_, sym}
 use Prim.Native.Nat.{_≤_, _-_, zero-le}
-use native.Mathlib.Numerals.{add-one}
 use native.Mathlib.Omega.{arith}
-use lib.ListN.{length, getD}
-use Rattle.rules.specs.Lists.{any}
+use lib.ListN.{length}
+use Rattle.base.specs.Lists.{any}
+use Rattle.base.proofs.Sums.{any-empty, none-on, one-found}
 use Rattle.rules.specs.Limits.{limitBefore, breaksAt}
-use Rattle.rules.proofs.Looked.{none-yet, none-on, one-found}
 use Rattle.rules.proofs.Tables.{before-first, before-on, not-above, too-high, unbroken}
 use Rattle.rules.proofs.limits.is_broken.Statement.{statement}
 use Rattle.rules.proofs.limits.is_broken.Tie as tie
@@ -21,7 +20,7 @@ abbrev μ-loop : tie.MeasureT-loop
 μ-loop table last₀ i₀ last i = length table - i
 
 loop-holds : tie.Need-loop-holds Inv-loop μ-loop
-loop-holds c = (zero-le, before-first (c .args .table .now), none-yet (breaksAt (c .args .table .now)))
+loop-holds c = (zero-le, before-first (c .args .table .now), any-empty _ _)
 
 mul-limit : tie.Need-mul-limit Inv-loop μ-loop
 mul-limit c = search needs

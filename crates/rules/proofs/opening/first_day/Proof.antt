@@ -1,6 +1,6 @@
 -- `opening::first_day`: a good head has a date.
+use Rattle.base.proofs.Logic.{passed}
 use Rattle.rules.specs.Opening.{dayTests, headTests, headOk, firstDay}
-use Rattle.rules.proofs.Logic.{passed}
 use Rattle.rules.proofs.opening.first_day.Statement.{statement}
 use Rattle.rules.proofs.opening.first_day.Tie as tie
 

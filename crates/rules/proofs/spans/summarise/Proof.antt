@@ -1,3 +1,4 @@
+use Rattle.base.specs.Lists.{sum, any}
 use Rattle.rules.proofs.Shapes.{shape-good}
 -- `spans::summarise`. After k slots the outage answer and the line are those of the slot before, and the sums are those of k slots.
 use borrow.Author.Needs.{needs}
@@ -6,7 +7,6 @@ use mathlib.Core.Path.{_≡_, refl, sym, ap, _∙_}
 use Prim.Native.Nat.{_+_, _-_, _≤_, zero-le}
 use native.Mathlib.Nat.{add-zero}
 use native.Mathlib.Omega.{arith}
-use Rattle.rules.specs.Lists.{sum, any}
 use Rattle.rules.specs.Opening.{slotCount}
 use Rattle.rules.specs.Lent.{slots, agreedLists}
 use Rattle.rules.specs.Inner.Fills.{zeroBefore, lineBefore}

@@ -3,8 +3,8 @@ use mathlib.Core.Path.{_≡_, sym, ap₂, _∙_}
 use Prim.Native.Nat.{_≤_, _-_, _*_, _+_, _^_}
 use native.Mathlib.Omega.{arith}
 use borrow.Author.Needs.{needs}
-use Rattle.rules.specs.Lists.{sum}
-use Rattle.file.proofs.Stretches.{sum-none, sum-more}
+use Rattle.base.specs.Lists.{sum}
+use Rattle.base.proofs.Sums.{sum-empty, sum-more}
 use Rattle.file.specs.Reader.{slotAt}
 use Rattle.totals.proofs.days.sum_of.Statement.{statement}
 use Rattle.totals.proofs.days.sum_of.Tie as tie
@@ -16,7 +16,7 @@ abbrev μ-loop : tie.MeasureT-loop
 μ-loop file a k energy₀ i₀ energy i = k - i
 
 loop-holds : tie.Need-loop-holds Inv-loop μ-loop
-loop-holds c = (search needs, sym (sum-none _ _), search needs)
+loop-holds c = (search needs, sym (sum-empty _ _), search needs)
 
 add-value-at : tie.Need-add-value-at Inv-loop μ-loop
 add-value-at c = search needs

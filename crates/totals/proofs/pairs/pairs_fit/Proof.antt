@@ -4,8 +4,8 @@ use Prim.Native.Nat.{_≤_, _-_}
 use native.Mathlib.Nat.{sub-zero}
 use borrow.Author.Needs.{needs}
 use borrow.Author.Tests.{not-true, not-false}
-use Rattle.file.proofs.Stretches.{all-more, all-fails, all-done}
-use Rattle.file.specs.Lists.{all}
+use Rattle.base.specs.Lists.{all}
+use Rattle.base.proofs.Sums.{all-more, all-fails, all-done}
 use Rattle.totals.specs.Stays.{pairCount, firstOf, endOf, pairOk, pairsOk}
 use Rattle.totals.proofs.pairs.pairs_fit.Statement.{statement}
 use Rattle.totals.proofs.pairs.pairs_fit.Tie as tie

@@ -1,0 +1,4 @@
+pub mod Logic
+pub mod Sums
+pub mod Lists
+pub mod Refusals

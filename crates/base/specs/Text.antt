@@ -1,0 +1,10 @@
+-- Texts as bytes.
+use mathlib.Core.List.{List, [], _∷_}
+use Prim.Native.Char.{code}
+use Prim.Native.Nat.{ℕ}
+use Prim.Native.String.{String, [] as none, _∷_ as _then_}
+
+-- the ASCII codes of a text
+abbrev pub ascii : String → List ℕ
+ascii none = []
+ascii (c then s) = code c ∷ ascii s
