@@ -51,7 +51,7 @@ module _ (h : Head) (seed loss : ℕ) (good : headOk h ≡ true) where
 
   read-at : (d : ℕ) → d ≤ h .days → getD (book .readVersions) d 0 ≡ readVersion all d
   unfolding bookOf
-  read-at d le = upTo-at (readVersion all) (suc (h .days)) d (omega arith)
+  read-at d le = upTo-at (readVersion all) 0 (suc (h .days)) d (omega arith)
 
   pub ends : Ends h (book .readVersions)
   unfolding isRead
@@ -81,7 +81,7 @@ module _ (h : Head) (seed loss : ℕ) (good : headOk h ≡ true) where
   unfolding bookOf
   sharp d =
       ⊎-elim
-      (λ t. upTo-at (λ x. readContent all x .width) (suc (h .days)) d (ltb-true _ _ t) ∙ width-none d)
+      (λ t. upTo-at (λ x. readContent all x .width) 0 (suc (h .days)) d (ltb-true _ _ t) ∙ width-none d)
       (λ t. List·getD-eq-default (upTo (λ x. readContent all x .width) 0 (suc (h .days))) 0 {n = d} (rw length-upTo (ltb-false _ _ t)))
       (either (ltb d (suc (h .days))))
 
@@ -95,11 +95,11 @@ module _ (h : Head) (seed loss : ℕ) (good : headOk h ≡ true) where
 
   pub dial-first : getD (book .readings) 0 0 ≡ 0
   unfolding bookOf
-  dial-first = upTo-at (λ x. readContent all x .reading) (suc (h .days)) 0 (omega arith) ∙ first-dial
+  dial-first = upTo-at (λ x. readContent all x .reading) 0 (suc (h .days)) 0 (omega arith) ∙ first-dial
 
   pub dial-last : getD (book .readings) (h .days) 0 ≡ reading h seed loss good
   unfolding bookOf
-  dial-last = upTo-at (λ x. readContent all x .reading) (suc (h .days)) (h .days) (omega arith) ∙ last-dial
+  dial-last = upTo-at (λ x. readContent all x .reading) 0 (suc (h .days)) (h .days) (omega arith) ∙ last-dial
 
   -- a slot that is not lost has its true value as version 1, status 0
   module _ (i : ℕ) (lt : i < slotCount h) (kept : lostAt h seed loss i ≡ false) where
@@ -109,12 +109,12 @@ module _ (h : Head) (seed loss : ℕ) (good : headOk h ≡ true) where
 
     pub its-version : getD (book .slots .versions) i 0 ≡ 1
     unfolding bookOf highest
-    its-version = upTo-at (slotVersion all) (slotCount h) i lt ∙ rw its-calls
+    its-version = upTo-at (slotVersion all) 0 (slotCount h) i lt ∙ rw its-calls
 
     pub its-value : getD (book .slots .values) i 0 ≡ valueAt h seed loss i
     unfolding bookOf highest contentWith
-    its-value = upTo-at (λ k. slotContent all k .value) (slotCount h) i lt ∙ rw its-calls
+    its-value = upTo-at (λ k. slotContent all k .value) 0 (slotCount h) i lt ∙ rw its-calls
 
     pub its-status : getD (book .slots .statuses) i 0 ≡ 0
     unfolding bookOf highest contentWith
-    its-status = upTo-at (λ k. slotContent all k .status) (slotCount h) i lt ∙ rw its-calls
+    its-status = upTo-at (λ k. slotContent all k .status) 0 (slotCount h) i lt ∙ rw its-calls

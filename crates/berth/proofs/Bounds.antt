@@ -8,17 +8,18 @@ use native.Mathlib.Omega.{arith}
 use borrow.Author.Tests.{ltb-true, ltb-false, not-false}
 use lib.Dec.{ltb}
 use lib.IntN.{pos, natAbs, _-ℤ_}
+use lib.ListN.{length}
 use Rattle.base.proofs.Logic.{either}
 use Rattle.base.proofs.Refusals.{unless-answered}
 use Rattle.rules.specs.declared.Head.{Head}
 use Rattle.rules.specs.Opening.{headOk}
-use Rattle.book.specs.Cells.{Book}
+use Rattle.book.specs.Cells.{Book, bookFits}
 use Rattle.file.specs.Layout.{figuresOf}
 use Rattle.publishing.specs.Publishing.{published}
 use Rattle.claim.specs.Claim.{plainOf}
 use Rattle.berth.specs.declared.Report.{Report}
-use Rattle.berth.specs.declared.Simulated.the-variants.{Run}
-use Rattle.berth.specs.Run.{trueTotal, callsOf, reportOf, simulateAnswer}
+use Rattle.berth.specs.declared.Simulated.the-variants.{Run, Refused}
+use Rattle.berth.specs.Run.{trueTotal, callsOf, reportOf, simulateAnswer, runRules}
 use Rattle.berth.proofs.Differences.{rising, falling}
 use Rattle.berth.proofs.Sends.{true-high}
 use Rattle.berth.proofs.Written.{sum-high}
@@ -42,6 +43,6 @@ pub report-low : (h : Head) (seed loss : ℕ) (b : Book) (out : List ℕ) (r : R
     → (natAbs (r .difference) ≤ 11520000000000) × (r .total ≤ 57600000000)
 unfolding simulateAnswer
 report-low h seed loss b out r e =
-    let (told, kept) = unless-answered Refused (λ a. a ≡ Run r) (λ n z. let z : _≡_ {A = ℕ} 0 1 = cc in omega arith) _ _ (sym e) in
+    let (told, kept) = unless-answered Refused (λ a. a ≡ Run r) (λ n z. let z : _≡_ {A = ℕ} 0 1 = cc in omega arith) (runRules h seed loss (bookFits h b) (length out)) _ (sym e) in
     let same : r ≡ reportOf h seed loss = cc in
     rw same (low h seed loss (not-false _ (kept 0)))

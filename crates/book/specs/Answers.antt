@@ -2,8 +2,8 @@
 use mathlib.Core.Bool.{Bool, true, false, cond}
 use Prim.Native.Nat.{ℕ}
 use lib.Dec.{ltb}
-use Rattle.book.specs.declared.Opened.{Opened}
-use Rattle.book.specs.declared.Opened.the-variants as opened
+use Rattle.base.specs.declared.Performed.{Performed}
+use Rattle.base.specs.declared.Performed.the-variants as performed
 use Rattle.book.specs.declared.Filed.{Filed}
 use Rattle.book.specs.declared.Filed.the-variants as filed
 
@@ -15,10 +15,10 @@ pub data Answer : Type 0 where
   repeat : Answer
   refused : ℕ → Answer
 
--- 01's answer for each case of the two enums
-abbrev pub openedMeant : Opened → Answer
-openedMeant opened.Done = done
-openedMeant (opened.Refused n) = refused n
+-- 01's answer for each case of the two enums: of opening, and of a filling call
+abbrev pub openedMeant : Performed → Answer
+openedMeant performed.Done = done
+openedMeant (performed.Refused n) = refused n
 
 abbrev pub filedMeant : Filed → Answer
 filedMeant filed.Stored = stored

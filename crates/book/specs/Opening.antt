@@ -1,9 +1,9 @@
 -- Opening a book (01, Opening; 02, W1, W6 and W10).
 use mathlib.Core.Bool.{not}
-use mathlib.Core.List.{[], _∷_}
+use mathlib.Core.List.{List, [], _∷_}
 use Prim.Native.Nat.{suc}
 use lib.ListN.{replicate}
-use Rattle.base.specs.Refusals.{unless}
+use Rattle.base.specs.Refusals.{Rule, unless}
 use Rattle.base.specs.Refusals.Rule.{rule}
 use Rattle.rules.specs.declared.Head.{Head}
 use Rattle.rules.specs.Opening.{headOk, slotCount}
@@ -26,8 +26,11 @@ opened h = record {
 }
 
 -- "Opening answers done": 1 and 2 alone can refuse it
+abbrev pub openRules : Head → Book → List Rule
+openRules h b = rule 1 (not (headOk h)) ∷ rule 2 (not (bookFits h b)) ∷ []
+
 unfoldable pub openAnswer : Head → Book → Answer
-openAnswer h b = unless refused (rule 1 (not (headOk h)) ∷ rule 2 (not (bookFits h b)) ∷ []) done
+openAnswer h b = unless refused (openRules h b) done
 
 -- a refused opening changes nothing
 abbrev pub openedIn : Answer → Head → Book → Book

@@ -10,6 +10,7 @@ pub mod sound;
 mod versions;
 mod zeros;
 
+use base::Performed;
 use rules::Head;
 use rules::opening;
 ghost use mathlib.Core.Path.{_≡_};
@@ -18,12 +19,6 @@ ghost use Rattle.book.specs.Answers.{openedMeant, filedMeant};
 ghost use Rattle.book.specs.Opening.{openAnswer, openAfter};
 ghost use Rattle.book.specs.Filling.{deliverAnswer, deliverAfter, countsAfter, holidayAnswer, holidayAfter, registerAnswer, registerAfter, agreeAnswer, agreeAfter};
 ghost use Rattle.book.specs.Lent.{lentReads, lentBook};
-
-// What opening answers.
-pub enum Opened {
-    Done,
-    Refused(u8),
-}
 
 // What a filling call answers.
 pub enum Filed {
@@ -45,7 +40,7 @@ pub fn open(
     agreed_versions: &mut [u32],
     counts: &mut [u16],
     widths: &mut [u16],
-) -> Opened
+) -> Performed
     ensures { λ r. ⌜
         (let book =
         lentBook (values .entry) (versions .entry) (statuses .entry) (holidays .entry) (readings .entry) («read_versions» .entry) (agreed .entry) («agreed_versions» .entry) (counts .entry) (widths .entry) in
@@ -55,7 +50,7 @@ pub fn open(
         ⌝ }
 {
     if !opening::head_ok(head) {
-        return Opened::Refused(1);
+        return Performed::Refused(1);
     }
     let fit = lengths::book_fits(
         head,
@@ -71,7 +66,7 @@ pub fn open(
         widths.len(),
     );
     if !fit {
-        return Opened::Refused(2);
+        return Performed::Refused(2);
     }
     zeros::clear_words(values);
     zeros::clear_words(versions);
@@ -83,7 +78,7 @@ pub fn open(
     zeros::clear_words(agreed_versions);
     zeros::clear_counts(counts);
     zeros::clear_counts(widths);
-    Opened::Done
+    Performed::Done
 }
 
 pub fn deliver(

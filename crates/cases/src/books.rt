@@ -1,5 +1,5 @@
 // Small books: opened, filled by rows, published.
-use book::Opened;
+use base::Performed;
 use publishing::Published;
 use rules::Head;
 use rules::limits;
@@ -271,7 +271,7 @@ fn publish_lent(
         counts,
         widths,
     );
-    if let Opened::Refused(n) = opened {
+    if let Performed::Refused(n) = opened {
         return Published::Refused(n);
     }
     fill_and_publish(

@@ -9,9 +9,11 @@ use native.Mathlib.Omega.{arith}
 use lib.Dec.{ltb}
 use lib.ListN.{length, getD, drop}
 use lib.Seq.{ext-getD}
+use borrow.Author.Tests.{not-false}
 use Rattle.base.specs.Lists.{upTo}
 use Rattle.base.proofs.Lists.{getD-upTo, upTo-cong}
 use Rattle.base.proofs.Logic.{and-parts, passed}
+use Rattle.base.proofs.Refusals.{unless-answered}
 use Rattle.calendar.proofs.Dates.{one-date}
 use Rattle.rules.specs.declared.Head.{Head}
 use Rattle.rules.specs.declared.Outcome.{Outcome}
@@ -22,7 +24,7 @@ use Rattle.book.specs.Arguments.{Call}
 use Rattle.book.specs.Answers.{Answer}
 use Rattle.book.specs.Answers.Answer.{done, refused}
 use Rattle.book.specs.Cells.{Book, cellsOk, bookOk}
-use Rattle.book.specs.Opening.{opened, openAnswer, openedIn, openAfter}
+use Rattle.book.specs.Opening.{opened, openAnswer, openedIn, openAfter, openRules}
 use Rattle.book.specs.Filling.{answers}
 use Rattle.book.specs.Plain.{plainAnswers, keptOf}
 use Rattle.book.proofs.Agreement.{answers-agree, cells-agree}
@@ -128,7 +130,7 @@ sound h cs good =
 opens : (h : Head) (b : Book) → openAnswer h b ≡ done → (headOk h ≡ true) × (openAfter h b ≡ opened h)
 unfolding openAnswer openAfter
 opens h b e =
-    let (_, kept) = unless-answered refused (λ a. a ≡ done) (λ n r. let z : _≡_ {A = ℕ} 0 1 = cc in omega arith) _ _ e in
+    let (_, kept) = unless-answered refused (λ a. a ≡ done) (λ n r. let z : _≡_ {A = ℕ} 0 1 = cc in omega arith) (openRules h b) done e in
     (not-false _ (kept 0), ap (λ (a : Answer). openedIn a h b) e)
 
 -- equal plain books under one head have equal files

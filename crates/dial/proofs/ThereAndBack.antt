@@ -7,8 +7,8 @@ use native.Mathlib.Omega.{arith}
 use borrow.Author.Tests.{eqb-true, eq-eqb, ltb-false, le-ltb, not-false}
 use lib.ListN.{length}
 use Rattle.base.proofs.Refusals.{unless-answered}
-use Rattle.dial.specs.declared.Packed.{Packed}
-use Rattle.dial.specs.declared.Packed.the-variants as packed
+use Rattle.base.specs.declared.Performed.{Performed}
+use Rattle.base.specs.declared.Performed.the-variants as performed
 use Rattle.dial.specs.declared.Unpacked.the-variants as unpacked
 use Rattle.dial.specs.Dial.{form, aboveNine, readingOf, packRules, packAnswer, bytesAfter, packAfter, unpackRules, unpackAnswer}
 use Rattle.dial.specs.Claim.{OneForm, AcceptsExactly, PackedThenUnpacked, UnpackedThenPacked}
@@ -60,8 +60,8 @@ pub packed-then-unpacked : PackedThenUnpacked
 unfolding packAnswer packAfter
 packed-then-unpacked reading bytes e =
     let (_, kept) =
-    unless-answered packed.Refused (λ a. a ≡ packed.Done) (λ n r. let z : _≡_ {A = ℕ} 0 1 = cc in omega arith) (packRules reading bytes) _ e in
-    ap (λ (a : Packed). unpackAnswer (bytesAfter a reading bytes)) e ∙ form-read reading (ltb-false _ _ (kept 1))
+    unless-answered performed.Refused (λ a. a ≡ performed.Done) (λ n r. let z : _≡_ {A = ℕ} 0 1 = cc in omega arith) (packRules reading bytes) _ e in
+    ap (λ (a : Performed). unpackAnswer (bytesAfter a reading bytes)) e ∙ form-read reading (ltb-false _ _ (kept 1))
 
 -- there and back from bytes, into any four
 pub unpacked-then-packed : UnpackedThenPacked

@@ -4,7 +4,7 @@ use mathlib.Core.Logic.{_↔_}
 use mathlib.Core.Path.{_≡_}
 use Prim.Native.Nat.{ℕ, _≤_}
 use lib.ListN.{length}
-use Rattle.dial.specs.declared.Packed.the-variants as packed
+use Rattle.base.specs.declared.Performed.the-variants as performed
 use Rattle.dial.specs.declared.Unpacked.the-variants as unpacked
 use Rattle.dial.specs.Dial.{form, packAnswer, packAfter, unpackAnswer}
 
@@ -20,10 +20,10 @@ AcceptsExactly =
 -- a reading that `pack` takes comes back from the bytes that it leaves; proved by `packed-then-unpacked`
 abbrev pub PackedThenUnpacked : Type 0
 PackedThenUnpacked =
-    (reading : ℕ) (bytes : List ℕ) → packAnswer reading bytes ≡ packed.Done → unpackAnswer (packAfter reading bytes) ≡ unpacked.Reading reading
+    (reading : ℕ) (bytes : List ℕ) → packAnswer reading bytes ≡ performed.Done → unpackAnswer (packAfter reading bytes) ≡ unpacked.Reading reading
 
 -- bytes that `unpack` takes come back, in any four bytes, from the reading that it answers; proved by `unpacked-then-packed`
 abbrev pub UnpackedThenPacked : Type 0
 UnpackedThenPacked =
     (bytes : List ℕ) (reading : ℕ) → unpackAnswer bytes ≡ unpacked.Reading reading → (held : List ℕ) → length held ≡ 4
-    → (packAnswer reading held ≡ packed.Done) × (packAfter reading held ≡ bytes)
+    → (packAnswer reading held ≡ performed.Done) × (packAfter reading held ≡ bytes)

@@ -6,8 +6,8 @@ use lib.Dec.{ltb, eqb}
 use lib.ListN.{length}
 use Rattle.base.specs.Refusals.{Rule, unless}
 use Rattle.base.specs.Refusals.Rule.{rule}
-use Rattle.dial.specs.declared.Packed.{Packed}
-use Rattle.dial.specs.declared.Packed.the-variants as packed
+use Rattle.base.specs.declared.Performed.{Performed}
+use Rattle.base.specs.declared.Performed.the-variants as performed
 use Rattle.dial.specs.declared.Unpacked.{Unpacked}
 use Rattle.dial.specs.declared.Unpacked.the-variants as unpacked
 
@@ -54,13 +54,13 @@ notFour bytes = not (eqb (length bytes) 4)
 abbrev pub packRules : ℕ → List ℕ → List Rule
 packRules reading bytes = rule 2 (notFour bytes) ∷ rule 6 (ltb 99999999 reading) ∷ []
 
-unfoldable pub packAnswer : ℕ → List ℕ → Packed
-packAnswer reading bytes = unless packed.Refused (packRules reading bytes) packed.Done
+unfoldable pub packAnswer : ℕ → List ℕ → Performed
+packAnswer reading bytes = unless performed.Refused (packRules reading bytes) performed.Done
 
 -- what the bytes hold after an answer: a refusal changes none
-abbrev pub bytesAfter : Packed → ℕ → List ℕ → List ℕ
-bytesAfter packed.Done reading bytes = form reading
-bytesAfter (packed.Refused n) reading bytes = bytes
+abbrev pub bytesAfter : Performed → ℕ → List ℕ → List ℕ
+bytesAfter performed.Done reading bytes = form reading
+bytesAfter (performed.Refused n) reading bytes = bytes
 
 unfoldable pub packAfter : ℕ → List ℕ → List ℕ
 packAfter reading bytes = bytesAfter (packAnswer reading bytes) reading bytes

@@ -1,14 +1,9 @@
 // A reading and the four bytes in which a charger's meter sends it (02, W9).
+use base::Performed;
 ghost use mathlib.Core.List.{[], _∷_};
 ghost use mathlib.Core.Path.{_≡_};
 ghost use Prim.Native.Nat.{_+_, _*_, _≤_};
 ghost use Rattle.dial.specs.Dial.{byteAt, aboveNine, upper, lower, packAnswer, packAfter, unpackAnswer};
-
-// What `pack` answers.
-pub enum Packed {
-    Done,
-    Refused(u8),
-}
 
 // What `unpack` answers.
 pub enum Unpacked {
@@ -42,23 +37,23 @@ fn value(byte: u8) -> u32
 }
 
 // Puts the form of `reading` into four bytes.
-pub fn pack(reading: u32, bytes: &mut [u8]) -> Packed
+pub fn pack(reading: u32, bytes: &mut [u8]) -> Performed
     ensures { λ r. ⌜
         (r ≡ packAnswer reading (now (bytes .entry)))
         × (now (bytes .exit) ≡ packAfter reading (now (bytes .entry)))
         ⌝ }
 {
     if bytes.len() != 4 {
-        return Packed::Refused(2);
+        return Performed::Refused(2);
     }
     if 99999999 < reading {
-        return Packed::Refused(6);
+        return Performed::Refused(6);
     }
     bytes[0] = two_digits(reading);
     bytes[1] = two_digits(reading / 100);
     bytes[2] = two_digits(reading / 10000);
     bytes[3] = two_digits(reading / 1000000);
-    Packed::Done
+    Performed::Done
 }
 
 // The reading of which `bytes` are the form.

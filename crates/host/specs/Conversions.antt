@@ -1,14 +1,7 @@
 -- The numbers that a charger's host is given for the answers of the conversions (02, W9).
 use Prim.Native.Nat.{ℕ, _+_}
-use Rattle.dial.specs.declared.Packed.{Packed}
-use Rattle.dial.specs.declared.Packed.the-variants as packed
 use Rattle.dial.specs.declared.Unpacked.{Unpacked}
 use Rattle.dial.specs.declared.Unpacked.the-variants as unpacked
-
--- "0 or the refusal"
-abbrev pub packCode : Packed → ℕ
-packCode packed.Done = 0
-packCode (packed.Refused n) = n
 
 -- "the reading, or 100,000,000 plus the refusal"
 abbrev pub unpackCode : Unpacked → ℕ

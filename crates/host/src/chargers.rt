@@ -1,23 +1,19 @@
 // The conversions for the chargers' host (02, W9), which is written in C.
-use dial::Packed;
 use dial::Unpacked;
 ghost use mathlib.Core.Path.{_≡_};
+ghost use Rattle.base.specs.Refusals.{codeOf};
 ghost use Rattle.dial.specs.Dial.{packAnswer, packAfter, unpackAnswer};
-ghost use Rattle.host.specs.Conversions.{packCode, unpackCode};
+ghost use Rattle.host.specs.Conversions.{unpackCode};
 
 // 0, or the refusal's number.
 #[no_mangle]
 pub extern "C" fn sawmauve_pack(reading: u32, bytes: &mut [u8]) -> u32
     ensures { λ r. ⌜
-        (r ≡ packCode (packAnswer reading (now (bytes .entry))))
+        (r ≡ codeOf (packAnswer reading (now (bytes .entry))))
         × (now (bytes .exit) ≡ packAfter reading (now (bytes .entry)))
         ⌝ }
 {
-    let packed = dial::pack(reading, bytes);
-    match packed {
-        Packed::Done => 0,
-        Packed::Refused(n) => n as u32,
-    }
+    base::code_of(dial::pack(reading, bytes))
 }
 
 // The reading, or 100,000,000 plus the refusal's number.

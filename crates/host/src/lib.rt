@@ -7,11 +7,10 @@ mod stays;
 mod storage;
 
 use book::Filed;
-use book::Opened;
 use rules::Head;
 ghost use mathlib.Core.Path.{_≡_};
 ghost use Rattle.rules.specs.Lent.{lentSlots, lentAgreed};
-ghost use Rattle.book.specs.Answers.{openedMeant, filedMeant, answerCode};
+ghost use Rattle.book.specs.Answers.{filedMeant, answerCode};
 ghost use Rattle.book.specs.Opening.{openAnswer, openAfter};
 ghost use Rattle.book.specs.Filling.{deliverAnswer, deliverAfter, countsAfter, agreeAnswer, agreeAfter, holidayAnswer, holidayAfter, registerAnswer, registerAfter};
 ghost use Rattle.book.specs.Lent.{lentReads, lentBook};
@@ -36,16 +35,6 @@ pub fn head_of(
         interval: interval,
         limit: limit,
         tolerance: tolerance,
-    }
-}
-
-// 0 done, else the refusal's number.
-fn opened_code(opened: Opened) -> u32
-    ensures { λ r. ⌜ r ≡ answerCode (openedMeant opened) ⌝ }
-{
-    match opened {
-        Opened::Done => 0,
-        Opened::Refused(n) => n as u32,
     }
 }
 
@@ -90,7 +79,7 @@ pub extern "C" fn sawmauve_open(
         ⌝ }
 {
     let head = head_of(year, month, day, days, interval, limit, tolerance);
-    opened_code(book::open(
+    base::code_of(book::open(
         head,
         values,
         versions,

@@ -1,6 +1,6 @@
 // The lines of a log made on the ten lists, each given them as the line before left them.
+use base::Performed;
 use book::Filed;
-use book::Opened;
 use book::calls;
 use log::line::Line;
 use log::lines;
@@ -18,12 +18,12 @@ ghost use Rattle.log.specs.Log.{itemIn, items, lines as linesOf};
 ghost use Rattle.play.specs.Playing.{codeOf, afterItem, codes, callsOf};
 ghost use Rattle.play.specs.Inner.Filling.{isDone};
 
-pub fn is_done(opened: Opened) -> bool
+pub fn is_done(opened: Performed) -> bool
     ensures { λ r. ⌜ r ≡ isDone (openedMeant opened) ⌝ }
 {
     match opened {
-        Opened::Done => true,
-        Opened::Refused(_) => false,
+        Performed::Done => true,
+        Performed::Refused(_) => false,
     }
 }
 

@@ -3,7 +3,7 @@ mod filling;
 mod reading;
 
 use crate::reading::Lead;
-use book::Opened;
+use base::Performed;
 use rules::Head;
 ghost use mathlib.Core.Path.{_≡_};
 ghost use Rattle.book.specs.Lent.{lentBook};

@@ -7,8 +7,10 @@ use native.Mathlib.Nat.{mul-comm, mul-le-mul-right}
 use native.Mathlib.Omega.{arith}
 use lib.ListN.{length, take, drop}
 use lib.Seq.{take-at}
+use borrow.Author.Tests.{not-false}
 use Rattle.base.proofs.Logic.{and-parts}
 use Rattle.base.proofs.Sums.{sum-cong}
+use Rattle.base.proofs.Refusals.{unless-answered}
 use Rattle.rules.specs.declared.Head.{Head}
 use Rattle.rules.specs.declared.Outcome.{Outcome}
 use Rattle.rules.specs.declared.Span.{Span}
@@ -25,8 +27,8 @@ use Rattle.file.specs.Contents.{span}
 use Rattle.file.proofs.Content.{length-file}
 use Rattle.file.proofs.Canonical.{content-back}
 use Rattle.publishing.specs.declared.Published.{Published}
-use Rattle.publishing.specs.declared.Published.the-variants.{Length}
-use Rattle.publishing.specs.Publishing.{published, fileLength, publishAnswer, bytesAfter, publishAfter}
+use Rattle.publishing.specs.declared.Published.the-variants.{Length, Refused}
+use Rattle.publishing.specs.Publishing.{published, fileLength, publishRules, publishAnswer, bytesAfter, publishAfter}
 use Rattle.publishing.specs.Claim.{SumsToR, EveryFile}
 use Rattle.publishing.specs.Inner.Publishing.{Sound}
 use Rattle.publishing.proofs.Files.{slots-own, slot-own, well-formed, published-accepted}
@@ -35,7 +37,8 @@ module _ (h : Head) (b : Book) (out : List ℕ) (n : ℕ) (e : publishAnswer h b
   answered : (headOk h ≡ true) × (bookFits h b ≡ true) × (bookOk h b ≡ true) × (fileLength h (b .cells) ≡ n)
   unfolding publishAnswer
   answered =
-      let (same, kept) = unless-answered Refused (λ a. a ≡ Length n) (λ k r. let z : _≡_ {A = ℕ} 0 1 = cc in omega arith) _ _ e in
+      let (same, kept) =
+      unless-answered Refused (λ a. a ≡ Length n) (λ k r. let z : _≡_ {A = ℕ} 0 1 = cc in omega arith) (publishRules h b out) _ e in
       (not-false _ (kept 0), not-false _ (kept 1), not-false _ (kept 2), cc)
 
   sound : Sound h (b .cells)

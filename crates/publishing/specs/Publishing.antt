@@ -4,7 +4,7 @@ use mathlib.Core.List.{List, [], _∷_, _++_}
 use Prim.Native.Nat.{ℕ, _+_, _*_}
 use lib.Dec.{ltb}
 use lib.ListN.{length, drop}
-use Rattle.base.specs.Refusals.{unless}
+use Rattle.base.specs.Refusals.{Rule, unless}
 use Rattle.base.specs.Refusals.Rule.{rule}
 use Rattle.rules.specs.declared.Head.{Head}
 use Rattle.rules.specs.Opening.{Cells, headOk, firstDay}
@@ -30,12 +30,13 @@ unfoldable pub fileLength : Head → Cells → ℕ
 fileLength h b = 6 * length (outcomes h b) + 14 * length (spans h b) + 32
 
 -- 11, of all cells and counts, goes before 7
+abbrev pub publishRules : Head → Book → List ℕ → List Rule
+publishRules h b out =
+    rule 1 (not (headOk h)) ∷ rule 2 (not (bookFits h b)) ∷ rule 11 (not (bookOk h b))
+    ∷ rule 7 (ltb (length out) (fileLength h (b .cells))) ∷ []
+
 unfoldable pub publishAnswer : Head → Book → List ℕ → Published
-publishAnswer h b out =
-    unless Refused
-    (rule 1 (not (headOk h)) ∷ rule 2 (not (bookFits h b)) ∷ rule 11 (not (bookOk h b))
-    ∷ rule 7 (ltb (length out) (fileLength h (b .cells))) ∷ [])
-    (Length (fileLength h (b .cells)))
+publishAnswer h b out = unless Refused (publishRules h b out) (Length (fileLength h (b .cells)))
 
 -- the file stands in the first bytes; bytes after it, and all on a refusal, stay
 abbrev pub bytesAfter : Published → Content → List ℕ → List ℕ

@@ -26,7 +26,7 @@ use Rattle.reach.proofs.Sparse.{Sparse, goodIn, status-at, good-at, out
 -- a day of the book
 holiday-at : (h : Head) (kept : List Call) (d : ℕ) → d < h .days → getD (bookOf h kept .holidays) d 0 ≡ cond (named d kept) 1 0
 unfolding bookOf
-holiday-at h kept d m = upTo-at (λ d. cond (named d kept) 1 0) (h .days) d m
+holiday-at h kept d m = upTo-at (λ d. cond (named d kept) 1 0) 0 (h .days) d m
 
 -- slot k is a reference where its kept delivery is good and has no outage bit
 reference-at : (h : Head) (kept : List Call) (k : ℕ) (t : Bool) → k < slotCount h → k / slotsPerDay h < h .days → named (k / slotsPerDay h) kept ≡ false

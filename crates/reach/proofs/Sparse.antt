@@ -41,15 +41,15 @@ module _ (h : Head) (kept : List Call) where
   module _ (k : ℕ) (l : k < slotCount h) where
     pub version-at : getD (b .slots .versions) k 0 ≡ slotVersion kept k
     unfolding bookOf
-    version-at = upTo-at (slotVersion kept) (slotCount h) k l
+    version-at = upTo-at (slotVersion kept) 0 (slotCount h) k l
 
     pub value-at : getD (b .slots .values) k 0 ≡ slotContent kept k .value
     unfolding bookOf
-    value-at = upTo-at (λ i. slotContent kept i .value) (slotCount h) k l
+    value-at = upTo-at (λ i. slotContent kept i .value) 0 (slotCount h) k l
 
     pub status-at : getD (b .slots .statuses) k 0 ≡ slotContent kept k .status
     unfolding bookOf
-    status-at = upTo-at (λ i. slotContent kept i .status) (slotCount h) k l
+    status-at = upTo-at (λ i. slotContent kept i .status) 0 (slotCount h) k l
 
     pub good-at : goodAt h (b .slots) k ≡ goodIn h kept k
     unfolding goodAt causeAt
@@ -74,11 +74,11 @@ module _ (h : Head) (kept : List Call) where
 
     free-at : agreements k kept ≡ [] → isAgreed (b .agreed .versions) k ≡ false
     unfolding isAgreed bookOf highest
-    free-at e = rw (upTo-at (agreedVersion kept) (slotCount h) k l, e)
+    free-at e = rw (upTo-at (agreedVersion kept) 0 (slotCount h) k l, e)
 
   read-none : ((d : ℕ) → reads d kept ≡ []) → (d : ℕ) → d ≤ h .days → isRead (b .readVersions) d ≡ false
   unfolding isRead bookOf highest
-  read-none u d l = rw (upTo-at (readVersion kept) (suc (h .days)) d (omega arith), u d)
+  read-none u d l = rw (upTo-at (readVersion kept) 0 (suc (h .days)) d (omega arith), u d)
 
   module _ (i p j : ℕ) (x : Sparse h kept i p j) where
     in-book : p < slotCount h

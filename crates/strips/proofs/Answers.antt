@@ -10,8 +10,8 @@ use lib.ListN.{length}
 use Rattle.base.proofs.Logic.{and-parts}
 use Rattle.rules.specs.Opening.{intervalOk}
 use Rattle.rules.proofs.Bounds.{interval-bounds}
-use Rattle.strips.specs.declared.Laid.{Laid}
-use Rattle.strips.specs.declared.Laid.the-variants.{Done, Refused}
+use Rattle.base.specs.declared.Performed.{Performed}
+use Rattle.base.specs.declared.Performed.the-variants.{Done, Refused}
 use Rattle.strips.specs.Strips.{perDay, wholeDays, lengthsOk, laidAnswer, laidAfter}
 use Rattle.strips.specs.Inner.Laying.{Sized}
 use Rattle.strips.proofs.Lengths.{whole-records}
@@ -25,7 +25,7 @@ fails {r} e h = sym e ∙ not-true r h
 
 module _ (interval : ℕ) (given out : List ℕ) where
   -- an answer, and the output after it
-  abbrev Left : Laid → List ℕ → List ℕ → Type 0
+  abbrev Left : Performed → List ℕ → List ℕ → Type 0
   Left a laid after = (a ≡ laidAnswer interval (length given) (length out)) × (after ≡ laidAfter interval given laid out)
 
   pub refuses-interval : (laid : List ℕ) → intervalOk interval ≡ false → Left (Refused 1) laid out

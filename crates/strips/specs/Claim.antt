@@ -5,7 +5,7 @@ use mathlib.Core.Path.{_≡_}
 use Prim.Native.Nat.{ℕ, _<_}
 use lib.ListN.{length, getD}
 use Rattle.rules.specs.Opening.{intervalOk}
-use Rattle.strips.specs.declared.Laid.the-variants.{Done}
+use Rattle.base.specs.declared.Performed.the-variants.{Done}
 use Rattle.strips.specs.Strips.{perDay, wholeDays, laidAnswer, toStripsAfter, fromStripsAfter}
 
 -- what a list of bytes holds: nothing else is asked of a table or of strips

@@ -6,8 +6,8 @@ use lib.Dec.{ltb, eqb}
 use lib.ListN.{length, getD}
 use Rattle.base.specs.Lists.{every, any, sum, upTo}
 use Rattle.rules.specs.Opening.{intervalOk}
-use Rattle.strips.specs.declared.Laid.{Laid}
-use Rattle.strips.specs.declared.Laid.the-variants.{Done, Refused}
+use Rattle.base.specs.declared.Performed.{Performed}
+use Rattle.base.specs.declared.Performed.the-variants.{Done, Refused}
 
 -- n: slots a day
 abbrev pub perDay : ℕ → ℕ
@@ -82,12 +82,12 @@ unfoldable pub lengthsOk : ℕ → ℕ → ℕ → Bool
 lengthsOk n table out = every (wholeDays n table ∷ eqb out table ∷ [])
 
 -- what either call answers, by the lengths of what it is given and of its output: "22 .., after 1"
-unfoldable pub laidAnswer : ℕ → ℕ → ℕ → Laid
+unfoldable pub laidAnswer : ℕ → ℕ → ℕ → Performed
 laidAnswer interval table out =
     cond (not (intervalOk interval)) (Refused 1) (cond (not (lengthsOk (perDay interval) table out)) (Refused 22) Done)
 
 -- a refusal changes no byte
-abbrev pub laidIn : Laid → List ℕ → List ℕ → List ℕ
+abbrev pub laidIn : Performed → List ℕ → List ℕ → List ℕ
 laidIn Done laid out = laid
 laidIn (Refused n) laid out = out
 

@@ -1,17 +1,12 @@
 // A slot table laid out for a store that writes only the blocks that changed (02, W13).
 mod records;
 
+use base::Performed;
 ghost use mathlib.Core.Path.{_≡_};
 ghost use Prim.Native.Nat.{_*_, _<_, _≤_};
 ghost use lib.ListN.{length};
 ghost use Rattle.strips.specs.Strips.{lengthsOk, laidAnswer, stripsOf, tableOf, toStripsAfter, fromStripsAfter};
 ghost use Rattle.strips.specs.Inner.Laying.{Sized, Slot, storedIn, restoredIn};
-
-// Done, or the refusal's number.
-pub enum Laid {
-    Done,
-    Refused(u8),
-}
 
 // The table is 6 × n × a number of days from 1 to 400 long, and the output as long as it.
 fn fit(n: usize, table: usize, out: usize) -> bool
@@ -88,37 +83,37 @@ fn restore(n: usize, strips: &[u8], out: &mut [u8])
 }
 
 // The strips of a table.
-pub fn to_strips(interval: u32, table: &[u8], out: &mut [u8]) -> Laid
+pub fn to_strips(interval: u32, table: &[u8], out: &mut [u8]) -> Performed
     ensures { λ r. ⌜
         (r ≡ laidAnswer interval (length (now (table .entry))) (length (now (out .entry))))
         × (now (out .exit) ≡ toStripsAfter interval (now (table .entry)) (now (out .entry)))
         ⌝ }
 {
     if !rules::opening::is_interval(interval) {
-        return Laid::Refused(1);
+        return Performed::Refused(1);
     }
     let n = (1440 / interval) as usize;
     if !fit(n, table.len(), out.len()) {
-        return Laid::Refused(22);
+        return Performed::Refused(22);
     }
     lay(n, table, out);
-    Laid::Done
+    Performed::Done
 }
 
 // The table of its strips.
-pub fn from_strips(interval: u32, strips: &[u8], out: &mut [u8]) -> Laid
+pub fn from_strips(interval: u32, strips: &[u8], out: &mut [u8]) -> Performed
     ensures { λ r. ⌜
         (r ≡ laidAnswer interval (length (now (strips .entry))) (length (now (out .entry))))
         × (now (out .exit) ≡ fromStripsAfter interval (now (strips .entry)) (now (out .entry)))
         ⌝ }
 {
     if !rules::opening::is_interval(interval) {
-        return Laid::Refused(1);
+        return Performed::Refused(1);
     }
     let n = (1440 / interval) as usize;
     if !fit(n, strips.len(), out.len()) {
-        return Laid::Refused(22);
+        return Performed::Refused(22);
     }
     restore(n, strips, out);
-    Laid::Done
+    Performed::Done
 }

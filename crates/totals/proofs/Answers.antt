@@ -11,7 +11,7 @@ use Rattle.file.specs.declared.Verdict.the-variants as verdict
 use Rattle.file.specs.Reader.{figures, readFile}
 use Rattle.file.proofs.Answers.{ready, tests-passed}
 use Rattle.file.proofs.Head.{interval-pos, per-day-le, days-le}
-use Rattle.totals.specs.declared.Totalled.the-variants.{Done, Refused}
+use Rattle.base.specs.declared.Performed.the-variants.{Done, Refused}
 use Rattle.totals.specs.Stays.{listTests, pairsOk, totalsOf, staysAnswer, staysAfter}
 use Rattle.totals.specs.Inner.Adding.{Fitted}
 

@@ -8,8 +8,8 @@ use Rattle.base.specs.Lists.{sum, every, upTo, all}
 use Rattle.file.specs.declared.Verdict.{Verdict}
 use Rattle.file.specs.declared.Verdict.the-variants as verdict
 use Rattle.file.specs.Reader.{slotAt, figures, readFile}
-use Rattle.totals.specs.declared.Totalled.{Totalled}
-use Rattle.totals.specs.declared.Totalled.the-variants.{Done, Refused}
+use Rattle.base.specs.declared.Performed.{Performed}
+use Rattle.base.specs.declared.Performed.the-variants.{Done, Refused}
 
 -- ---- One stay
 
@@ -50,17 +50,17 @@ abbrev pub pairsOk : ℕ → List ℕ → Bool
 pairsOk days pairs = all (λ k. pairOk days (firstOf pairs k) (endOf pairs k)) 0 (pairCount pairs)
 
 -- each case of the answer, in the order 8, 9, 18, 19
-abbrev pub answerFor : Verdict → Bool → Bool → Totalled
+abbrev pub answerFor : Verdict → Bool → Bool → Performed
 answerFor (verdict.Refused number) lists pairs = Refused number
 answerFor (verdict.Accepted g) false pairs = Refused 18
 answerFor (verdict.Accepted g) true false = Refused 19
 answerFor (verdict.Accepted g) true true = Done
 
-unfoldable pub staysAnswer : List ℕ → List ℕ → List ℕ → Totalled
+unfoldable pub staysAnswer : List ℕ → List ℕ → List ℕ → Performed
 staysAnswer bs pairs totals = answerFor (readFile bs) (every (listTests pairs (length totals))) (pairsOk (figures bs .days) pairs)
 
 -- a refusal changes no total
-abbrev pub totalsAfter : Totalled → List ℕ → List ℕ → List ℕ
+abbrev pub totalsAfter : Performed → List ℕ → List ℕ → List ℕ
 totalsAfter Done found totals = found
 totalsAfter (Refused number) found totals = totals
 

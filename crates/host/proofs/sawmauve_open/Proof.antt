@@ -1,9 +1,16 @@
 -- `sawmauve_open`: the answer of opening as its code, and the lists as opening leaves them.
-use mathlib.Core.Path.{ap, _∙_}
-use Rattle.book.specs.Answers.{answerCode}
+use mathlib.Core.Path.{ap, _∙_, _≡_, refl}
+use Rattle.base.specs.declared.Performed.{Performed}
+use Rattle.base.specs.declared.Performed.the-variants.{Done, Refused}
+use Rattle.base.specs.Refusals.{codeOf}
+use Rattle.book.specs.Answers.{answerCode, openedMeant}
 use borrow.Author.Needs.{needs}
 use Rattle.host.proofs.sawmauve_open.Statement.{statement}
 use Rattle.host.proofs.sawmauve_open.Tie as tie
+
+code-meant : (p : Performed) → codeOf p ≡ answerCode (openedMeant p)
+code-meant Done = refl
+code-meant (Refused n) = refl
 
 head-of-requires : tie.Need-head-of-requires
 head-of-requires c κs = search needs
@@ -11,8 +18,8 @@ head-of-requires c κs = search needs
 open-requires : tie.Need-open-requires
 open-requires c κs = search needs
 
-opened-code-requires : tie.Need-opened-code-requires
-opened-code-requires c κs = search needs
+code-of-requires : tie.Need-code-of-requires
+code-of-requires c κs = search needs
 
 same-length : tie.Need-same-length
 same-length c = search needs
@@ -48,7 +55,7 @@ returns : tie.Need-returns
 returns c =
     let o = c .before .before .before .before .before .before .before .before .before .before .before .before .before .before .before .before .before .before .before .before .before in
     let h = rw (o .before .before .before .before .before .before .before .before .before .before .before .head-of .ensures) at (o .«open» .ensures) in
-    (c .opened-code .ensures ∙ ap answerCode (h .0), h .1)
+    (c .code-of .ensures ∙ code-meant (o .«open» .result) ∙ ap answerCode (h .0), h .1)
 
 pub sawmauve-open-spec : {M : Type 1} → statement M
 sawmauve-open-spec =
@@ -56,7 +63,7 @@ sawmauve-open-spec =
     (tie.spec
     head-of-requires
     open-requires
-    opened-code-requires
+    code-of-requires
     same-length
     same-length-2
     same-length-3

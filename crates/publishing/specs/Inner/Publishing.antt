@@ -21,6 +21,7 @@ use Rattle.publishing.specs.declared.tables.Totals.{Totals}
 use Rattle.publishing.specs.declared.tables.Progress.{Progress}
 use Rattle.file.specs.Layout.{one, total, row, table, slotRow, spanRow}
 use Rattle.publishing.specs.Publishing.{published, fileLength, publishAnswer, bytesAfter, publishAfter}
+use Rattle.publishing.specs.declared.Published.the-variants.{Length, Refused}
 use Rattle.file.specs.Inner.Writing.{written}
 
 -- the counts of each quality and the sum of a list of outcomes

@@ -1,15 +1,15 @@
 -- `sawmauve_from_strips`: the answer of `strips::from_strips` as its code, and the output as it leaves it.
 use mathlib.Core.Path.{ap, _∙_}
 use borrow.Author.Needs.{needs}
-use Rattle.host.specs.Storage.{laidCode}
+use Rattle.base.specs.Refusals.{codeOf}
 use Rattle.host.proofs.storage.sawmauve_from_strips.Statement.{statement}
 use Rattle.host.proofs.storage.sawmauve_from_strips.Tie as tie
 
 from-strips-requires : tie.Need-from-strips-requires
 from-strips-requires c κs = search needs
 
-laid-code-requires : tie.Need-laid-code-requires
-laid-code-requires c κs = search needs
+code-of-requires : tie.Need-code-of-requires
+code-of-requires c κs = search needs
 
 same-length : tie.Need-same-length
 same-length c = search needs
@@ -17,8 +17,8 @@ same-length c = search needs
 returns : tie.Need-returns
 returns c =
     let laid = c .before .before .before .from-strips .ensures in
-    (c .laid-code .ensures ∙ ap laidCode (laid .0), laid .1)
+    (c .code-of .ensures ∙ ap codeOf (laid .0), laid .1)
 
 pub sawmauve-from-strips-spec : {M : Type 1} → statement M
 sawmauve-from-strips-spec =
-    tie.close (tie.spec from-strips-requires laid-code-requires same-length returns)
+    tie.close (tie.spec from-strips-requires code-of-requires same-length returns)
