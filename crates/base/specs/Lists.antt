@@ -24,6 +24,12 @@ same false b = not b
 abbrev pub implies : Bool → Bool → Bool
 implies a b = not a || b
 
+-- ---- Lists
+
+unfoldable pub sumOf : List ℕ → ℕ
+sumOf [] = 0
+sumOf (x ∷ xs) = x + sumOf xs
+
 -- ---- The k places from a
 
 -- f a + f (a + 1) + .. , k terms

@@ -2,6 +2,12 @@
 ghost use mathlib.Core.Path.{_≡_};
 ghost use Rattle.base.specs.Refusals.{codeOf};
 
+// The largest number of eight digits.
+pub const EIGHT_DIGITS: u32 = 99_999_999;
+
+// Where an eight-digit dial begins again at 0.
+pub const DIAL_MODULUS: u32 = 100_000_000;
+
 // What a call answers that has nothing else to tell.
 pub enum Performed {
     Done,

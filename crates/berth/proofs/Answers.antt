@@ -35,7 +35,7 @@ module _ (h : Head) (seed loss : ℕ) (good : headOk h ≡ true) (out : List ℕ
       q ∙ ap (λ (c : Book). publishAfter h c out) p ∙ published-after h good (callsOf h seed loss) out
       ∙ rw (le-ltb (length out) (length file) (omega (arith, file-size h seed loss good)))
 
-  pub total-written : {e : List ℕ} → e ≡ left → num 8 e (6 * slotCount h + 34) ≤ 11520000000000
+  pub total-written : {e : List ℕ} → e ≡ left → num 8 e (6 * slotCount h + 34) ≤ 11_520_000_000_000
   total-written p = rw (p, sum-back h seed loss good (drop (length file) out)) (sum-high h seed loss good)
 
   pub reported : {r : Report} {e : List ℕ} {total : ℕ} → e ≡ left → total ≡ trueTotal h seed loss

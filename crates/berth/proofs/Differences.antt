@@ -32,12 +32,12 @@ mag-low a b m p q =
     (either (ltb a b))
 
 -- the machine's way to it
-module _ (a b : ℕ) (p : a ≤ 11520000000000) (q : b ≤ 57600000000) where
+module _ (a b : ℕ) (p : a ≤ 11_520_000_000_000) (q : b ≤ 57_600_000_000) where
   minus-is : toZ w64 a -ℤ toZ w64 b ≡ pos a -ℤ pos b
   minus-is = λ t. toZ-pos w64 a (omega arith) t -ℤ toZ-pos w64 b (omega arith) t
 
   pub minus-fits : SFits w64 (toZ w64 a -ℤ toZ w64 b)
-  minus-fits = subst (SFits w64) (sym minus-is) (record { sfits = omega (arith, mag-low a b 11520000000000 p (omega arith)) })
+  minus-fits = subst (SFits w64) (sym minus-is) (record { sfits = omega (arith, mag-low a b 11_520_000_000_000 p (omega arith)) })
 
   pub minus-read : toZ w64 (ofZ w64 (toZ w64 a -ℤ toZ w64 b)) ≡ pos a -ℤ pos b
   minus-read = toZ-ofZ w64 _ minus-fits ∙ minus-is

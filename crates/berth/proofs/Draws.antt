@@ -25,19 +25,19 @@ left-13 : (x : ℕ) → x < 2 ^ 32 → (x ≡ 0 → ⊥) → x ≡ x * 2 ^ 13 % 
 left-13 x low some e =
     let q : ℕ = x * 2 ^ 13 / 2 ^ 32 in
     let d : q * 2 ^ 32 + x ≡ x * 2 ^ 13 = ap (λ (r : ℕ). q * 2 ^ 32 + r) e ∙ div-add-mod' (x * 2 ^ 13) (2 ^ 32) in
-    some (multiple x (4227850239 * q - 8063 * x) low (omega arith))
+    some (multiple x (4_227_850_239 * q - 8063 * x) low (omega arith))
 
 left-5 : (x : ℕ) → x < 2 ^ 32 → (x ≡ 0 → ⊥) → x ≡ x * 2 ^ 5 % 2 ^ 32 → ⊥
 left-5 x low some e =
     let q : ℕ = x * 2 ^ 5 / 2 ^ 32 in
     let d : q * 2 ^ 32 + x ≡ x * 2 ^ 5 = ap (λ (r : ℕ). q * 2 ^ 32 + r) e ∙ div-add-mod' (x * 2 ^ 5) (2 ^ 32) in
-    some (multiple x (3186588639 * q - 23 * x) low (omega arith))
+    some (multiple x (3_186_588_639 * q - 23 * x) low (omega arith))
 
 right-17 : (x : ℕ) → (x ≡ 0 → ⊥) → x ≡ x / 2 ^ 17 → ⊥
 right-17 x some e = some (omega arith)
 
 -- from 1 the first draw is 270369
-pub first-draw : draw 1 ≡ 270369
+pub first-draw : draw 1 ≡ 270_369
 unfolding draw
 first-draw = refl
 

@@ -29,7 +29,7 @@ delivery-stored : (h : Head) (kept : List Call) (slot value : ℕ) → headOk h 
 unfolding plainAnswer argumentRules againstKept byVersion highest
 delivery-stored h kept slot value good lt e = rw (good, lt-leb _ _ lt, e)
 
-read-stored : (h : Head) (kept : List Call) (boundary reading : ℕ) → headOk h ≡ true → boundary ≤ h .days → reading ≤ 99999999 → reads boundary kept ≡ []
+read-stored : (h : Head) (kept : List Call) (boundary reading : ℕ) → headOk h ≡ true → boundary ≤ h .days → reading ≤ 99_999_999 → reads boundary kept ≡ []
     → plainAnswer h kept (register boundary 1 reading 0) ≡ stored
 unfolding plainAnswer argumentRules againstKept byVersion highest
 read-stored h kept boundary reading good le low e = rw (good, le-ltb _ _ le, le-ltb _ _ low, e)
@@ -93,7 +93,7 @@ module _ (h : Head) (seed loss : ℕ) where
     slotCalls = keptOf h [] (sent h seed loss (slotCount h))
 
     abbrev pub reading : ℕ
-    reading = trueTotal h seed loss % 100000000
+    reading = trueTotal h seed loss % 100_000_000
 
     abbrev pub allCalls : List Call
     allCalls = register (h .days) 1 reading 0 ∷ register 0 1 0 0 ∷ slotCalls

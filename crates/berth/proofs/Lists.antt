@@ -53,7 +53,7 @@ withReads b r = record {
 
 -- what the dial's two reads leave
 abbrev pub dialAfter : Head → Reads → ℕ → Reads
-dialAfter h r total = registerAfter h (registerAfter h r 0 1 0 0) (h .days) 1 (total % 100000000) 0
+dialAfter h r total = registerAfter h (registerAfter h r 0 1 0 0) (h .days) 1 (total % 100_000_000) 0
 
 module _ (h : Head) (seed loss : ℕ) (b : Book) where
   one-sent : (s : Sent) (i : ℕ) → afterAll h (withSent b s) (sentAt h seed loss i) ≡ withSent b (sentOne h s i (berthAfter h seed loss (suc i)))

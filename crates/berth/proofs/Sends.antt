@@ -18,14 +18,14 @@ use Rattle.berth.specs.Inner.Sending.{Sent, sentOne, sentFrom}
 use Rattle.berth.proofs.Draws.{value-low}
 
 module _ (h : Head) (good : headOk h ≡ true) where
-  pub limit-fits : h .limit * h .interval ≤ 30000000
+  pub limit-fits : h .limit * h .interval ≤ 30_000_000
   limit-fits = mul-le-mul (bounded h good .limit-high) (bounded h good .interval-high)
 
-  pub most-high : mostOf h ≤ 500000
+  pub most-high : mostOf h ≤ 500_000
   unfolding mostOf
   most-high = omega (arith, limit-fits)
 
-  pub slots-high : slotCount h ≤ 115200
+  pub slots-high : slotCount h ≤ 115_200
   slots-high = count-high h (bounded h good)
 
 -- a true value is at most floor(limit × L / 60)
@@ -47,9 +47,9 @@ module _ (h : Head) (seed loss : ℕ) (s₀ : Sent) where
 
   module _ (s : Sent) (b : Berth) (total slot : ℕ) (u : Under h seed loss s₀ s b total slot) where
     -- the total fits 64 bits
-    pub total-high : headOk h ≡ true → total ≤ 57600000000
+    pub total-high : headOk h ≡ true → total ≤ 57_600_000_000
     total-high good =
-        let low = sum-small (valueAt h seed loss) 500000 (λ i. omega (arith, value-high h seed loss i, most-high h good)) 0 slot in
+        let low = sum-small (valueAt h seed loss) 500_000 (λ i. omega (arith, value-high h seed loss i, most-high h good)) 0 slot in
         omega (arith, slots-high h good, u .inside, u .total)
 
     pub send-next : (most : ℕ) (b' : Berth) (s' : Sent) → slot < slotCount h → most ≡ mostOf h → b' ≡ stepped loss most b → s' ≡ sentOne h s slot b'
@@ -70,8 +70,8 @@ module _ (h : Head) (seed loss : ℕ) (s₀ : Sent) where
         let e : slot ≡ slotCount h = omega (arith, u .inside) in
         (u .total ∙ ap (sum (valueAt h seed loss) 0) e, u .lists ∙ ap (sentFrom h seed loss s₀) e)
 
-pub true-high : (h : Head) (seed loss : ℕ) → headOk h ≡ true → trueTotal h seed loss ≤ 57600000000
+pub true-high : (h : Head) (seed loss : ℕ) → headOk h ≡ true → trueTotal h seed loss ≤ 57_600_000_000
 unfolding trueTotal
 true-high h seed loss good =
-    let low = sum-small (valueAt h seed loss) 500000 (λ i. omega (arith, value-high h seed loss i, most-high h good)) 0 (slotCount h) in
+    let low = sum-small (valueAt h seed loss) 500_000 (λ i. omega (arith, value-high h seed loss i, most-high h good)) 0 (slotCount h) in
     omega (arith, slots-high h good)

@@ -14,8 +14,8 @@ use Rattle.rules.specs.declared.Outcome.{Outcome}
 use Rattle.rules.specs.declared.Span.{Span}
 use Rattle.rules.specs.Opening.{headOk, slotsPerDay, slotCount, Cells}
 use Rattle.rules.specs.Tests.{timeChangeBit, partialBit, causeOf, causeAt, goodAt}
-use Rattle.rules.specs.Spans.{isS, isN, advance, actualIn, filled, start, slotsIn, G, actual, stateOf, inSpan, spanOf, outcomeAt, outcomes}
-use Rattle.rules.specs.Inner.Fills.{actualOf}
+use Rattle.rules.specs.Spans.{isS, isN, advance, actualIn, filled, start, slotsIn, G, actualSum, stateOf, inSpan, spanOf, outcomeAt, outcomes}
+use Rattle.rules.specs.Inner.Walks.{actualOf}
 use Rattle.rules.proofs.Bounds.{bounded}
 use Rattle.rules.proofs.Outages.{filled-good}
 use Rattle.rules.proofs.Ranges.{apart}
@@ -81,8 +81,8 @@ module _ (h : Head) (seed : ℕ) (good : headOk h ≡ true) where
       total-sum (λ o. o .value) (outcomeAt h b) 0 (slotCount h)
       ∙ sum-cong _ _ 0 (slotCount h) (λ i p q. ap (λ (o : Outcome). o .value) (slot-outcome i (omega arith)))
 
-  actual-is : actual h b 0 D ≡ trueTotal h seed 0
-  unfolding actual trueTotal
+  actual-is : actualSum h b 0 D ≡ trueTotal h seed 0
+  unfolding actualSum trueTotal
   actual-is =
       rw (from-first, to-last)
       (sum-cong _ _ 0 (slotCount h) (λ i p q. ap actualIn (slot-filled i (omega arith))))
@@ -97,22 +97,22 @@ module _ (h : Head) (seed : ℕ) (good : headOk h ≡ true) where
       rw (from-first, to-last)
       (any-none _ 0 (slotCount h) (λ i p q. ap (λ (o : Outcome). isS (o .quality)) (slot-filled i (omega arith))))
 
-  dial-is : G h b 0 D ≡ trueTotal h seed 0 % 100000000
+  dial-is : G h b 0 D ≡ trueTotal h seed 0 % 100_000_000
   unfolding G advance
   dial-is = rw (dial-first h seed 0 good, dial-last h seed 0 good) (omega arith)
 
-  state-is : stateOf h b 0 D ≡ cond (leb (apart (trueTotal h seed 0 % 100000000) (trueTotal h seed 0)) (h .tolerance)) 0 3
+  state-is : stateOf h b 0 D ≡ cond (leb (apart (trueTotal h seed 0 % 100_000_000) (trueTotal h seed 0)) (h .tolerance)) 0 3
   unfolding spanOf
   state-is =
       ap (λ (s : Span). s .state) (sharp-dial h b (sharp h seed 0 good) 0 D .1)
       ∙ rw (no-n, no-s, dial-is, actual-is)
 
   -- the dial's whole turns of 100,000,000 are more than any tolerance
-  state-zero : (n t : ℕ) → t ≤ 1000000 → (_≡_ {A = ℕ} (cond (leb (apart (n % 100000000) n) t) 0 3) 0) ↔ (n < 100000000)
-  state-zero n t low = (from-state (leb (apart (n % 100000000) n) t) refl, λ lt. rw (le-leb (apart (n % 100000000) n) t (omega arith)))
+  state-zero : (n t : ℕ) → t ≤ 1_000_000 → (_≡_ {A = ℕ} (cond (leb (apart (n % 100_000_000) n) t) 0 3) 0) ↔ (n < 100_000_000)
+  state-zero n t low = (from-state (leb (apart (n % 100_000_000) n) t) refl, λ lt. rw (le-leb (apart (n % 100_000_000) n) t (omega arith)))
     where
-      from-state : (x : Bool) → leb (apart (n % 100000000) n) t ≡ x → _≡_ {A = ℕ} (cond x 0 3) 0 → n < 100000000
-      from-state true e z = omega (arith, leb-true (apart (n % 100000000) n) t e)
+      from-state : (x : Bool) → leb (apart (n % 100_000_000) n) t ≡ x → _≡_ {A = ℕ} (cond x 0 3) 0 → n < 100_000_000
+      from-state true e z = omega (arith, leb-true (apart (n % 100_000_000) n) t e)
       from-state false e z = absurd (omega arith)
 
   of-run : Lossless h seed

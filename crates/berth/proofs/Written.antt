@@ -69,7 +69,7 @@ module _ (h : Head) (seed loss : ℕ) (good : headOk h ≡ true) where
       let place : 6 * slotCount h + 12 ≡ 6 * length (f .slots) + 14 * 0 + 12 = omega (arith, slots-of-run) in
       rw place (here ∙ its-state)
 
-  pub sum-high : figuresOf f .sum ≤ 11520000000000
+  pub sum-high : figuresOf f .sum ≤ 11_520_000_000_000
   unfolding figuresOf published outcomes
   sum-high =
       let s = sound h cs good in

@@ -14,7 +14,7 @@ ghost use Rattle.berth.specs.Inner.Refusing.{fileSize};
 
 // The published total minus the true total.
 fn difference(published: u64, truth: u64) -> i64
-    requires { ⌜ (published ≤ 11520000000000) × (truth ≤ 57600000000) ⌝ }
+    requires { ⌜ (published ≤ 11_520_000_000_000) × (truth ≤ 57_600_000_000) ⌝ }
     ensures { λ r. ⌜ r ≡ pos published -ℤ pos truth ⌝ }
 {
     published as i64 - truth as i64
@@ -25,8 +25,8 @@ pub fn report(head: Head, out: &[u8], total: u64) -> Report
     requires { ⌜
         (headOk head ≡ true)
         × (fileSize head ≤ length (now out))
-        × (num 8 (now out) (6 * slotCount head + 34) ≤ 11520000000000)
-        × (total ≤ 57600000000)
+        × (num 8 (now out) (6 * slotCount head + 34) ≤ 11_520_000_000_000)
+        × (total ≤ 57_600_000_000)
         ⌝ }
     ensures { λ r. ⌜ r ≡ record { state = num 1 (now (out .entry)) (6 * slotCount head + 12); difference = pos (num 8 (now (out .entry)) (6 * slotCount head + 34)) -ℤ pos total; total = total } ⌝ }
 {

@@ -88,10 +88,10 @@ pub fn read_dial(
 )
     ensures { λ _. ⌜
         (lentReads (readings .exit) (reads .exit) (widths .exit)
-        ≡ registerAfter head (registerAfter head (lentReads (readings .entry) (reads .entry) (widths .entry)) 0 1 0 0) (head .days) 1 (total % 100000000) 0)
+        ≡ registerAfter head (registerAfter head (lentReads (readings .entry) (reads .entry) (widths .entry)) 0 1 0 0) (head .days) 1 (total % 100_000_000) 0)
         ⌝ }
 {
     book::register(head, readings, reads, widths, 0, 1, 0, 0);
-    let reading = (total % 100000000) as u32;
+    let reading = (total % 100_000_000) as u32;
     book::register(head, readings, reads, widths, head.days, 1, reading, 0);
 }

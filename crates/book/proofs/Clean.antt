@@ -46,7 +46,7 @@ module _ (h : Head) (kept : List Call) (ok : Kept h kept) (i : ℕ) where
     where
       one : (s : Said DialRead) → Sound h (readAs i s) → readFault (s .version) (s .content .reading) (s .content .width) ≡ false
       one s fine =
-          rw (clean-number 99999999 (s .version) (s .content .reading) (fine .1) (fine .2), clean-number 9999 (s .version) (s .content .width) (fine .1) (fine .3))
+          rw (clean-number 99_999_999 (s .version) (s .content .reading) (fine .1) (fine .2), clean-number 9999 (s .version) (s .content .width) (fine .1) (fine .3))
 
   pub agreed-clean : agreedFault (agreedVersion kept i) (agreedContent kept i) ≡ false
   unfolding numberFault
@@ -54,4 +54,4 @@ module _ (h : Head) (kept : List Call) (ok : Kept h kept) (i : ℕ) where
       from 0 (agreements i kept) (λ v a. agreedFault v a ≡ false) refl
       (λ s m.
       let fine = kept-sound h kept (agreedAs i s) ok (agreements-from i kept s m) in
-      clean-number 99999999 (s .version) (s .content) (fine .1) (fine .2))
+      clean-number 99_999_999 (s .version) (s .content) (fine .1) (fine .2))

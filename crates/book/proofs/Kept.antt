@@ -28,8 +28,8 @@ unless-accepted rules a ok =
 abbrev pub Sound : Head → Call → Type 0
 Sound h (delivery slot version value status) = (slot < slotCount h) × (0 < version) × (status ≤ 7)
 Sound h (holiday day) = day < h .days
-Sound h (register boundary version reading width) = (boundary ≤ h .days) × (0 < version) × (reading ≤ 99999999) × (width ≤ 9999)
-Sound h (agreed slot version value) = (slot < slotCount h) × (0 < version) × (value ≤ 99999999)
+Sound h (register boundary version reading width) = (boundary ≤ h .days) × (0 < version) × (reading ≤ 99_999_999) × (width ≤ 9999)
+Sound h (agreed slot version value) = (slot < slotCount h) × (0 < version) × (value ≤ 99_999_999)
 
 positive : (n : ℕ) → eqb n 0 ≡ false → 0 < n
 positive zero e = absurd (true≢false e)

@@ -17,13 +17,13 @@ use Rattle.book.specs.Inner.Numbers.{numberAnswer, readAnswer}
 use Rattle.book.proofs.Fits.{long}
 
 -- past its own rules it is what its cell says
-pub number-sound : (a : Agreed) (place version number : ℕ) → place < length (a .values) → (version ≡ 0 → ⊥) → number ≤ 99999999
+pub number-sound : (a : Agreed) (place version number : ℕ) → place < length (a .values) → (version ≡ 0 → ⊥) → number ≤ 99_999_999
     → numberAnswer a place version number
     ≡ againstAgreed (getD (a .versions) place 0) (getD (a .values) place 0) version number
 unfolding numberAnswer
 number-sound a place version number inside some small = rw (lt-leb _ _ inside, ne-eqb _ _ some, le-ltb _ _ small)
 
-pub read-sound : (r : Reads) (boundary version reading width : ℕ) → boundary < length (r .readings) → (version ≡ 0 → ⊥) → reading ≤ 99999999 → width ≤ 9999
+pub read-sound : (r : Reads) (boundary version reading width : ℕ) → boundary < length (r .readings) → (version ≡ 0 → ⊥) → reading ≤ 99_999_999 → width ≤ 9999
     → readAnswer r boundary version reading width
     ≡ againstBoundary (getD (r .readVersions) boundary 0) (getD (r .readings) boundary 0) (getD (r .widths) boundary 0) version reading width
 unfolding readAnswer

@@ -4,8 +4,10 @@ use Prim.Native.Nat.{ℕ}
 use lib.Dec.{leb, ltb, eqb}
 use Rattle.base.specs.Refusals.{Rule}
 use Rattle.base.specs.Refusals.Rule.{rule}
+use Rattle.base.specs.Numbers.{eightDigits}
 use Rattle.rules.specs.declared.Head.{Head}
 use Rattle.rules.specs.Opening.{slotCount}
+use Rattle.rules.specs.Numbers.{mostWidth}
 use Rattle.book.specs.declared.calls.Call as coded
 use Rattle.book.specs.declared.calls.Call.the-variants as call
 
@@ -33,6 +35,6 @@ argumentRules h (delivery slot version value status) =
     rule 3 (leb (slotCount h) slot) ∷ rule 4 (eqb version 0) ∷ rule 5 (ltb 7 status) ∷ []
 argumentRules h (holiday day) = rule 3 (leb (h .days) day) ∷ []
 argumentRules h (register boundary version reading width) =
-    rule 3 (ltb (h .days) boundary) ∷ rule 4 (eqb version 0) ∷ rule 6 (ltb 99999999 reading) ∷ rule 17 (ltb 9999 width) ∷ []
+    rule 3 (ltb (h .days) boundary) ∷ rule 4 (eqb version 0) ∷ rule 6 (ltb eightDigits reading) ∷ rule 17 (ltb mostWidth width) ∷ []
 argumentRules h (agreed slot version value) =
-    rule 3 (leb (slotCount h) slot) ∷ rule 4 (eqb version 0) ∷ rule 12 (ltb 99999999 value) ∷ []
+    rule 3 (leb (slotCount h) slot) ∷ rule 4 (eqb version 0) ∷ rule 12 (ltb eightDigits value) ∷ []

@@ -5,8 +5,10 @@ use Prim.Native.Nat.{ℕ, suc, _*_}
 use lib.Dec.{ltb, eqb}
 use lib.ListN.{length, getD}
 use Rattle.base.specs.Lists.{every, sum, any}
+use Rattle.base.specs.Numbers.{eightDigits}
 use Rattle.rules.specs.declared.Head.{Head}
 use Rattle.rules.specs.Opening.{slotsPerDay, slotCount, Slots, Agreed, Cells}
+use Rattle.rules.specs.Numbers.{mostWidth}
 
 -- the lent lists of boundaries, the widths last (02, W10)
 pub record Reads : Type 0 where
@@ -67,11 +69,11 @@ numberFault limit version number = ltb limit number || (eqb version 0 && not (eq
 
 -- of a reading 99,999,999 is the limit, of a width 9,999 (02, W10)
 unfoldable pub readFault : ℕ → ℕ → ℕ → Bool
-readFault version reading width = numberFault 99999999 version reading || numberFault 9999 version width
+readFault version reading width = numberFault eightDigits version reading || numberFault mostWidth version width
 
 -- of an agreed value 99,999,999 (02, W1)
 abbrev pub agreedFault : ℕ → ℕ → Bool
-agreedFault version value = numberFault 99999999 version value
+agreedFault version value = numberFault eightDigits version value
 
 -- the same of a place in the lists
 abbrev pub slotFaultAt : Slots → ℕ → Bool

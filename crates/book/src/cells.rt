@@ -1,4 +1,6 @@
 // The cells that no calls could leave (01, Numbers of a refusal, 11; 02, W1 and W10).
+use base::EIGHT_DIGITS;
+use rules::MOST_WIDTH;
 ghost use mathlib.Core.Path.{_≡_};
 ghost use Rattle.book.specs.Cells.{slotFault, dayFault, numberFault, readFault};
 
@@ -39,8 +41,8 @@ pub fn number_fault(limit: u32, version: u32, number: u32) -> bool
 pub fn read_fault(version: u32, reading: u32, width: u16) -> bool
     ensures { λ r. ⌜ r ≡ readFault version reading width ⌝ }
 {
-    if number_fault(99999999, version, reading) {
+    if number_fault(EIGHT_DIGITS, version, reading) {
         return true;
     }
-    number_fault(9999, version, width as u32)
+    number_fault(MOST_WIDTH, version, width as u32)
 }

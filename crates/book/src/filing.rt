@@ -2,6 +2,7 @@
 use crate::Filed;
 use crate::cells;
 use crate::versions;
+use base::EIGHT_DIGITS;
 ghost use mathlib.Core.Bool.{_&&_};
 ghost use mathlib.Core.Path.{_≡_};
 ghost use lib.Dec.{eqb};
@@ -86,7 +87,7 @@ pub fn against_boundary(
 pub fn against_agreed(old_version: u32, old_value: u32, version: u32, value: u32) -> Filed
     ensures { λ r. ⌜ filedMeant r ≡ againstAgreed «old_version» «old_value» version value ⌝ }
 {
-    if cells::number_fault(99999999, old_version, old_value) {
+    if cells::number_fault(EIGHT_DIGITS, old_version, old_value) {
         return Filed::Refused(11);
     }
     versions::by_version(old_version, version, old_value == value)

@@ -1,6 +1,7 @@
 // An agreed call past its head and its lists' lengths (02, W1).
 use crate::Filed;
 use crate::filing;
+use base::EIGHT_DIGITS;
 ghost use mathlib.Core.Path.{_≡_};
 ghost use lib.ListN.{length};
 ghost use Rattle.rules.specs.Lent.{lentAgreed};
@@ -29,7 +30,7 @@ pub fn file_number(
     if version == 0 {
         return Filed::Refused(4);
     }
-    if 99999999 < number {
+    if EIGHT_DIGITS < number {
         return Filed::Refused(12);
     }
     let found = filing::against_agreed(versions[at], numbers[at], version, number);

@@ -1,6 +1,8 @@
 // A register read past its head and its lists' lengths (01, The three calls that fill it; 02, W10).
 use crate::Filed;
 use crate::filing;
+use base::EIGHT_DIGITS;
+use rules::MOST_WIDTH;
 ghost use mathlib.Core.Path.{_≡_};
 ghost use lib.ListN.{length};
 ghost use Rattle.book.specs.Answers.{filedMeant};
@@ -31,10 +33,10 @@ pub fn file_register(
     if version == 0 {
         return Filed::Refused(4);
     }
-    if 99999999 < reading {
+    if EIGHT_DIGITS < reading {
         return Filed::Refused(6);
     }
-    if 9999 < width {
+    if MOST_WIDTH < width {
         return Filed::Refused(17);
     }
     let found = filing::against_boundary(

@@ -1,5 +1,6 @@
 // All cells of a book looked at for one that no calls could leave, and its counts (01, Numbers of a refusal, 11; 02, W1, W6 and W10).
 use crate::cells;
+use base::EIGHT_DIGITS;
 use rules::Head;
 use rules::opening;
 ghost use mathlib.Core.Bool.{true, cond};
@@ -60,7 +61,7 @@ fn bad_agreed(values: &[u32], versions: &[u32]) -> bool
 {
     let mut i = 0;
     while i < values.len() {
-        if cells::number_fault(99999999, versions[i], values[i]) {
+        if cells::number_fault(EIGHT_DIGITS, versions[i], values[i]) {
             return true;
         }
         i += 1;

@@ -20,7 +20,7 @@ year-whole y = of (leap y)
     of true = refl
     of false = refl
 
-calendar-whole : sum yearLength 2000 100 ≡ 36525
+calendar-whole : sum yearLength 2000 100 ≡ 36_525
 unfolding sum yearLength leap
 calendar-whole = refl
 
@@ -46,7 +46,7 @@ module _ (p : Passed) where
   in-year : daysOfYear p < yearLength (2000 + p .years)
   in-year = rw year-whole at (below (monthLength (2000 + p .years)) (p .months) 11 1 (p .days) (p .months-high) (p .days-high))
 
-  in-calendar : numberAfter p < 36525
+  in-calendar : numberAfter p < 36_525
   in-calendar = rw calendar-whole at (below yearLength (p .years) 99 2000 (daysOfYear p) (p .years-high) in-year)
 
   date-after : dateOf (numberAfter p) ≡ dateAfter p
@@ -81,7 +81,7 @@ each-date P f y m d e =
       days-high = rw (ey, em) (omega arith);
     })
 
-each-number : (P : ℕ → Type 0) → ((p : Passed) → P (numberAfter p)) → (n : ℕ) → n < 36525 → P n
+each-number : (P : ℕ → Type 0) → ((p : Passed) → P (numberAfter p)) → (n : ℕ) → n < 36_525 → P n
 each-number P f n h =
     let y = within yearLength 99 2000 n (rw calendar-whole h) in
     let m = within (monthLength (2000 + y .j)) 11 1 (y .r) (rw year-whole (y .short)) in
@@ -94,15 +94,15 @@ each-number P f n h =
       days-high = m .short;
     })
 
-pub last-day : (y m d : ℕ) → isDate y m d ≡ true → dayNumber y m d < 36525
-last-day = each-date (λ y m d. dayNumber y m d < 36525) (λ p. rw (number-after p) (in-calendar p))
+pub last-day : (y m d : ℕ) → isDate y m d ≡ true → dayNumber y m d < 36_525
+last-day = each-date (λ y m d. dayNumber y m d < 36_525) (λ p. rw (number-after p) (in-calendar p))
 
 pub date-of-number : (y m d : ℕ) → isDate y m d ≡ true → dateOf (dayNumber y m d) ≡ record { year = y; month = m; day = d }
 date-of-number =
     each-date (λ y m d. dateOf (dayNumber y m d) ≡ record { year = y; month = m; day = d })
     (λ p. rw (number-after p) (date-after p))
 
-pub number-of-date : (n : ℕ) → n < 36525 → (isDate (dateOf n .year) (dateOf n .month) (dateOf n .day) ≡ true) × (dayNumber (dateOf n .year) (dateOf n .month) (dateOf n .day) ≡ n)
+pub number-of-date : (n : ℕ) → n < 36_525 → (isDate (dateOf n .year) (dateOf n .month) (dateOf n .day) ≡ true) × (dayNumber (dateOf n .year) (dateOf n .month) (dateOf n .day) ≡ n)
 number-of-date =
     each-number (λ n. (isDate (dateOf n .year) (dateOf n .month) (dateOf n .day) ≡ true) × (dayNumber (dateOf n .year) (dateOf n .month) (dateOf n .day) ≡ n))
     (λ p. rw (date-after p) (is-date-after p, number-after p))

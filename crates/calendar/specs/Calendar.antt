@@ -8,6 +8,10 @@ use Rattle.base.specs.Lists.{sum}
 use Rattle.calendar.specs.declared.Date.{Date}
 use Rattle.calendar.specs.declared.Place.{Place}
 
+-- the days from 2000-01-01 to 2099-12-31
+abbrev pub dayCount : ℕ
+dayCount = 36_525
+
 -- the full Gregorian rule
 unfoldable pub leap : ℕ → Bool
 leap y = eqb (y % 4) 0 && (not (eqb (y % 100) 0) || eqb (y % 400) 0)

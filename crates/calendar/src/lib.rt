@@ -2,7 +2,11 @@
 ghost use mathlib.Core.Bool.{true};
 ghost use mathlib.Core.Path.{_≡_};
 ghost use Prim.Native.Nat.{_-_, _≤_, _<_};
-ghost use Rattle.calendar.specs.Calendar.{leap, monthLength, yearLength, daysBeforeMonth, daysBeforeYear, dayNumber, isDate, place, dateOf, weekday, toSunday};
+ghost use Rattle.calendar.specs.Calendar.{dayCount, leap, monthLength, yearLength, daysBeforeMonth, daysBeforeYear};
+ghost use Rattle.calendar.specs.Calendar.{dayNumber, isDate, place, dateOf, weekday, toSunday};
+
+// The days from 2000-01-01 to 2099-12-31.
+pub const DAY_COUNT: u32 = 36_525;
 
 // The days before each month, January to December: an ordinary year's, then a leap year's (02, W4).
 const MONTH_STARTS: [[u32; 12]; 2] = [
@@ -149,7 +153,7 @@ fn month_at(year: Place) -> Place
 }
 
 pub fn date_of(number: u32) -> Date
-    requires { ⌜ number < 36525 ⌝ }
+    requires { ⌜ number < dayCount ⌝ }
     ensures { λ r. ⌜ r ≡ dateOf number ⌝ }
 {
     let year = year_at(number);
@@ -163,7 +167,7 @@ pub fn date_of(number: u32) -> Date
 
 // Sunday is 0 and Saturday 6: 2000-01-01 was a Saturday (02, W3).
 pub fn weekday(number: u32) -> u32
-    requires { ⌜ number < 36525 ⌝ }
+    requires { ⌜ number < dayCount ⌝ }
     ensures { λ r. ⌜ r ≡ weekday number ⌝ }
 {
     (number + 6) % 7
@@ -171,7 +175,7 @@ pub fn weekday(number: u32) -> u32
 
 // The days back to the nearest Sunday strictly before a day.
 pub fn to_sunday(number: u32) -> u32
-    requires { ⌜ number < 36525 ⌝ }
+    requires { ⌜ number < dayCount ⌝ }
     ensures { λ r. ⌜ r ≡ toSunday number ⌝ }
 {
     let past = weekday(number);

@@ -5,7 +5,7 @@ use mathlib.Core.Path.{_≡_}
 use Prim.Native.Nat.{ℕ, _*_, _-_}
 use lib.Dec.{eqb}
 use lib.ListN.{replicate}
-use Rattle.base.specs.Lists.{every}
+use Rattle.base.specs.Lists.{every, sumOf}
 use Rattle.calendar.specs.Calendar.{dayNumber}
 use Rattle.rules.specs.declared.Head.{Head}
 use Rattle.rules.specs.declared.Outcome.{Outcome}
@@ -14,8 +14,8 @@ use Rattle.rules.specs.declared.tests.Cause.{Cause}
 use Rattle.rules.specs.declared.tests.Cause.the-variants.{Nothing, Demand}
 use Rattle.rules.specs.Opening.{Slots, Cells}
 use Rattle.rules.specs.Tests.{causeAt}
-use Rattle.rules.specs.Filling.{isLinear, linearValue, isReference, references, total, meanOf, fromReferences, shapeOf, shapeAt}
-use Rattle.rules.specs.Spans.{isA, isF, advance, rangeOf, leastIn, stateBy, actual, R, stateOf, outcomeAt}
+use Rattle.rules.specs.Filling.{isLinear, linearValue, isReference, references, meanOf, fromReferences, shapeOf, shapeAt}
+use Rattle.rules.specs.Spans.{isA, isF, advance, rangeOf, leastIn, stateBy, actualSum, R, stateOf, outcomeAt}
 use Rattle.book.specs.Answers.{Answer}
 use Rattle.book.specs.Answers.Answer.{done, refused}
 use Rattle.book.specs.Opening.{opened, openAnswer}
@@ -106,7 +106,7 @@ lineGives interval l g r j value =
 -- a book from Sunday 2024-05-05 on of which slot 0 alone has come, with these holiday cells on its first day and on day d: slot 0 is the one reference at position 0 of day d (02, W3)
 abbrev pub takesSunday : ℕ → ℕ → ℕ → Bool
 takesSunday first last d =
-    eqb (total (references (headOn 2024 5 5 400) (record { values = 620 ∷ []; versions = 1 ∷ []; statuses = 0 ∷ [] })
+    eqb (sumOf (references (headOn 2024 5 5 400) (record { values = 620 ∷ []; versions = 1 ∷ []; statuses = 0 ∷ [] })
     (first ∷ (replicate (d - 1) 0 ++ (last ∷ []))) (48 * d))) 620
 
 -- these references give this shape (02, W7)
@@ -152,7 +152,7 @@ cases =
     ∷ eqb (dayNumber 2000 2 29) 59
     ∷ agreedHas 1 600 isF 5
     ∷ agreedHas 2 50 isA 0
-    ∷ eqb (actual (headOn 2024 5 1 1) agreedDay 0 1) 690
+    ∷ eqb (actualSum (headOn 2024 5 1 1) agreedDay 0 1) 690
     ∷ eqb (stateOf (headOn 2024 5 1 1) agreedDay 0 1) 0
     ∷ takesSunday 0 1 1 ∷ takesSunday 0 1 2 ∷ takesSunday 0 1 3 ∷ takesSunday 0 1 4 ∷ takesSunday 0 1 5 ∷ takesSunday 0 1 6 ∷ takesSunday 0 1 7
     ∷ not (takesSunday 0 0 6) ∷ takesSunday 0 0 7

@@ -23,7 +23,7 @@ use Rattle.claim.proofs.WholeLists.{claim}
 
 -- one day of half hours
 abbrev day : Head
-day = record { year = 2024; month = 5; day = 1; days = 1; interval = 30; limit = 40000; tolerance = 0 }
+day = record { year = 2024; month = 5; day = 1; days = 1; interval = 30; limit = 40_000; tolerance = 0 }
 
 -- slot 0 as 5 Wh and as 6 Wh, both version 1
 abbrev five : Call

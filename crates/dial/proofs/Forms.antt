@@ -106,11 +106,11 @@ packed-reading (b ∷ bs) e =
 -- ---- Four bytes
 
 -- the four bytes that `pack` computes
-pub form-bytes : (n : ℕ) {a b c d : ℕ} → a ≡ byteAt 0 n → b ≡ byteAt 0 (n / 100) → c ≡ byteAt 0 (n / 10000) → d ≡ byteAt 0 (n / 1000000)
+pub form-bytes : (n : ℕ) {a b c d : ℕ} → a ≡ byteAt 0 n → b ≡ byteAt 0 (n / 100) → c ≡ byteAt 0 (n / 10_000) → d ≡ byteAt 0 (n / 1_000_000)
     → a ∷ b ∷ c ∷ d ∷ [] ≡ form n
 unfolding packed
 form-bytes n e f g h =
-    rw (e, f, g, h, form-packed n, div-div-eq-div-mul n 100 100, div-div-eq-div-mul n 10000 100)
+    rw (e, f, g, h, form-packed n, div-div-eq-div-mul n 100 100, div-div-eq-div-mul n 10_000 100)
 
 -- four stores fill a list of four
 pub filled : (xs : List ℕ) {a b c d : ℕ} → length xs ≡ 4 → set (set (set (set xs 0 a) 1 b) 2 c) 3 d ≡ a ∷ b ∷ c ∷ d ∷ []
@@ -126,7 +126,7 @@ abbrev pub pair : List ℕ → ℕ → ℕ
 pair bs i = 10 * upper (getD bs i 0) + lower (getD bs i 0)
 
 -- the reading that `unpack` computes
-pub reading-four : (bs : List ℕ) → length bs ≡ 4 → readingOf bs ≡ pair bs 0 + 100 * pair bs 1 + 10000 * (pair bs 2 + 100 * pair bs 3)
+pub reading-four : (bs : List ℕ) → length bs ≡ 4 → readingOf bs ≡ pair bs 0 + 100 * pair bs 1 + 10_000 * (pair bs 2 + 100 * pair bs 3)
 unfolding readingOf
 reading-four [] l = absurd (omega arith)
 reading-four (w ∷ []) l = absurd (omega arith)

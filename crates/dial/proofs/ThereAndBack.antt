@@ -15,7 +15,7 @@ use Rattle.dial.specs.Claim.{OneForm, AcceptsExactly, PackedThenUnpacked
 use Rattle.dial.proofs.Forms.{form-packed, packed-digits, reading-packed, reading-low, packed-reading}
 
 -- the form of a reading is read as that reading
-form-read : (reading : ℕ) → reading ≤ 99999999 → unpackAnswer (form reading) ≡ unpacked.Reading reading
+form-read : (reading : ℕ) → reading ≤ 99_999_999 → unpackAnswer (form reading) ≡ unpacked.Reading reading
 unfolding unpackAnswer form
 form-read reading h =
     let digits : aboveNine (form reading) ≡ false = ap aboveNine (form-packed reading) ∙ packed-digits 4 reading in
@@ -23,7 +23,7 @@ form-read reading h =
     rw (digits, back)
 
 -- what is read as a reading is the form of that reading
-read-form : (bytes : List ℕ) (reading : ℕ) → unpackAnswer bytes ≡ unpacked.Reading reading → (reading ≤ 99999999) × (form reading ≡ bytes)
+read-form : (bytes : List ℕ) (reading : ℕ) → unpackAnswer bytes ≡ unpacked.Reading reading → (reading ≤ 99_999_999) × (form reading ≡ bytes)
 unfolding unpackAnswer
 read-form bytes reading e =
     let (same, kept) =
@@ -50,7 +50,7 @@ one-form reading h bytes = (
 )
 
 -- and no two readings share theirs
-pub one-reading : (m n : ℕ) → m ≤ 99999999 → n ≤ 99999999 → form m ≡ form n → m ≡ n
+pub one-reading : (m n : ℕ) → m ≤ 99_999_999 → n ≤ 99_999_999 → form m ≡ form n → m ≡ n
 one-reading m n h l e =
     let same : unpacked.Reading m ≡ unpacked.Reading n = sym (form-read m h) ∙ ap unpackAnswer e ∙ form-read n l in
     cc
@@ -68,4 +68,4 @@ pub unpacked-then-packed : UnpackedThenPacked
 unfolding packAnswer packAfter
 unpacked-then-packed bytes reading e held l =
     let (low, back) = read-form bytes reading e in
-    rw (eq-eqb _ _ l, le-ltb 99999999 reading low) (refl, back)
+    rw (eq-eqb _ _ l, le-ltb 99_999_999 reading low) (refl, back)

@@ -5,17 +5,18 @@ use mathlib.Core.Path.{_≡_}
 use Prim.Native.Nat.{ℕ, _≤_}
 use lib.ListN.{length}
 use Rattle.base.specs.declared.Performed.the-variants as performed
+use Rattle.base.specs.Numbers.{eightDigits}
 use Rattle.dial.specs.declared.Unpacked.the-variants as unpacked
 use Rattle.dial.specs.Dial.{form, packAnswer, packAfter, unpackAnswer}
 
 -- every reading from 0 to 99,999,999 has one form: `unpack` answers it of those bytes and of no others; proved by `one-form`
 abbrev pub OneForm : Type 0
-OneForm = (reading : ℕ) → reading ≤ 99999999 → (bytes : List ℕ) → (unpackAnswer bytes ≡ unpacked.Reading reading) ↔ (bytes ≡ form reading)
+OneForm = (reading : ℕ) → reading ≤ eightDigits → (bytes : List ℕ) → (unpackAnswer bytes ≡ unpacked.Reading reading) ↔ (bytes ≡ form reading)
 
 -- `unpack` accepts exactly the forms of readings, each as its reading; proved by `accepts-exactly`
 abbrev pub AcceptsExactly : Type 0
 AcceptsExactly =
-    (bytes : List ℕ) (reading : ℕ) → (unpackAnswer bytes ≡ unpacked.Reading reading) ↔ ((reading ≤ 99999999) × (form reading ≡ bytes))
+    (bytes : List ℕ) (reading : ℕ) → (unpackAnswer bytes ≡ unpacked.Reading reading) ↔ ((reading ≤ eightDigits) × (form reading ≡ bytes))
 
 -- a reading that `pack` takes comes back from the bytes that it leaves; proved by `packed-then-unpacked`
 abbrev pub PackedThenUnpacked : Type 0

@@ -8,6 +8,7 @@ use Rattle.base.specs.Refusals.{Rule, unless}
 use Rattle.base.specs.Refusals.Rule.{rule}
 use Rattle.base.specs.declared.Performed.{Performed}
 use Rattle.base.specs.declared.Performed.the-variants as performed
+use Rattle.base.specs.Numbers.{eightDigits}
 use Rattle.dial.specs.declared.Unpacked.{Unpacked}
 use Rattle.dial.specs.declared.Unpacked.the-variants as unpacked
 
@@ -52,7 +53,7 @@ notFour bytes = not (eqb (length bytes) 4)
 
 -- 6 reading over 99,999,999
 abbrev pub packRules : ℕ → List ℕ → List Rule
-packRules reading bytes = rule 2 (notFour bytes) ∷ rule 6 (ltb 99999999 reading) ∷ []
+packRules reading bytes = rule 2 (notFour bytes) ∷ rule 6 (ltb eightDigits reading) ∷ []
 
 unfoldable pub packAnswer : ℕ → List ℕ → Performed
 packAnswer reading bytes = unless performed.Refused (packRules reading bytes) performed.Done

@@ -1,4 +1,5 @@
 // A reading and the four bytes in which a charger's meter sends it (02, W9).
+use base::EIGHT_DIGITS;
 use base::Performed;
 ghost use mathlib.Core.List.{[], _∷_};
 ghost use mathlib.Core.Path.{_≡_};
@@ -46,13 +47,13 @@ pub fn pack(reading: u32, bytes: &mut [u8]) -> Performed
     if bytes.len() != 4 {
         return Performed::Refused(2);
     }
-    if 99999999 < reading {
+    if EIGHT_DIGITS < reading {
         return Performed::Refused(6);
     }
     bytes[0] = two_digits(reading);
     bytes[1] = two_digits(reading / 100);
-    bytes[2] = two_digits(reading / 10000);
-    bytes[3] = two_digits(reading / 1000000);
+    bytes[2] = two_digits(reading / 10_000);
+    bytes[3] = two_digits(reading / 1_000_000);
     Performed::Done
 }
 
@@ -73,6 +74,6 @@ pub fn unpack(bytes: &[u8]) -> Unpacked
     }
     let low = value(bytes[0]) + 100 * value(bytes[1]);
     let high = value(bytes[2]) + 100 * value(bytes[3]);
-    let reading = low + 10000 * high;
+    let reading = low + 10_000 * high;
     Unpacked::Reading(reading)
 }

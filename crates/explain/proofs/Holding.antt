@@ -15,7 +15,7 @@ use Rattle.rules.specs.declared.Head.{Head}
 use Rattle.rules.specs.declared.spans.Scaling.{Scaling}
 use Rattle.rules.specs.declared.spans.Summary.{Summary}
 use Rattle.rules.specs.Opening.{Slots, Agreed, Cells, slotsPerDay, slotCount}
-use Rattle.rules.specs.Spans.{isS, isRead, lastRead, nextRead, filled, shape, start, slotsIn, G, range, R, actual, stateOf, T, allZero, e, E, P}
+use Rattle.rules.specs.Spans.{isS, isRead, lastRead, nextRead, filled, shape, start, slotsIn, G, range, R, actualSum, stateOf, T, allZero, e, E, P}
 use Rattle.rules.specs.Lent.{cells}
 use Rattle.rules.specs.Inner.Summaries.{summaryOf, scalingOf}
 use Rattle.rules.specs.Inner.Stretches.{scalingAt, spanStretch, stretchOf, stretchOn, stretchAt}
@@ -76,12 +76,12 @@ module _ (h : Head) (b : Cells) (first last : ℕ) where
 
   module _ (m : Summary) (p : m ≡ summary (slotsIn h b first last)) where
     pub spanned-found : spannedWith h (b .readings) (b .widths) first last m ≡ spannedBy h b (some first) (some last)
-    unfolding spannedWith spannedBy G range R stateOf actual summaryOf
+    unfolding spannedWith spannedBy G range R stateOf actualSum summaryOf
     spanned-found = rw p
 
     module _ (i : ℕ) (before : Summary) (q : before ≡ summary (i - start h b first last)) where
       scaling-before : scalingWith 1 m before (R h b first last) ≡ scalingAt h b first last i
-      unfolding scalingWith T actual allZero E e P summaryOf
+      unfolding scalingWith T actualSum allZero E e P summaryOf
       scaling-before = rw (p, q, weights (allZero h b first last) (slotsIn h b first last), weights (allZero h b first last) (i - start h b first last))
 
       pub held-scaling : (s : Spanned) → s ≡ spannedWith h (b .readings) (b .widths) first last m → scalingWith (s .state) m before (s .advance) ≡ spanStretch h b first last i .by
@@ -116,7 +116,7 @@ spanned-advance h readings widths first last m s e z =
 -- they rest on no register version
 module _ (h : Head) (s : Slots) (holidays readings v w : List ℕ) (agreed : Agreed) (widths : List ℕ) (first last : ℕ) where
   pub spanned-versions : spannedBy h (cells s holidays readings v agreed widths) (some first) (some last) ≡ spannedBy h (cells s holidays readings w agreed widths) (some first) (some last)
-  unfolding spannedBy G range R stateOf actual start slotsIn
+  unfolding spannedBy G range R stateOf actualSum start slotsIn
   spanned-versions = refl
 
 -- a slot that lies in no span

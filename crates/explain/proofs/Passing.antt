@@ -10,11 +10,11 @@ use borrow.Author.Tests.{ltb-true, ltb-false}
 use lib.Dec.{ltb}
 use Rattle.base.proofs.Logic.{either}
 use Rattle.rules.specs.declared.Head.{Head}
-use Rattle.rules.specs.declared.fills.Fills.{Fills}
+use Rattle.rules.specs.declared.walk.Walk.{Walk}
 use Rattle.rules.specs.declared.linear.Line.{Line}
 use Rattle.rules.specs.Opening.{Slots, slotCount}
 use Rattle.rules.specs.Tests.{goodAt}
-use Rattle.rules.specs.Inner.Fills.{zeroAt, zeroBefore, bareLine, lineAt, lineBefore, fillsAt}
+use Rattle.rules.specs.Inner.Walks.{zeroAt, zeroBefore, bareLine, lineAt, lineBefore, walkAt}
 use Rattle.rules.proofs.Outages.{zero-none, good-delivered}
 use Rattle.rules.proofs.Lines.{line-none}
 use Rattle.rules.proofs.Runs.{run-good}
@@ -49,15 +49,15 @@ module _ (h : Head) (s : Slots) where
     unfolding lineBefore
     line-next k = rw add-one
 
-  pub fills-are : (v : List ℕ) (i : ℕ) (outage : Bool) (line : Line) → outage ≡ zeroBefore (s .versions) (s .statuses) (slotCount h) i → line ≡ lineBefore h s v i
-      → record { at = i; outage = outage; line = line } ≡ fillsAt h s v i
-  unfolding fillsAt
-  fills-are v i outage line p q = rw (p, q)
+  pub walk-are : (v : List ℕ) (i : ℕ) (outage : Bool) (line : Line) → outage ≡ zeroBefore (s .versions) (s .statuses) (slotCount h) i → line ≡ lineBefore h s v i
+      → record { at = i; outage = outage; line = line } ≡ walkAt h s v i
+  unfolding walkAt
+  walk-are v i outage line p q = rw (p, q)
 
-  pub fills-place : (v : List ℕ) (p : Fills) (i : ℕ) → p ≡ fillsAt h s v i → p .at ≡ i
-  unfolding fillsAt
-  fills-place v p i e = ap (λ (q : Fills). q .at) e
+  pub walk-place : (v : List ℕ) (p : Walk) (i : ℕ) → p ≡ walkAt h s v i → p .at ≡ i
+  unfolding walkAt
+  walk-place v p i e = ap (λ (q : Walk). q .at) e
 
   -- at its own place
-  pub fills-known : (v : List ℕ) (p : Fills) (i : ℕ) → p ≡ fillsAt h s v i → p ≡ fillsAt h s v (p .at)
-  fills-known v p i e = e ∙ ap (fillsAt h s v) (sym (fills-place v p i e))
+  pub walk-known : (v : List ℕ) (p : Walk) (i : ℕ) → p ≡ walkAt h s v i → p ≡ walkAt h s v (p .at)
+  walk-known v p i e = e ∙ ap (walkAt h s v) (sym (walk-place v p i e))

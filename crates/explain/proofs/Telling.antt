@@ -15,18 +15,18 @@ use Rattle.base.proofs.Sums.{any-some}
 use Rattle.rules.specs.declared.Head.{Head}
 use Rattle.rules.specs.declared.Outcome.{Outcome}
 use Rattle.rules.specs.declared.spans.Scaling.{Scaling}
-use Rattle.rules.specs.declared.fills.Filled.{Filled}
+use Rattle.rules.specs.declared.walk.Filled.{Filled}
 use Rattle.rules.specs.declared.tests.Cause.{Cause}
 use Rattle.rules.specs.Opening.{Slots, Agreed, Cells, slotsPerDay}
 use Rattle.rules.specs.Tests.{causeAt, goodAt}
 use Rattle.rules.specs.Filling.{isOutageZero, isAgreed, inRun, isLinear, references, fromReferences, filledAt, shapeAt}
 use Rattle.rules.specs.Spans.{isS, lastRead, nextRead, filled, shape, start, slotsIn, stateOf, allZero, e, E, P, C, outcomeAt}
 use Rattle.rules.specs.Inner.Lent.{WidthsLow}
-use Rattle.rules.specs.Inner.Fills.{lineAt, lineThrough, fillsAt}
+use Rattle.rules.specs.Inner.Walks.{lineAt, lineThrough, walkAt}
 use Rattle.rules.specs.Inner.Summaries.{scaledBy}
-use Rattle.rules.specs.Inner.Stretches.{spanStretch, stretchOf, stretchOn, stretchAt, fitOutcome, fitNext, Fits, beginsAt}
+use Rattle.rules.specs.Inner.Stretches.{spanStretch, stretchOf, stretchOn, stretchAt, fitOutcome, fitNext, Scalable, beginsAt}
 use Rattle.rules.proofs.Bounds.{Bounded}
-use Rattle.rules.proofs.Lines.{fills-line}
+use Rattle.rules.proofs.Lines.{walk-line}
 use Rattle.rules.proofs.Places.{span-end}
 use Rattle.rules.proofs.Scaling.{running, zero-each, shape-positive}
 use Rattle.rules.proofs.Steps.{step-fits, step-done}
@@ -83,9 +83,9 @@ module _ (h : Head) (w : Bounded h) (b : Cells) (i : ℕ) where
   pub outcome-is : fitOutcome o x (scaledTo (stretchAt h b i .by)) ≡ outcomeAt h b i
   unfolding fitOutcome
   outcome-is =
-      step-done h w b i (record { begins = beginsAt h b i; stretch = stretchAt h b i }) (record { outcome = o; shape = x; next = fillsAt h (b .slots) (b .agreed .versions) (i + 1) }) refl refl refl refl refl .outcome
+      step-done h w b i (record { begins = beginsAt h b i; stretch = stretchAt h b i }) (record { outcome = o; shape = x; next = walkAt h (b .slots) (b .agreed .versions) (i + 1) }) refl refl refl refl refl .outcome
 
-  pub fits-are : WidthsLow (b .widths) → Fits o x (scaledTo (stretchAt h b i .by))
+  pub fits-are : WidthsLow (b .widths) → Scalable o x (scaledTo (stretchAt h b i .by))
   fits-are wide =
       let f = step-fits h w b i wide in
       record { method-low = f .method-low; scales = f .scales }
@@ -140,14 +140,14 @@ module _ (h : Head) (w : Bounded h) (b : Cells) (i : ℕ) where
 
   -- the whole explanation
   module _ (cause : Cause) (new : Filled) (found : Found) (held : Held)
-      (c : cause ≡ causeAt h (b .slots) i) (outcome : new .outcome ≡ o) (shaped : new .shape ≡ x) (next : new .next ≡ fillsAt h (b .slots) (b .agreed .versions) (i + 1))
+      (c : cause ≡ causeAt h (b .slots) i) (outcome : new .outcome ≡ o) (shaped : new .shape ≡ x) (next : new .next ≡ walkAt h (b .slots) (b .agreed .versions) (i + 1))
       (f : found ≡ foundOf (ruleOf (new .outcome)) h (b .slots) (b .holidays) i)
       (span : held .span ≡ spannedBy h b (earlier b d) (later h b d)) (by : held .by ≡ stretchAt h b i .by) where
     applied : ruleOf (new .outcome) ≡ ruleAt h (b .slots) (b .agreed) (b .holidays) i
     applied = ap ruleOf outcome ∙ rule-is h (b .slots) (b .agreed) (b .holidays) i
 
     lined : new .next .line ≡ lineAt h (b .slots) (b .agreed .versions) i
-    lined = fills-line h (b .slots) (b .agreed .versions) (new .next) (i + 1) next ∙ sym (line-next h (b .slots) (b .agreed .versions) 0 i)
+    lined = walk-line h (b .slots) (b .agreed .versions) (new .next) (i + 1) next ∙ sym (line-next h (b .slots) (b .agreed .versions) 0 i)
 
     line-told : cond (isLine (ruleOf (new .outcome))) (new .next .line) noLine ≡ lineOf (ruleAt h (b .slots) (b .agreed) (b .holidays) i) h (b .slots) (b .agreed .versions) i
     line-told = rw (applied, lined) (line-is h (b .slots) (b .agreed) (b .holidays) i)

@@ -15,7 +15,7 @@ use Rattle.rules.specs.declared.tests.Cause.the-variants as cause
 use Rattle.rules.specs.Opening.{Slots, Agreed, Cells, headOk, slotsPerDay, slotCount}
 use Rattle.rules.specs.Tests.{causeAt, goodAt}
 use Rattle.rules.specs.Filling.{isOutageZero, isAgreed, runBefore, runStart, runLength, isLinear, references, filledAt}
-use Rattle.rules.specs.Spans.{isS, lastRead, nextRead, range, actual, R, stateOf, T, E, P, C, outcomeAt}
+use Rattle.rules.specs.Spans.{isS, lastRead, nextRead, range, actualSum, R, stateOf, T, E, P, C, outcomeAt}
 use Rattle.book.specs.Cells.{Book, bookFits, bookOk}
 use Rattle.explain.specs.declared.Rule.{Rule}
 use Rattle.explain.specs.declared.Rule.the-variants.{Delivered, Agreed as Settled, OutageZero, Linear, SameDay, Nothing}
@@ -92,7 +92,7 @@ spannedBy h b (some first) (some last) = record {
   lowest = range h b first last .lowest;
   highest = range h b first last .highest;
   advance = R h b first last;
-  actual = actual h b first last;
+  actual = actualSum h b first last;
   state = stateOf h b first last;
 }
 spannedBy h b (some first) none = noneSpanned

@@ -1,10 +1,11 @@
 // What a pass over the slots knows before a slot, found by looking back from it.
 use rules::Head;
-use rules::fills;
-use rules::fills::Filled;
-use rules::fills::Fills;
 use rules::linear;
+use rules::outage;
 use rules::tests;
+use rules::walk;
+use rules::walk::Filled;
+use rules::walk::Walk;
 ghost use mathlib.Core.Path.{_≡_};
 ghost use Prim.Native.Nat.{_+_, _<_, _≤_};
 ghost use lib.ListN.{length};
@@ -12,7 +13,7 @@ ghost use Rattle.rules.specs.Opening.{slotCount};
 ghost use Rattle.rules.specs.Filling.{filledAt, shapeAt};
 ghost use Rattle.rules.specs.Lent.{lentSlots, lentAgreed};
 ghost use Rattle.rules.specs.Inner.Lent.{Fitted, Lent, Settled};
-ghost use Rattle.rules.specs.Inner.Fills.{fillsAt};
+ghost use Rattle.rules.specs.Inner.Walks.{walkAt};
 ghost use Rattle.explain.specs.Inner.Looking.{Since};
 
 // The slot behind the last good slot before slot `at`, or slot 0.
@@ -39,15 +40,15 @@ pub fn fills_before(
     statuses: &[u8],
     agreed_versions: &[u32],
     at: usize,
-) -> Fills
+) -> Walk
     requires { ⌜ Fitted head (lentSlots values versions statuses) × (length (now «agreed_versions») ≡ slotCount head) × (at < slotCount head) ⌝ }
-    ensures { λ r. ⌜ r ≡ fillsAt head (lentSlots (values .entry) (versions .entry) (statuses .entry)) (now («agreed_versions» .entry)) at ⌝ }
+    ensures { λ r. ⌜ r ≡ walkAt head (lentSlots (values .entry) (versions .entry) (statuses .entry)) (now («agreed_versions» .entry)) at ⌝ }
 {
     let mut k = since_good(head, values, versions, statuses, at);
     let mut outage = false;
     let mut line = linear::bare(0);
     while k < at {
-        outage = fills::outage_zero(versions, statuses, k, outage);
+        outage = outage::outage_zero(versions, statuses, k, outage);
         line = linear::line_on(
             head,
             values,
@@ -60,7 +61,7 @@ pub fn fills_before(
         );
         k += 1;
     }
-    Fills {
+    Walk {
         at: at,
         outage: outage,
         line: line,
@@ -79,10 +80,10 @@ pub fn fill_slot(
     at: usize,
 ) -> Filled
     requires { ⌜ Lent head (lentSlots values versions statuses) (now holidays) × Settled head (lentAgreed agreed «agreed_versions») × (at < slotCount head) ⌝ }
-    ensures { λ r. ⌜ (r .outcome ≡ filledAt head (lentSlots (values .entry) (versions .entry) (statuses .entry)) (lentAgreed (agreed .entry) («agreed_versions» .entry)) (now (holidays .entry)) at) × (r .shape ≡ shapeAt head (lentSlots (values .entry) (versions .entry) (statuses .entry)) (lentAgreed (agreed .entry) («agreed_versions» .entry)) (now (holidays .entry)) at) × (r .next ≡ fillsAt head (lentSlots (values .entry) (versions .entry) (statuses .entry)) (now («agreed_versions» .entry)) (at + 1)) ⌝ }
+    ensures { λ r. ⌜ (r .outcome ≡ filledAt head (lentSlots (values .entry) (versions .entry) (statuses .entry)) (lentAgreed (agreed .entry) («agreed_versions» .entry)) (now (holidays .entry)) at) × (r .shape ≡ shapeAt head (lentSlots (values .entry) (versions .entry) (statuses .entry)) (lentAgreed (agreed .entry) («agreed_versions» .entry)) (now (holidays .entry)) at) × (r .next ≡ walkAt head (lentSlots (values .entry) (versions .entry) (statuses .entry)) (now («agreed_versions» .entry)) (at + 1)) ⌝ }
 {
     let here = fills_before(head, values, versions, statuses, agreed_versions, at);
-    fills::fill(
+    walk::fill(
         head,
         values,
         versions,

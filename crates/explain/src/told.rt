@@ -8,7 +8,6 @@ use crate::references;
 use rules::Head;
 use rules::Outcome;
 use rules::Quality;
-use rules::fills::Filled;
 use rules::linear;
 use rules::linear::Line;
 use rules::spans;
@@ -16,6 +15,7 @@ use rules::spans::Scaling;
 use rules::stretch;
 use rules::stretch::Stretch;
 use rules::tests::Cause;
+use rules::walk::Filled;
 ghost use mathlib.Core.Bool.{cond};
 ghost use mathlib.Core.Path.{_≡_};
 ghost use Prim.Native.Nat.{_<_};
@@ -23,7 +23,7 @@ ghost use Rattle.rules.specs.Opening.{slotCount};
 ghost use Rattle.rules.specs.Spans.{isN};
 ghost use Rattle.rules.specs.Lent.{lentSlots};
 ghost use Rattle.rules.specs.Inner.Lent.{Lent};
-ghost use Rattle.rules.specs.Inner.Stretches.{Fits};
+ghost use Rattle.rules.specs.Inner.Stretches.{Scalable};
 ghost use Rattle.explain.specs.Explain.{isLine, isSameDay, noLine, noneFound, foundOf, noShares};
 ghost use Rattle.explain.specs.Inner.Holding.{sharesWith};
 ghost use Rattle.explain.specs.Inner.Telling.{ruleOf, scaledTo, toldWith};
@@ -160,7 +160,7 @@ fn shares_by(quality: Quality, by: Scaling, reached: u64) -> Shares
 
 // A filled slot in its span.
 pub fn tell_with(cause: Cause, filled: Filled, found: Found, held: Held) -> Explanation
-    requires { ⌜ Fits (filled .outcome) (filled .shape) (scaledTo (held .by)) ⌝ }
+    requires { ⌜ Scalable (filled .outcome) (filled .shape) (scaledTo (held .by)) ⌝ }
     ensures { λ r. ⌜ r ≡ toldWith cause filled found held ⌝ }
 {
     let slot = filled.outcome;

@@ -33,7 +33,7 @@ use Rattle.file.proofs.Outside.{covers}
 form-ok : {o : Outcome} → Form o → recordOk (slotRecord o) ≡ true
 unfolding recordOk
 form-ok (unscaled (delivered v) l) = refl
-form-ok (unscaled (agreed v) l) = rw (le-leb v 99999999 l)
+form-ok (unscaled (agreed v) l) = rw (le-leb v 99_999_999 l)
 form-ok (unscaled outage l) = refl
 form-ok (unscaled (linear v) l) = refl
 form-ok (unscaled (sameDay v) l) = refl

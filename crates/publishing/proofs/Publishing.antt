@@ -60,17 +60,17 @@ module _ (h : Head) (b : Cells) (s : Sound h b) where
       ∷ not (any (readFaultAt (readsOf b)) 0 (suc (h .days))) ∷ not (any (agreedFaultAt (b .agreed)) 0 (slotCount h)) ∷ []
 
   read-clean : (i : ℕ) → readFaultAt (readsOf b) i ≡ false
-      → (numberFault 99999999 (getD (b .readVersions) i 0) (getD (b .readings) i 0) ≡ false)
+      → (numberFault 99_999_999 (getD (b .readVersions) i 0) (getD (b .readings) i 0) ≡ false)
       × (numberFault 9999 (getD (b .readVersions) i 0) (getD (b .widths) i 0) ≡ false)
   unfolding readFault
   read-clean i e = neither _ _ e
 
-  readings-low : (d : ℕ) → getD (b .readings) d 0 < 100000000
+  readings-low : (d : ℕ) → getD (b .readings) d 0 < 100_000_000
   unfolding cellsOk
   readings-low d =
       let le =
-      all-low (b .readings) (suc (h .days)) 99999999 (lengths-of h b (s .fit) .readings) (readFaultAt (readsOf b))
-      (λ i e. number-low 99999999 (getD (b .readVersions) i 0) (getD (b .readings) i 0) (read-clean i e .0)) (not-true _ (passed cellTests (s .cells) 2)) d in
+      all-low (b .readings) (suc (h .days)) 99_999_999 (lengths-of h b (s .fit) .readings) (readFaultAt (readsOf b))
+      (λ i e. number-low 99_999_999 (getD (b .readVersions) i 0) (getD (b .readings) i 0) (read-clean i e .0)) (not-true _ (passed cellTests (s .cells) 2)) d in
       omega arith
 
   pub widths-low : WidthsLow (b .widths)
@@ -83,8 +83,8 @@ module _ (h : Head) (b : Cells) (s : Sound h b) where
   unfolding cellsOk
   agreed-low i =
       let le =
-      all-low (b .agreed .values) (slotCount h) 99999999 (lengths-of h b (s .fit) .agreed) (agreedFaultAt (b .agreed))
-      (λ j e. number-low 99999999 (getD (b .agreed .versions) j 0) (getD (b .agreed .values) j 0) e) (not-true _ (passed cellTests (s .cells) 3)) i in
+      all-low (b .agreed .values) (slotCount h) 99_999_999 (lengths-of h b (s .fit) .agreed) (agreedFaultAt (b .agreed))
+      (λ j e. number-low 99_999_999 (getD (b .agreed .versions) j 0) (getD (b .agreed .values) j 0) e) (not-true _ (passed cellTests (s .cells) 3)) i in
       omega arith
 
   pub whole-of : Whole h b

@@ -18,7 +18,7 @@ use Rattle.rules.specs.declared.stretch.Begins.{Begins}
 use Rattle.rules.specs.Opening.{Cells, firstDay, slotCount}
 use Rattle.rules.specs.Spans.{isA, isS, isF, isN, outcomeAt, outcomes, spans}
 use Rattle.rules.specs.Inner.Lent.{AgreedLow, WidthsLow}
-use Rattle.rules.specs.Inner.Fills.{fillsAt}
+use Rattle.rules.specs.Inner.Walks.{walkAt}
 use Rattle.rules.specs.Inner.Stretches.{beginsAt}
 use Rattle.rules.specs.Inner.Passes.{passAt, listOf, begunBefore}
 use Rattle.rules.proofs.Bounds.{Bounded, count-high}
@@ -61,10 +61,10 @@ module _ (h : Head) (b : Cells) (i : ℕ) where
   pub count-low : (q : Quality → Bool) → total (one q) (firstSlots h b i) ≤ i * 1
   count-low q = rw (total-sum (one q) (outcomeAt h b) 0 i) (sum-small (λ j. one q (outcomeAt h b j)) 1 (λ j. one-low q (outcomeAt h b j)) 0 i)
 
-  pub sum-low : Bounded h → AgreedLow (b .agreed) → WidthsLow (b .widths) → total (λ o. o .value) (firstSlots h b i) ≤ i * 100000000
+  pub sum-low : Bounded h → AgreedLow (b .agreed) → WidthsLow (b .widths) → total (λ o. o .value) (firstSlots h b i) ≤ i * 100_000_000
   sum-low w low narrow =
       rw (total-sum (λ o. o .value) (outcomeAt h b) 0 i)
-      (sum-small (λ j. outcomeAt h b j .value) 100000000 (λ j. omega (arith, outcome-fits h w b low j narrow)) 0 i)
+      (sum-small (λ j. outcomeAt h b j .value) 100_000_000 (λ j. omega (arith, outcome-fits h w b low j narrow)) 0 i)
 
 -- `publish::add` goes by the slot's quality
 module _ (t : Totals) (o : Outcome) where
@@ -116,11 +116,11 @@ module _ (h : Head) (b : Cells) (i : ℕ) where
 
   -- where a progress stands
   module _ (p : Progress) (e : p ≡ progressAt h b i) where
-    pub progress-place : p .pass .fills .at ≡ i
-    unfolding progressAt passAt fillsAt
-    progress-place = ap (λ (q : Progress). q .pass .fills .at) e
+    pub progress-place : p .pass .walk .at ≡ i
+    unfolding progressAt passAt walkAt
+    progress-place = ap (λ (q : Progress). q .pass .walk .at) e
 
-    pub progress-here : p ≡ progressAt h b (p .pass .fills .at)
+    pub progress-here : p ≡ progressAt h b (p .pass .walk .at)
     progress-here = e ∙ ap (progressAt h b) (sym progress-place)
 
 -- before slot 0
@@ -130,7 +130,7 @@ progress-first h b p e = rw e
 
 -- the totals of all slots
 module _ (h : Head) (b : Cells) (t : Totals) (e : t ≡ totalsOf (outcomes h b)) where
-  pub filled-low : Bounded h → t .substituted + t .agreed ≤ 230400
+  pub filled-low : Bounded h → t .substituted + t .agreed ≤ 230_400
   unfolding totalsOf outcomes
   filled-low w =
       let s : t .substituted ≡ total (one isS) (firstSlots h b (slotCount h)) = ap (λ (x : Totals). x .substituted) e in

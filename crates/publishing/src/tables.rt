@@ -55,7 +55,7 @@ fn begin() -> Progress
 }
 
 fn add(totals: Totals, slot: Outcome) -> Totals
-    requires { ⌜ (totals .actual ≤ 115200) × (totals .substituted ≤ 115200) × (totals .agreed ≤ 115200) × (totals .none ≤ 115200) × (totals .sum ≤ 11520000000000) ⌝ }
+    requires { ⌜ (totals .actual ≤ 115_200) × (totals .substituted ≤ 115_200) × (totals .agreed ≤ 115_200) × (totals .none ≤ 115_200) × (totals .sum ≤ 11_520_000_000_000) ⌝ }
     ensures { λ r. ⌜ r ≡ addedTo totals slot ⌝ }
 {
     let sum = totals.sum + (slot.value as u64);
@@ -126,7 +126,7 @@ fn put_next(
     ensures { λ r. ⌜ PutNext head (lentCells (values .entry) (versions .entry) (statuses .entry) (holidays .entry) (readings .entry) (reads .entry) (agreed .entry) («agreed_versions» .entry) (widths .entry)) (now (out .entry)) (now (out .exit)) here r ⌝ }
 {
     let pass = here.pass;
-    let at = pass.fills.at;
+    let at = pass.walk.at;
     let stepped = pass::step(
         head,
         values,

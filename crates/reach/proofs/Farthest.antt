@@ -47,24 +47,24 @@ more = headOn 2024 5 5 371
 
 -- the last slot of the first day has come, and of the last day the slot before the last
 abbrev pub weeksKept : List Call
-weeksKept = delivery 17518 1 5 0 ∷ delivery 47 1 100 0 ∷ []
+weeksKept = delivery 17_518 1 5 0 ∷ delivery 47 1 100 0 ∷ []
 
 abbrev pub feastKept : List Call
-feastKept = holiday 370 ∷ delivery 17806 1 5 0 ∷ delivery 47 1 100 0 ∷ []
+feastKept = holiday 370 ∷ delivery 17_806 1 5 0 ∷ delivery 47 1 100 0 ∷ []
 
 -- then the first comes again, with the outage bit
 abbrev pub again : Call
 again = delivery 47 2 100 2
 
-year-count : slotCount year ≡ 17520
+year-count : slotCount year ≡ 17_520
 unfolding slotCount slotsPerDay
 year-count = refl
 
-more-count : slotCount more ≡ 17808
+more-count : slotCount more ≡ 17_808
 unfolding slotCount slotsPerDay
 more-count = refl
 
-pub weeks-before : Sparse year (weeksKept) 47 17518 17519
+pub weeks-before : Sparse year (weeksKept) 47 17_518 17_519
 unfolding slotsPerDay deliveries reads agreements highest contentWith causeOf timeChangeBit partialBit outageBit
 weeks-before = record {
   days = refl;
@@ -72,14 +72,14 @@ weeks-before = record {
   end = year-count;
   day = lit≤ tt;
   apart = lit< tt;
-  empty = λ k a b. rw (ne-eqb 17518 k (λ z. b (sym z)), ne-eqb 47 k (λ z. a (sym z)));
+  empty = λ k a b. rw (ne-eqb 17_518 k (λ z. b (sym z)), ne-eqb 47 k (λ z. a (sym z)));
   unread = λ d. refl;
   unagreed = refl;
   left = refl;
   calm = refl;
 }
 
-pub feast-before : Sparse more (feastKept) 47 17806 17807
+pub feast-before : Sparse more (feastKept) 47 17_806 17_807
 unfolding slotsPerDay deliveries reads agreements highest contentWith causeOf timeChangeBit partialBit outageBit
 feast-before = record {
   days = refl;
@@ -87,7 +87,7 @@ feast-before = record {
   end = more-count;
   day = lit≤ tt;
   apart = lit< tt;
-  empty = λ k a b. rw (ne-eqb 17806 k (λ z. b (sym z)), ne-eqb 47 k (λ z. a (sym z)));
+  empty = λ k a b. rw (ne-eqb 17_806 k (λ z. b (sym z)), ne-eqb 47 k (λ z. a (sym z)));
   unread = λ d. refl;
   unagreed = refl;
   left = refl;
@@ -128,14 +128,14 @@ method-of true v = refl
 method-of false v = refl
 
 weeks-first : (kept : List Call) → named 364 kept ≡ false
-    → (firstBack year (bookOf year kept .holidays) (17519 / slotsPerDay year) ≡ 7)
-    × (weeksWithin 7 (farthestBack (bookOf year kept .holidays) (17519 / slotsPerDay year)) ≡ 52)
+    → (firstBack year (bookOf year kept .holidays) (17_519 / slotsPerDay year) ≡ 7)
+    × (weeksWithin 7 (farthestBack (bookOf year kept .holidays) (17_519 / slotsPerDay year)) ≡ 52)
 unfolding slotsPerDay firstBack farthestBack weeksWithin
 weeks-first kept e = rw (holiday-at year kept 364 (lit< tt), e) (refl, refl)
 
 feast-first : (kept : List Call) → named 370 kept ≡ true
-    → (firstBack more (bookOf more kept .holidays) (17807 / slotsPerDay more) ≡ 6)
-    × (weeksWithin 6 (farthestBack (bookOf more kept .holidays) (17807 / slotsPerDay more)) ≡ 53)
+    → (firstBack more (bookOf more kept .holidays) (17_807 / slotsPerDay more) ≡ 6)
+    × (weeksWithin 6 (farthestBack (bookOf more kept .holidays) (17_807 / slotsPerDay more)) ≡ 53)
 unfolding slotsPerDay firstBack farthestBack weeksWithin firstDay leap monthLengths monthLength yearLength daysBeforeMonth daysBeforeYear dayNumber isDate toSunday sum
 feast-first kept e = rw (holiday-at more kept 370 (lit< tt), e) (refl, refl)
 
@@ -148,20 +148,20 @@ last-method h kept p j first k t x f far later e =
     ap (λ (o : Outcome). o .method) (outcome-last h kept 47 p j x first k (f .0) (f .1) far later) ∙ rw e (method-of t (getD (bookOf h kept .slots .values) 47 0))
 
 -- without and with the outage bit at slot 47
-pub weeks-method : (outcomeAt year (bookOf year weeksKept) 17519 .method ≡ 3) × (outcomeAt year (bookOf year (again ∷ weeksKept)) 17519 .method ≡ 0)
+pub weeks-method : (outcomeAt year (bookOf year weeksKept) 17_519 .method ≡ 3) × (outcomeAt year (bookOf year (again ∷ weeksKept)) 17_519 .method ≡ 0)
 unfolding named deliveries highest contentWith causeOf timeChangeBit partialBit outageBit
 weeks-method = (
-  last-method year weeksKept 17518 17519 7 51 true weeks-before (weeks-first weeksKept refl) refl (lit≤ tt)
+  last-method year weeksKept 17_518 17_519 7 51 true weeks-before (weeks-first weeksKept refl) refl (lit≤ tt)
       (reference year weeksKept false (weeks-before .days) (omega (arith, year-count)) (lit< tt) refl refl refl),
-  last-method year (again ∷ weeksKept) 17518 17519 7 51 false (sparse-again weeks-before) (weeks-first (again ∷ weeksKept) refl) refl (lit≤ tt)
+  last-method year (again ∷ weeksKept) 17_518 17_519 7 51 false (sparse-again weeks-before) (weeks-first (again ∷ weeksKept) refl) refl (lit≤ tt)
       (reference year (again ∷ weeksKept) true (weeks-before .days) (omega (arith, year-count)) (lit< tt) refl refl refl),
 )
 
-pub feast-method : (outcomeAt more (bookOf more feastKept) 17807 .method ≡ 3) × (outcomeAt more (bookOf more (again ∷ feastKept)) 17807 .method ≡ 0)
+pub feast-method : (outcomeAt more (bookOf more feastKept) 17_807 .method ≡ 3) × (outcomeAt more (bookOf more (again ∷ feastKept)) 17_807 .method ≡ 0)
 unfolding named deliveries highest contentWith causeOf timeChangeBit partialBit outageBit
 feast-method = (
-  last-method more feastKept 17806 17807 6 52 true feast-before (feast-first feastKept refl) refl (lit≤ tt)
+  last-method more feastKept 17_806 17_807 6 52 true feast-before (feast-first feastKept refl) refl (lit≤ tt)
       (reference more feastKept false (feast-before .days) (omega (arith, more-count)) (lit< tt) refl refl refl),
-  last-method more (again ∷ feastKept) 17806 17807 6 52 false (sparse-again feast-before) (feast-first (again ∷ feastKept) refl) refl (lit≤ tt)
+  last-method more (again ∷ feastKept) 17_806 17_807 6 52 false (sparse-again feast-before) (feast-first (again ∷ feastKept) refl) refl (lit≤ tt)
       (reference more (again ∷ feastKept) true (feast-before .days) (omega (arith, more-count)) (lit< tt) refl refl refl),
 )

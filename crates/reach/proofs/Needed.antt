@@ -60,11 +60,11 @@ module _ (h : Head) (calls kept : List Call) (p j d : ℕ) (x : Sparse h kept 47
             omega arith;
       }
 
-weeks-kept : KeptAre year (delivery 47 1 100 0 ∷ delivery 17518 1 5 0 ∷ []) weeksKept
+weeks-kept : KeptAre year (delivery 47 1 100 0 ∷ delivery 17_518 1 5 0 ∷ []) weeksKept
 unfolding keptOf keep plainAnswer againstKept deliveries named highest contentWith argumentRules byVersion slotCount slotsPerDay headOk intervalOk firstDay leap monthLengths monthLength yearLength daysBeforeMonth daysBeforeYear dayNumber isDate sum
 weeks-kept = record { was = refl; is = refl; new = refl }
 
-feast-kept : KeptAre more (delivery 47 1 100 0 ∷ delivery 17806 1 5 0 ∷ holiday 370 ∷ []) feastKept
+feast-kept : KeptAre more (delivery 47 1 100 0 ∷ delivery 17_806 1 5 0 ∷ holiday 370 ∷ []) feastKept
 unfolding keptOf keep plainAnswer againstKept deliveries named highest contentWith argumentRules byVersion slotCount slotsPerDay headOk intervalOk firstDay leap monthLengths monthLength yearLength daysBeforeMonth daysBeforeYear dayNumber isDate sum
 feast-kept = record { was = refl; is = refl; new = refl }
 
@@ -72,7 +72,7 @@ pub needed : Needed
 needed = record {
   first = first-needed;
   second = second-needed;
-  third = (_, last-moves year _ weeksKept 17518 17519 364 weeks-before refl weeks-kept weeks-method, last-only year _ weeksKept 17518 17519 364 weeks-before refl weeks-kept);
-  holiday = (_, last-moves more _ feastKept 17806 17807 370 feast-before refl feast-kept feast-method, last-only more _ feastKept 17806 17807 370 feast-before refl feast-kept);
+  third = (_, last-moves year _ weeksKept 17_518 17_519 364 weeks-before refl weeks-kept weeks-method, last-only year _ weeksKept 17_518 17_519 364 weeks-before refl weeks-kept);
+  holiday = (_, last-moves more _ feastKept 17_806 17_807 370 feast-before refl feast-kept feast-method, last-only more _ feastKept 17_806 17_807 370 feast-before refl feast-kept);
   fourth = fourth-needed;
 }

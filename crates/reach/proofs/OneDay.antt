@@ -8,7 +8,7 @@ use native.Mathlib.Omega.{arith}
 use lib.Dec.{lit<, lit≤, eqb}
 use lib.ListN.{length, getD}
 use borrow.Author.Tests.{eqb-true}
-use Rattle.base.specs.Lists.{every, sum, any, upTo}
+use Rattle.base.specs.Lists.{every, sum, any, upTo, sumOf}
 use Rattle.base.proofs.Logic.{passed}
 use Rattle.calendar.specs.Calendar.{leap, monthLengths, monthLength, yearLength, daysBeforeMonth, daysBeforeYear, dayNumber, isDate, toSunday}
 use Rattle.rules.specs.declared.Head.{Head}
@@ -17,8 +17,8 @@ use Rattle.reach.proofs.Heads.{headOn}
 use Rattle.rules.specs.Opening.{Cells, headOk, intervalOk, firstDay, slotsPerDay, slotCount}
 use Rattle.rules.specs.Tests.{isGap, timeChangeBit, outageBit, partialBit, causeOf, causeAt, goodAt}
 use Rattle.rules.specs.Weeks.{firstBack, farthestBack, weeksWithin}
-use Rattle.rules.specs.Filling.{outageAt, outageBefore, outageAfter, isOutageZero, isAgreed, inRun, runBefore, runFrom, runStart, runLength, isLinear, lineValue, linearValue, isReference, weekBack, weeksBack, references, total, meanOf, fromReferences, filledAt}
-use Rattle.rules.specs.Spans.{isRead, lastRead, nextRead, advance, rangeOf, leastIn, isNear, stateBy, start, slotsIn, G, range, actual, R, stateOf, inSpan, between, outcomeAt, spanOf, spanTo, spanFrom, spansFrom, spans}
+use Rattle.rules.specs.Filling.{outageAt, outageBefore, outageAfter, isOutageZero, isAgreed, inRun, runBefore, runFrom, runStart, runLength, isLinear, lineValue, linearValue, isReference, weekBack, weeksBack, references, meanOf, fromReferences, filledAt}
+use Rattle.rules.specs.Spans.{isRead, lastRead, nextRead, advance, rangeOf, leastIn, isNear, stateBy, start, slotsIn, G, range, actualSum, R, stateOf, inSpan, between, outcomeAt, spanOf, spanTo, spanFrom, spansFrom, spans}
 use Rattle.book.specs.Answers.{Answer, isStored, byVersion}
 use Rattle.book.specs.Arguments.{argumentRules}
 use Rattle.book.specs.Arguments.Call.{delivery, register}
@@ -74,7 +74,7 @@ tests =
     ∷ []
 
 computed : every tests ≡ true
-unfolding outcomeAt between lastRead nextRead isRead filledAt fromReferences references total meanOf weekBack weeksBack isReference isLinear linearValue lineValue runStart runLength runFrom runBefore inRun isAgreed isOutageZero outageAfter outageBefore outageAt goodAt causeAt causeOf isGap timeChangeBit outageBit partialBit firstBack farthestBack weeksWithin slotCount slotsPerDay upTo bookOf keptOf keep plainAnswer againstKept named agreements reads deliveries highest contentWith argumentRules byVersion headOk intervalOk firstDay leap monthLengths monthLength yearLength daysBeforeMonth daysBeforeYear dayNumber isDate toSunday sum inSpan stateOf stateBy range rangeOf G advance R leastIn actual isNear start slotsIn any spans spansFrom spanFrom spanTo spanOf
+unfolding outcomeAt between lastRead nextRead isRead filledAt fromReferences references sumOf meanOf weekBack weeksBack isReference isLinear linearValue lineValue runStart runLength runFrom runBefore inRun isAgreed isOutageZero outageAfter outageBefore outageAt goodAt causeAt causeOf isGap timeChangeBit outageBit partialBit firstBack farthestBack weeksWithin slotCount slotsPerDay upTo bookOf keptOf keep plainAnswer againstKept named agreements reads deliveries highest contentWith argumentRules byVersion headOk intervalOk firstDay leap monthLengths monthLength yearLength daysBeforeMonth daysBeforeYear dayNumber isDate toSunday sum inSpan stateOf stateBy range rangeOf G advance R leastIn actualSum isNear start slotsIn any spans spansFrom spanFrom spanTo spanOf
 computed = refl
 
 -- what test k of them says

@@ -11,7 +11,7 @@ use Rattle.rules.specs.declared.Outcome.{Outcome}
 use Rattle.rules.specs.declared.Quality.{Quality}
 use Rattle.rules.specs.Opening.{Slots, Cells, slotsPerDay}
 use Rattle.rules.specs.Filling.{filledAt, shapeAt}
-use Rattle.rules.specs.Spans.{isS, isN, actualIn, start, slotsIn, G, range, actual, R, stateOf, T, allZero, e, E, C, P, newValue, inSpan, spanOf}
+use Rattle.rules.specs.Spans.{isS, isN, actualIn, start, slotsIn, G, range, actualSum, R, stateOf, T, allZero, e, E, C, P, newValue, inSpan, spanOf}
 
 -- a book with other slots
 abbrev pub withSlots : Cells → Slots → Cells
@@ -35,8 +35,8 @@ module _ (h : Head) (b : Cells) (t : Slots) where
       × (shapeAt h (b .slots) (b .agreed) (b .holidays) j ≡ shapeAt h t (b .agreed) (b .holidays) j)
 
   module _ (first last : ℕ) (kept : (j : ℕ) → first * slotsPerDay h ≤ j → j < first * slotsPerDay h + (last - first) * slotsPerDay h → Kept j) where
-    actual-same : actual h b first last ≡ actual h c first last
-    unfolding actual start slotsIn
+    actual-same : actualSum h b first last ≡ actualSum h c first last
+    unfolding actualSum start slotsIn
     actual-same = sum-cong _ _ _ _ (λ j l m. ap actualIn (kept j l m .0))
 
     R-same : R h b first last ≡ R h c first last

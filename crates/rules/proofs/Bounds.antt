@@ -16,9 +16,9 @@ pub record Bounded (h : Head) : Type 0 where
   pub interval-high : h .interval ≤ 30
   pub days-low : 1 ≤ h .days
   pub days-high : h .days ≤ 400
-  pub last-day : firstDay h + h .days ≤ 36525
-  pub limit-high : h .limit ≤ 1000000
-  pub tolerance-high : h .tolerance ≤ 1000000
+  pub last-day : firstDay h + h .days ≤ 36_525
+  pub limit-high : h .limit ≤ 1_000_000
+  pub tolerance-high : h .tolerance ≤ 1_000_000
   pub interval-good : intervalOk (h .interval) ≡ true
   pub day-low : 48 ≤ slotsPerDay h
   pub day-high : slotsPerDay h ≤ 288
@@ -35,7 +35,7 @@ interval-bounds interval e =
     of l x p q r s = rw (eqb-true interval l x) (p, q, r, s)
 
 -- the slots of at most 400 days, each with an interval at 1,000,000 W
-caps : (l days : ℕ) → intervalOk l ≡ true → days ≤ 400 → 1440 / l * days * (1000000 * l / 60) ≤ 9600000000
+caps : (l days : ℕ) → intervalOk l ≡ true → days ≤ 400 → 1440 / l * days * (1_000_000 * l / 60) ≤ 9_600_000_000
 unfolding intervalOk
 caps l days e m =
     ⊎-elim (λ x. rw (eqb-true l 5 x) (omega arith))
@@ -67,16 +67,16 @@ module _ (h : Head) where
   count-product = refl
 
   -- at most 115,200 slots
-  pub count-high : Bounded h → slotCount h ≤ 115200
+  pub count-high : Bounded h → slotCount h ≤ 115_200
   unfolding slotCount
   count-high b = mul-le-mul (b .day-high) (b .days-high)
 
   -- the most that a good slot can hold: an interval at 1,000,000 W
   pub cap : ℕ
-  cap = 1000000 * h .interval / 60
+  cap = 1_000_000 * h .interval / 60
 
   -- 500,000 Wh
-  pub cap-high : Bounded h → cap ≤ 500000
+  pub cap-high : Bounded h → cap ≤ 500_000
   unfolding cap
   cap-high b = omega (arith, b .interval-high)
 
@@ -85,22 +85,22 @@ module _ (h : Head) where
   cap-low b = omega (arith, b .interval-low)
 
   -- all slots together: 9,600,000,000 Wh
-  pub cap-all : Bounded h → slotCount h * cap ≤ 9600000000
+  pub cap-all : Bounded h → slotCount h * cap ≤ 9_600_000_000
   unfolding cap slotCount slotsPerDay
   cap-all b = caps (h .interval) (h .days) (b .interval-good) (b .days-high)
 
   -- a shape is at most 12 times as much, 6,000,000, and all shapes together 115,200,000,000
-  pub shape-high : Bounded h → 12 * cap ≤ 6000000
+  pub shape-high : Bounded h → 12 * cap ≤ 6_000_000
   shape-high b = omega (arith, cap-high b)
 
-  pub shapes-all : Bounded h → slotCount h * (12 * cap) ≤ 115200000000
+  pub shapes-all : Bounded h → slotCount h * (12 * cap) ≤ 115_200_000_000
   shapes-all b = omega (arith, cap-all b)
 
   -- what a good slot can hold
   pub good-cap : Bounded h → (v : ℕ) → v * 60 ≤ h .limit * h .interval → v ≤ cap
   unfolding cap
   good-cap b v p =
-      let q : h .limit * h .interval ≤ 1000000 * h .interval = mul-le-mul (b .limit-high) (le-refl _) in
+      let q : h .limit * h .interval ≤ 1_000_000 * h .interval = mul-le-mul (b .limit-high) (le-refl _) in
       omega arith
 
 -- a product of two 32-bit numbers fits 64 bits

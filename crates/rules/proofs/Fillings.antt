@@ -14,7 +14,7 @@ use Rattle.rules.specs.Opening.{Slots, Agreed, Cells}
 use Rattle.rules.specs.Tests.{goodAt}
 use Rattle.rules.specs.Filling.{isAgreed, isOutageZero, isLinear, linearValue, references, fromReferences, filledAt}
 use Rattle.rules.specs.Spans.{isS, filled, stateOf, newValue, inSpan}
-use Rattle.rules.specs.Inner.Fills.{agreedOf}
+use Rattle.rules.specs.Inner.Walks.{agreedOf}
 
 -- the first rule that applies to a slot with a cause
 module _ (h : Head) (s : Slots) (a : Agreed) (holidays : List ℕ) (i : ℕ) (cause : goodAt h s i ≡ false) where

@@ -15,7 +15,7 @@ use mir.ValLaws.{toZ-ofZ, toZ-pos}
 use Rattle.base.proofs.Logic.{either}
 use Rattle.rules.specs.declared.linear.Line.{Line}
 use Rattle.rules.specs.Filling.{floorOver, lineValue}
-use Rattle.rules.specs.Inner.Fills.{Drawn}
+use Rattle.rules.specs.Inner.Walks.{Drawn}
 
 -- a / m and (a + 1) / m
 module _ (a m : ℕ) (p : 0 < m) where
@@ -237,7 +237,7 @@ module _ (line : Line) (w : Drawn line) where
   rise-is = λ i. toZ-pos w64 r (omega arith) i -ℤ toZ-pos w64 l (omega arith) i
 
   pub rise-fits : SFits w64 rise
-  rise-fits = subst (SFits w64) (sym rise-is) (record { sfits = omega (arith, difference-mag l r 500000 (w .left) (w .right)) })
+  rise-fits = subst (SFits w64) (sym rise-is) (record { sfits = omega (arith, difference-mag l r 500_000 (w .left) (w .right)) })
 
   abbrev risen : ℤ
   risen = toZ w64 (ofZ w64 rise) *ℤ toZ w64 j
@@ -245,10 +245,10 @@ module _ (line : Line) (w : Drawn line) where
   risen-is : risen ≡ (pos r -ℤ pos l) *ℤ pos j
   risen-is = λ i. (toZ-ofZ w64 rise rise-fits ∙ rise-is) i *ℤ toZ-pos w64 j (omega arith) i
 
-  risen-low : mag ((pos r -ℤ pos l) *ℤ pos j) ≤ 12000024
+  risen-low : mag ((pos r -ℤ pos l) *ℤ pos j) ≤ 12_000_024
   risen-low =
-      let a = difference-mag l r 500000 (w .left) (w .right) in
-      let b : suc (mag (pos r -ℤ pos l)) ≤ 500001 = omega arith in
+      let a = difference-mag l r 500_000 (w .left) (w .right) in
+      let b : suc (mag (pos r -ℤ pos l)) ≤ 500_001 = omega arith in
       let c : j ≤ 24 = omega arith in
       omega (arith, product-mag (pos r -ℤ pos l) j, mul-le-mul b c)
 
@@ -269,7 +269,7 @@ module _ (line : Line) (w : Drawn line) where
     value-is = (λ i. toZ-pos w64 l (omega arith) i +ℤ (toZ-ofZ w64 f floor-fit ∙ floor-is) i) ∙ line-exact l r j m (omega arith) (omega arith)
 
     pub value-fits : SFits w64 value
-    value-fits = subst (SFits w64) (sym value-is) (record { sfits = omega (arith, weighted-small l r j m (omega arith) (omega arith) 500000 (w .left) (w .right)) })
+    value-fits = subst (SFits w64) (sym value-is) (record { sfits = omega (arith, weighted-small l r j m (omega arith) (omega arith) 500_000 (w .left) (w .right)) })
 
     value-read : toZ w64 (ofZ w64 value) ≡ pos ((l * (m - j) + r * j) / m)
     value-read = toZ-ofZ w64 value value-fits ∙ value-is
@@ -277,7 +277,7 @@ module _ (line : Line) (w : Drawn line) where
     pub value-whole : T (nonNeg (toZ w64 (ofZ w64 value))) × Fits w32 (natAbs (toZ w64 (ofZ w64 value)))
     value-whole =
         subst (λ (z : ℤ). T (nonNeg z) × Fits w32 (natAbs z)) (sym value-read)
-        (tt, record { fits = omega (arith, weighted-small l r j m (omega arith) (omega arith) 500000 (w .left) (w .right)) })
+        (tt, record { fits = omega (arith, weighted-small l r j m (omega arith) (omega arith) 500_000 (w .left) (w .right)) })
 
     pub value-line : natAbs (toZ w64 (ofZ w64 value)) ≡ lineValue l r j (line .length)
     unfolding lineValue

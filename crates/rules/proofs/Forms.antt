@@ -26,7 +26,7 @@ pub data Filled : Outcome → Type 0 where
 
 -- of a slot: an unscaled value is at most 99,999,999
 pub data Form : Outcome → Type 0 where
-  unscaled : {o : Outcome} → Filled o → o .value ≤ 99999999 → Form o
+  unscaled : {o : Outcome} → Filled o → o .value ≤ 99_999_999 → Form o
   scaledLinear : (v : ℕ) → Form (record { value = v; quality = S; method = 18 })
   scaledSameDay : (v : ℕ) → Form (record { value = v; quality = S; method = 19 })
 

@@ -12,12 +12,12 @@ use lib.ListN.{getD}
 use Rattle.base.specs.Lists.{every}
 use Rattle.base.proofs.Logic.{either, passed}
 use Rattle.rules.specs.declared.Head.{Head}
-use Rattle.rules.specs.declared.fills.Fills.{Fills}
+use Rattle.rules.specs.declared.walk.Walk.{Walk}
 use Rattle.rules.specs.declared.linear.Line.{Line}
 use Rattle.rules.specs.Opening.{Slots, slotCount}
 use Rattle.rules.specs.Tests.{goodAt}
 use Rattle.rules.specs.Filling.{inRun, runBefore, runFrom, runLength, isLinear, lineValue, linearValue}
-use Rattle.rules.specs.Inner.Fills.{zeroAt, zeroBefore, bareLine, fullLine, lineThrough, lineAt, lineBefore, endTests, lengthWithin, Drawn, fillsAt}
+use Rattle.rules.specs.Inner.Walks.{zeroAt, zeroBefore, bareLine, fullLine, lineThrough, lineAt, lineBefore, endTests, lengthWithin, Drawn, walkAt}
 use Rattle.rules.proofs.Bounds.{Bounded, cap-high}
 use Rattle.rules.proofs.Runs.{before-low, before-none, before-on, from-on, place-within, start-kept, length-kept, linear-kept, start-first, length-first, linear-first, linear-tells}
 use Rattle.rules.proofs.Small.{good-small}
@@ -174,19 +174,19 @@ module _ (h : Head) (s : Slots) (v : List ℕ) where
   line-on i k = rw (add-one, add-suc)
 
 -- a pass at slot i
-module _ (h : Head) (s : Slots) (v : List ℕ) (p : Fills) (i : ℕ) (e : p ≡ fillsAt h s v i) where
-  pub fills-outage : (n : ℕ) → n ≡ slotCount h → p .outage ≡ zeroBefore (s .versions) (s .statuses) n i
-  unfolding fillsAt
-  fills-outage n l = rw l (ap (λ (q : Fills). q .outage) e)
+module _ (h : Head) (s : Slots) (v : List ℕ) (p : Walk) (i : ℕ) (e : p ≡ walkAt h s v i) where
+  pub walk-outage : (n : ℕ) → n ≡ slotCount h → p .outage ≡ zeroBefore (s .versions) (s .statuses) n i
+  unfolding walkAt
+  walk-outage n l = rw l (ap (λ (q : Walk). q .outage) e)
 
-  pub fills-line : p .line ≡ lineBefore h s v i
-  unfolding fillsAt
-  fills-line = ap (λ (q : Fills). q .line) e
+  pub walk-line : p .line ≡ lineBefore h s v i
+  unfolding walkAt
+  walk-line = ap (λ (q : Walk). q .line) e
 
-pub fills-next : (h : Head) (s : Slots) (v : List ℕ) (i : ℕ) (n : ℕ) → n ≡ slotCount h → (r : Bool) → r ≡ zeroAt (s .versions) (s .statuses) n i
-    → (p : Line) → p ≡ lineAt h s v i → record { at = i + 1; outage = r; line = p } ≡ fillsAt h s v (i + 1)
-unfolding fillsAt
-fills-next h s v i n l r q p w =
+pub walk-next : (h : Head) (s : Slots) (v : List ℕ) (i : ℕ) (n : ℕ) → n ≡ slotCount h → (r : Bool) → r ≡ zeroAt (s .versions) (s .statuses) n i
+    → (p : Line) → p ≡ lineAt h s v i → record { at = i + 1; outage = r; line = p } ≡ walkAt h s v (i + 1)
+unfolding walkAt
+walk-next h s v i n l r q p w =
     let z : zeroAt (s .versions) (s .statuses) n (i + 0) ≡ zeroBefore (s .versions) (s .statuses) n (i + 1) = zero-on (s .versions) (s .statuses) n i 0 in
     let y : lineAt h s v (i + 0) ≡ lineBefore h s v (i + 1) = line-on h s v i 0 in
     rw (q, w, ← l, ← z, ← y, add-zero)

@@ -12,7 +12,7 @@ use Rattle.rules.specs.declared.Head.{Head}
 use Rattle.rules.specs.declared.range.Range.{Range}
 use Rattle.rules.specs.declared.spans.Summary.{Summary}
 use Rattle.rules.specs.Opening.{Slots, Agreed, Cells, slotsPerDay}
-use Rattle.rules.specs.Spans.{leastIn, isNear, stateBy, filled, shape, start, slotsIn, G, range, R, actual, stateOf, T, allZero, e, E, P, spanOf, isS}
+use Rattle.rules.specs.Spans.{leastIn, isNear, stateBy, filled, shape, start, slotsIn, G, range, R, actualSum, stateOf, T, allZero, e, E, P, spanOf, isS}
 use Rattle.rules.specs.Lent.{cells}
 use Rattle.rules.specs.Inner.Summaries.{summaryOf, scalingOf}
 use Rattle.rules.specs.Inner.Stretches.{scalingAt, spanStretch, stretchBy}
@@ -35,16 +35,16 @@ module _ (h : Head) (b : Cells) (first last : ℕ) where
   weights false = sum-cong _ _ _ _ (λ i l m. shape-of-s h (b .slots) (b .agreed) (b .holidays) i)
 
   scaling-first : scalingOf whole (R h b first last) ≡ scalingAt h b first last (start h b first last)
-  unfolding scalingOf T actual allZero E e P summaryOf sum
+  unfolding scalingOf T actualSum allZero E e P summaryOf sum
   scaling-first = rw (sub-self, weights (allZero h b first last))
 
   module _ (m : Summary) (found : Range) (r state : ℕ) (p : m ≡ whole) (f : found ≡ range h b first last) (l : r ≡ leastIn found (m .actual)) (s : state ≡ stateBy (m .hole) (m .filled) found r (m .actual) (h .tolerance)) where
     q : r ≡ R h b first last
-    unfolding R actual summaryOf
+    unfolding R actualSum summaryOf
     q = l ∙ (rw (p, f))
 
     state-found : state ≡ stateOf h b first last
-    unfolding stateOf actual summaryOf
+    unfolding stateOf actualSum summaryOf
     state-found = s ∙ (rw (p, f, q))
 
     pub meet-span : record { first = first; last = last; lowest = found .lowest; highest = found .highest; state = state } ≡ spanOf h b first last
@@ -58,9 +58,9 @@ module _ (h : Head) (b : Cells) (first last : ℕ) where
 -- a span's figures rest on no register version
 module _ (h : Head) (s : Slots) (holidays readings v w : List ℕ) (agreed : Agreed) (widths : List ℕ) (first last : ℕ) where
   pub span-versions : spanOf h (cells s holidays readings v agreed widths) first last ≡ spanOf h (cells s holidays readings w agreed widths) first last
-  unfolding spanOf G range R stateOf actual start slotsIn
+  unfolding spanOf G range R stateOf actualSum start slotsIn
   span-versions = refl
 
   pub stretch-versions : (i : ℕ) → spanStretch h (cells s holidays readings v agreed widths) first last i ≡ spanStretch h (cells s holidays readings w agreed widths) first last i
-  unfolding spanStretch G range R stateOf actual start slotsIn T E allZero e P
+  unfolding spanStretch G range R stateOf actualSum start slotsIn T E allZero e P
   stretch-versions i = refl

@@ -15,7 +15,7 @@ use Rattle.rules.specs.declared.tests.Cause.the-variants.{Gap}
 use Rattle.rules.specs.Opening.{Slots, Agreed, slotCount}
 use Rattle.rules.specs.Tests.{isGap, outageBit, isGood, causeOf, causeAt, goodAt}
 use Rattle.rules.specs.Filling.{outageAt, outageBefore, outageAfter, isOutageZero, inRun, filledAt}
-use Rattle.rules.specs.Inner.Fills.{actualOf, zeroAt, zeroBefore}
+use Rattle.rules.specs.Inner.Walks.{actualOf, zeroAt, zeroBefore}
 use Rattle.rules.proofs.Runs.{run-unzeroed}
 
 module _ (v s : List ℕ) where

@@ -8,7 +8,7 @@ use Rattle.rules.specs.declared.Head.{Head}
 use Rattle.rules.specs.declared.Outcome.{Outcome}
 use Rattle.rules.specs.Opening.{Cells, slotsPerDay}
 use Rattle.rules.specs.Filling.{filledAt}
-use Rattle.rules.specs.Spans.{isScaled, start, slotsIn, G, range, R, actual, inSpan, spanOf, noSpan, outcomeAt, spans}
+use Rattle.rules.specs.Spans.{isScaled, start, slotsIn, G, range, R, actualSum, inSpan, spanOf, noSpan, outcomeAt, spans}
 use Rattle.rules.specs.Inner.Lent.{AgreedLow, WidthsLow}
 use Rattle.rules.proofs.Bounds.{Bounded}
 use Rattle.rules.proofs.Small.{filled-low}
@@ -31,13 +31,13 @@ module _ (h : Head) (b : Cells) (first last : ℕ) where
   -- R lies between them
   pub advance-within : (range h b first last .lowest ≤ R h b first last) × (R h b first last ≤ range h b first last .highest)
   unfolding R
-  advance-within = least-within (range h b first last) (actual h b first last) ends-ordered
+  advance-within = least-within (range h b first last) (actualSum h b first last) ends-ordered
 
-  pub highest-low : WidthsLow (b .widths) → range h b first last .highest ≤ 99999999
+  pub highest-low : WidthsLow (b .widths) → range h b first last .highest ≤ 99_999_999
   unfolding range G
   highest-low w = range-of-low _ _ _ (advance-below _ _) (w last)
 
-  pub advance-low : WidthsLow (b .widths) → R h b first last ≤ 99999999
+  pub advance-low : WidthsLow (b .widths) → R h b first last ≤ 99_999_999
   advance-low w = omega (arith, advance-within .1, highest-low w)
 
 filled-unscaled : {o : Outcome} → Filled o → isScaled (o .method) ≡ false
@@ -68,16 +68,16 @@ module _ (h : Head) (bounds : Bounded h) (b : Cells) where
         go outside = form
         go (inside s n l m) = span-form (s .first) (s .last)
 
-    span-fits : WidthsLow (b .widths) → (first last : ℕ) → i < start h b first last + slotsIn h b first last → inSpan h b first last i .value < 100000000
+    span-fits : WidthsLow (b .widths) → (first last : ℕ) → i < start h b first last + slotsIn h b first last → inSpan h b first last i .value < 100_000_000
     span-fits w first last l =
-        spanned-by (λ o. o .value < 100000000) h b first last i
+        spanned-by (λ o. o .value < 100_000_000) h b first last i
         (λ _. omega (arith, new-high h b first last i l, advance-low h b first last w))
         (omega (arith, filled-low h bounds (b .slots) (b .agreed) (b .holidays) i low))
 
-    pub outcome-fits : WidthsLow (b .widths) → outcomeAt h b i .value < 100000000
+    pub outcome-fits : WidthsLow (b .widths) → outcomeAt h b i .value < 100_000_000
     outcome-fits w = go (place h bounds b i)
       where
-        go : {o : Outcome} → Place h b i o → o .value < 100000000
+        go : {o : Outcome} → Place h b i o → o .value < 100_000_000
         go outside = omega (arith, filled-low h bounds (b .slots) (b .agreed) (b .holidays) i low)
         go (inside s n l m) = span-fits w (s .first) (s .last) (rw (span-end h b (s .first) (s .last) (omega (arith, n .ordered))) m)
 

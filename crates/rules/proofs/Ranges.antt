@@ -14,21 +14,21 @@ use Rattle.rules.specs.Spans.{advance, rangeOf, leastIn, isNear}
 abbrev pub apart : ℕ → ℕ → ℕ
 apart a v = (a - v) + (v - a)
 
-pub advance-below : (earlier later : ℕ) → advance earlier later < 100000000
+pub advance-below : (earlier later : ℕ) → advance earlier later < 100_000_000
 unfolding advance
 advance-below earlier later = omega arith
 
 module _ (g u v : ℕ) where
   pub range-of-ordered : rangeOf g u v .lowest ≤ rangeOf g u v .highest
   unfolding rangeOf
-  range-of-ordered = ⊎-elim (λ e. rw e (omega arith)) (λ e. rw e (omega arith)) (either (leb 100000000 (g + v)))
+  range-of-ordered = ⊎-elim (λ e. rw e (omega arith)) (λ e. rw e (omega arith)) (either (leb 100_000_000 (g + v)))
 
   -- an eight-digit dial goes round at most once
-  pub range-of-low : g < 100000000 → v ≤ 9999 → rangeOf g u v .highest ≤ 99999999
+  pub range-of-low : g < 100_000_000 → v ≤ 9999 → rangeOf g u v .highest ≤ 99_999_999
   unfolding rangeOf
   range-of-low l m =
-      ⊎-elim (λ e. rw e (omega arith)) (λ e. let n = leb-false 100000000 (g + v) e in rw e (omega arith))
-      (either (leb 100000000 (g + v)))
+      ⊎-elim (λ e. rw e (omega arith)) (λ e. let n = leb-false 100_000_000 (g + v) e in rw e (omega arith))
+      (either (leb 100_000_000 (g + v)))
 
 -- where v lies, by the advance
 data Least (range : Range) (v : ℕ) : ℕ → Type 0 where

@@ -12,23 +12,24 @@ use lib.ListN.{length, getD, take, set, length-set}
 use native.Mathlib.Nat.{le-refl, add-mul, mul-le-mul-right, add-mul-div-right, le-div-iff-mul-le, div-lt-iff-lt-mul}
 use lib.Seq.{take-suc-set, take-nil}
 use Rattle.base.proofs.Logic.{either}
+use Rattle.base.specs.Lists.{sumOf}
 use Rattle.rules.specs.declared.Head.{Head}
 use Rattle.rules.specs.declared.Quality.the-variants.{S, N}
 use Rattle.rules.specs.Opening.{Slots, slotsPerDay}
 use Rattle.rules.specs.Weeks.{firstBack, farthestBack, weeksWithin}
-use Rattle.rules.specs.Filling.{total, isReference, weekBack, weeksBack, references, meanOf, fromReferences}
+use Rattle.rules.specs.Filling.{isReference, weekBack, weeksBack, references, meanOf, fromReferences}
 use Rattle.rules.specs.Inner.Ways.{searched, InBook}
 use Rattle.rules.proofs.Bounds.{Bounded}
 
 -- one more element
-total-suc : (l : List ℕ) (i : ℕ) → total (take i l) + getD l i 0 ≡ total (take (suc i) l)
-unfolding total
+total-suc : (l : List ℕ) (i : ℕ) → sumOf (take i l) + getD l i 0 ≡ sumOf (take (suc i) l)
+unfolding sumOf
 total-suc [] zero = refl
 total-suc [] (suc i) = refl
 total-suc (x ∷ l) zero = omega arith
 total-suc (x ∷ l) (suc i) = omega (arith, total-suc l i)
 
-pub total-next : (l : List ℕ) (i sum : ℕ) → sum ≡ total (take i l) → sum + getD l i 0 ≡ total (take (i + 1) l)
+pub total-next : (l : List ℕ) (i sum : ℕ) → sum ≡ sumOf (take i l) → sum + getD l i 0 ≡ sumOf (take (i + 1) l)
 total-next l i sum e = rw (e, add-one) (total-suc l i)
 
 -- the weeks counted are exactly those that are not too far

@@ -14,7 +14,7 @@ use Rattle.rules.specs.declared.Head.{Head}
 use Rattle.rules.specs.Opening.{Slots, slotCount}
 use Rattle.rules.specs.Tests.{goodAt}
 use Rattle.rules.specs.Filling.{isOutageZero, isAgreed, inRun, runBefore, runFrom, runStart, runLength, lineTests, isLinear}
-use Rattle.rules.specs.Inner.Fills.{lengthWithin}
+use Rattle.rules.specs.Inner.Walks.{lengthWithin}
 
 -- what `isLinear` tells
 pub record Linear (h : Head) (s : Slots) (start g : ℕ) : Type 0 where

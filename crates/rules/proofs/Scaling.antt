@@ -9,7 +9,7 @@ use Rattle.base.proofs.Sums.{sum-cong, sum-grows, sum-place, any-place}
 use Rattle.rules.specs.declared.Head.{Head}
 use Rattle.rules.specs.declared.Outcome.{Outcome}
 use Rattle.rules.specs.Opening.{Cells}
-use Rattle.rules.specs.Spans.{isS, filled, shape, start, slotsIn, R, actual, T, allZero, e, E, C, P, newValue}
+use Rattle.rules.specs.Spans.{isS, filled, shape, start, slotsIn, R, actualSum, T, allZero, e, E, C, P, newValue}
 use Rattle.rules.proofs.Shapes.{shape-of-s}
 use Rattle.rules.proofs.Shares.{share-high, share-whole, telescope}
 
@@ -72,8 +72,8 @@ module _ (h : Head) (b : Cells) (first last : ℕ) where
           let n = not-all-zero z in
           omega arith
 
-  pub new-total : any (λ i. isS (before i .quality)) a k ≡ true → actual h b first last ≤ R h b first last
-      → actual h b first last + sum (newValue h b first last) a k ≡ R h b first last
+  pub new-total : any (λ i. isS (before i .quality)) a k ≡ true → actualSum h b first last ≤ R h b first last
+      → actualSum h b first last + sum (newValue h b first last) a k ≡ R h b first last
   unfolding newValue C P E T
   new-total t l =
       let p = shape-positive t in

@@ -10,12 +10,13 @@ use borrow.Author.Tests.{eqb-false}
 use lib.Dec.{eqb}
 use lib.ListN.{length, take}
 use Rattle.base.proofs.Logic.{either}
+use Rattle.base.specs.Lists.{sumOf}
 use Rattle.rules.specs.declared.Head.{Head}
 use Rattle.rules.specs.declared.Outcome.{Outcome}
 use Rattle.rules.specs.Opening.{Slots, Agreed, slotsPerDay}
 use Rattle.rules.specs.Tests.{goodAt}
 use Rattle.rules.specs.Weeks.{firstBack, farthestBack, weeksWithin}
-use Rattle.rules.specs.Filling.{weeksBack, references, total, fromReferences, filledAt, shapeOf, shapeAt}
+use Rattle.rules.specs.Filling.{weeksBack, references, fromReferences, filledAt, shapeOf, shapeAt}
 use Rattle.rules.specs.Inner.Summaries.{shapeIn}
 use Rattle.rules.proofs.Fillings.{filled-by}
 use Rattle.rules.proofs.Forms.{Filled, filled-form}
@@ -81,6 +82,6 @@ module _ (h : Head) (s : Slots) (a : Agreed) (holidays : List ℕ) (i : ℕ) whe
       (⊎-elim (λ t. rw t (λ e. absurd (omega arith))) (λ t. rw t (λ _. let n : length found ≡ 0 → ⊥ = eqb-false _ _ t in omega arith)) (either (eqb (length found) 0)))
 
   -- the shape of a same-day slot times the number of its references is 12 × their sum
-  pub same-day-whole : filledAt h s a holidays i .method ≡ 3 → shapeAt h s a holidays i * length found ≡ 12 * total found
+  pub same-day-whole : filledAt h s a holidays i .method ≡ 3 → shapeAt h s a holidays i * length found ≡ 12 * sumOf found
   unfolding shapeAt shapeOf
-  same-day-whole e = rw e (shape-whole (length found) (total found) (found-some e) found-few)
+  same-day-whole e = rw e (shape-whole (length found) (sumOf found) (found-some e) found-few)

@@ -12,7 +12,7 @@ use Rattle.base.proofs.Logic.{either}
 use Rattle.rules.specs.declared.Head.{Head}
 use Rattle.rules.specs.declared.range.Range.{Range}
 use Rattle.rules.specs.Opening.{Cells}
-use Rattle.rules.specs.Spans.{isS, isN, rangeOf, leastIn, isNear, stateBy, filled, start, slotsIn, G, range, actual, R, stateOf, spanOf}
+use Rattle.rules.specs.Spans.{isS, isN, rangeOf, leastIn, isNear, stateBy, filled, start, slotsIn, G, range, actualSum, R, stateOf, spanOf}
 use Rattle.rules.proofs.Ranges.{apart, advance-below}
 
 -- 01's state: 2 if a slot is N; else, if a slot is S, 1 when R ≥ V and 3 when R < V; else 0 when |R − V| ≤ t and 3 otherwise
@@ -23,10 +23,10 @@ dialState hasN hasS r v t = cond hasN 2 (cond hasS (cond (leb v r) 1 3) (cond (l
 abbrev only : ℕ → Range
 only g = record { lowest = g; highest = g }
 
-range-only : (g : ℕ) → g < 100000000 → rangeOf g 0 0 ≡ only g
+range-only : (g : ℕ) → g < 100_000_000 → rangeOf g 0 0 ≡ only g
 unfolding rangeOf
 range-only g l =
-    let e : leb 100000000 (g + 0) ≡ false = lt-leb 100000000 (g + 0) (omega arith) in
+    let e : leb 100_000_000 (g + 0) ≡ false = lt-leb 100_000_000 (g + 0) (omega arith) in
     let p : g - 0 ≡ g = omega arith in
     let q : g + 0 ≡ g = omega arith in
     rw e (λ t. record { lowest = p t; highest = q t })
@@ -67,18 +67,18 @@ module _ (h : Head) (b : Cells) (sharp : (d : ℕ) → getD (b .widths) d 0 ≡ 
 
   advance-sharp : R h b first last ≡ g
   unfolding R
-  advance-sharp = rw range-sharp (least-only g (actual h b first last))
+  advance-sharp = rw range-sharp (least-only g (actualSum h b first last))
 
   abbrev stateThen : ℕ
   stateThen =
       dialState
       (any (λ i. isN (filled h b first last i .quality)) (start h b first last) (slotsIn h b first last))
       (any (λ i. isS (filled h b first last i .quality)) (start h b first last) (slotsIn h b first last))
-      g (actual h b first last) (h .tolerance)
+      g (actualSum h b first last) (h .tolerance)
 
   state-sharp : stateOf h b first last ≡ stateThen
   unfolding stateOf
-  state-sharp = rw (advance-sharp, range-sharp) (state-only _ _ g (actual h b first last) (h .tolerance))
+  state-sharp = rw (advance-sharp, range-sharp) (state-only _ _ g (actualSum h b first last) (h .tolerance))
 
   -- R, lowest and highest are the advance of the readings, and the state is 01's
   pub sharp-dial : (R h b first last ≡ g) × (spanOf h b first last ≡ record { first = first; last = last; lowest = g; highest = g; state = stateThen })

@@ -10,12 +10,13 @@ use borrow.Author.Tests.{ltb-false}
 use lib.Dec.{leb, eqb}
 use lib.ListN.{length, getD, take}
 use Rattle.base.proofs.Logic.{and-parts, either}
+use Rattle.base.specs.Lists.{sumOf}
 use Rattle.rules.specs.declared.Head.{Head}
 use Rattle.rules.specs.declared.tests.Cause.the-variants.{Nothing, Gap, TimeChange, Partial, Demand}
 use Rattle.rules.specs.Opening.{Slots, Agreed, slotsPerDay}
 use Rattle.rules.specs.Tests.{isGood, timeChangeBit, partialBit, causeOf, causeAt, goodAt}
 use Rattle.rules.specs.Weeks.{firstBack, farthestBack, weeksWithin}
-use Rattle.rules.specs.Filling.{isReference, weekBack, weeksBack, references, total, meanOf, isLinear, linearValue, fromReferences, filledAt, shapeOf, shapeAt}
+use Rattle.rules.specs.Filling.{isReference, weekBack, weeksBack, references, meanOf, isLinear, linearValue, fromReferences, filledAt, shapeOf, shapeAt}
 use Rattle.rules.specs.Inner.Lent.{AgreedLow}
 use Rattle.rules.proofs.Bounds.{Bounded, cap, cap-high, good-cap}
 use Rattle.rules.proofs.Floors.{line-small}
@@ -48,8 +49,8 @@ small-join : (m : ℕ) (xs ys : List ℕ) → small m xs → small m ys → smal
 small-join m [] ys p q = q
 small-join m (x ∷ xs) ys p q = (p .0, small-join m xs ys (p .1) q)
 
-small-total : (m : ℕ) (xs : List ℕ) → small m xs → total xs ≤ length xs * m
-unfolding total
+small-total : (m : ℕ) (xs : List ℕ) → small m xs → sumOf xs ≤ length xs * m
+unfolding sumOf
 small-total m [] p = zero-le
 small-total m (x ∷ xs) p = rw (suc-mul (length xs) m, add-comm (length xs * m) m) (add-le-add (p .0) (small-total m xs (p .1)))
 
@@ -95,7 +96,7 @@ module _ (h : Head) (b : Bounded h) (s : Slots) where
     same-day-small : (xs : List ℕ) → small (cap h) xs → shapeOf (fromReferences xs) xs ≤ 12 * cap h
     unfolding fromReferences shapeOf
     same-day-small xs p =
-        let l : 12 * total xs ≤ length xs * (12 * cap h) = omega (arith, small-total (cap h) xs p) in
+        let l : 12 * sumOf xs ≤ length xs * (12 * cap h) = omega (arith, small-total (cap h) xs p) in
         ⊎-elim (λ e. rw e zero-le) (λ e. rw e (div-le-of-le-mul (length xs) l)) (either (eqb (length xs) 0))
 
     references-small : (i : ℕ) → small (cap h) (references h s holidays i)
@@ -113,7 +114,7 @@ module _ (h : Head) (b : Bounded h) (s : Slots) where
         filled-by (λ o. shapeOf o (references h s holidays i) ≤ 12 * cap h) h s a holidays i (λ _. zero-le) zero-le zero-le
         (λ g. mul-le-mul-left 12 (line-low (a .versions) i g)) (same-day-small holidays _ (references-small holidays i))
 
-    pub filled-low : AgreedLow a → filledAt h s a holidays i .value ≤ 99999999
+    pub filled-low : AgreedLow a → filledAt h s a holidays i .value ≤ 99_999_999
     filled-low low =
-        filled-by (λ o. o .value ≤ 99999999) h s a holidays i (λ g. omega (arith, good-small i g, cap-high h b)) (omega (arith, low i)) zero-le
+        filled-by (λ o. o .value ≤ 99_999_999) h s a holidays i (λ g. omega (arith, good-small i g, cap-high h b)) (omega (arith, low i)) zero-le
         (λ g. omega (arith, line-low (a .versions) i g, cap-high h b)) (omega (arith, mean-small holidays (references h s holidays i) (references-small holidays i), cap-high h b))

@@ -13,7 +13,7 @@ use Rattle.rules.specs.declared.Quality.the-variants.{S}
 use Rattle.rules.specs.declared.Span.{Span}
 use Rattle.rules.specs.Opening.{Cells}
 use Rattle.rules.specs.Inner.Lent.{WidthsLow}
-use Rattle.rules.specs.Spans.{isS, isN, actualIn, isScaled, isNear, stateBy, filled, start, slotsIn, range, R, actual, stateOf, newValue, inSpan, spanOf, outcomeAt}
+use Rattle.rules.specs.Spans.{isS, isN, actualIn, isScaled, isNear, stateBy, filled, start, slotsIn, range, R, actualSum, stateOf, newValue, inSpan, spanOf, outcomeAt}
 use Rattle.rules.proofs.Bounds.{Bounded}
 use Rattle.rules.proofs.Forms.{Filled, filled-form}
 use Rattle.rules.proofs.Forms.Filled.{delivered, agreed, outage, linear, sameDay, nothing}
@@ -66,10 +66,10 @@ module _ (h : Head) (b : Cells) (first last : ℕ) where
   state-is : Stated
       (any (λ i. isN (filled h b first last i .quality)) (start h b first last) (slotsIn h b first last))
       (any (λ i. isS (filled h b first last i .quality)) (start h b first last) (slotsIn h b first last))
-      (leb (actual h b first last) (R h b first last))
+      (leb (actualSum h b first last) (R h b first last))
       (stateOf h b first last)
   unfolding stateOf stateBy
-  state-is = stated _ _ _ (isNear (range h b first last) (actual h b first last) (h .tolerance))
+  state-is = stated _ _ _ (isNear (range h b first last) (actualSum h b first last) (h .tolerance))
 
   pub state-low : stateOf h b first last ≤ 3
   state-low = state-is .low
@@ -120,7 +120,7 @@ module _ (h : Head) (bounds : Bounded h) (b : Cells) (s : Span) (n : Neighbours 
   pub range-ordered : s .lowest ≤ s .highest
   range-ordered = omega (arith, lowest-same, highest-same, ends-ordered h b (s .first) (s .last))
 
-  pub range-low : WidthsLow (b .widths) → s .highest ≤ 99999999
+  pub range-low : WidthsLow (b .widths) → s .highest ≤ 99_999_999
   range-low w = omega (arith, highest-same, highest-low h b (s .first) (s .last) w)
 
   -- state 2 exactly when it has an N
@@ -145,7 +145,7 @@ module _ (h : Head) (bounds : Bounded h) (b : Cells) (s : Span) (n : Neighbours 
     yes-scaled : scaled ≡ true
     yes-scaled = eq-eqb _ 1 (sym state-same ∙ one)
 
-    has : (any (λ i. isS (before i .quality)) a k ≡ true) × (leb (actual h b (s .first) (s .last)) (R h b (s .first) (s .last)) ≡ true)
+    has : (any (λ i. isS (before i .quality)) a k ≡ true) × (leb (actualSum h b (s .first) (s .last)) (R h b (s .first) (s .last)) ≡ true)
     has = state-is h b (s .first) (s .last) .scaled-has yes-scaled
 
     -- and then every S in it is such
@@ -158,7 +158,7 @@ module _ (h : Head) (bounds : Bounded h) (b : Cells) (s : Span) (n : Neighbours 
 
     -- and its values sum to R
     pub scaled-sum : sum (λ i. outcomeAt h b i .value) a k ≡ R h b (s .first) (s .last)
-    unfolding actual
+    unfolding actualSum
     scaled-sum =
         sum-cong _ _ a k value-is
         ∙ sum-plus (λ i. actualIn (before i)) new a k

@@ -12,7 +12,7 @@ use Rattle.base.proofs.Sums.{sum-grows, any-some}
 use Rattle.rules.specs.declared.Head.{Head}
 use Rattle.rules.specs.declared.Outcome.{Outcome}
 use Rattle.rules.specs.declared.Quality.the-variants.{S}
-use Rattle.rules.specs.declared.fills.Filled.{Filled}
+use Rattle.rules.specs.declared.walk.Filled.{Filled}
 use Rattle.rules.specs.declared.stretch.Entered.{Entered}
 use Rattle.rules.specs.declared.stretch.Stretch.{Stretch}
 use Rattle.rules.specs.Opening.{Cells, slotsPerDay, slotCount}
@@ -20,8 +20,8 @@ use Rattle.rules.specs.Filling.{filledAt, shapeAt}
 use Rattle.rules.specs.Spans.{isS, lastRead, nextRead, filled, shape, start, slotsIn, stateOf, T, allZero, e, E, C, P, newValue, inSpan, between, outcomeAt}
 use Rattle.rules.specs.Inner.Lent.{WidthsLow}
 use Rattle.rules.specs.Inner.Summaries.{scaledBy, Scales}
-use Rattle.rules.specs.Inner.Stretches.{unscaledTo, scalingAt, spanStretch, stretchOf, stretchOn, stretchAt, carriedAt, scales, fitOutcome, fitNext, Fits, beginsAt}
-use Rattle.rules.specs.Inner.Fills.{fillsAt}
+use Rattle.rules.specs.Inner.Stretches.{unscaledTo, scalingAt, spanStretch, stretchOf, stretchOn, stretchAt, carriedAt, scales, fitOutcome, fitNext, Scalable, beginsAt}
+use Rattle.rules.specs.Inner.Walks.{walkAt}
 use Rattle.rules.specs.Inner.Passes.{passAt, settled, SteppedAt}
 use Rattle.rules.proofs.Bounds.{Bounded, cap, cap-low, shapes-all}
 use Rattle.rules.proofs.Boundaries.{last-tells, next-tells}
@@ -155,7 +155,7 @@ module _ (h : Head) (w : Bounded h) (b : Cells) (i : ℕ) where
         go false z v l = zero-le
 
     -- E fits, and with it the running sums
-    whole-high : first ≤ last → last ≤ h .days → E h b first last ≤ 115200000000
+    whole-high : first ≤ last → last ≤ h .days → E h b first last ≤ 115_200_000_000
     unfolding E start slotsIn
     whole-high l m =
         let n : (last - first) * slotsPerDay h ≤ slotCount h = omega (arith, slots-within h first last l m) in
@@ -181,10 +181,10 @@ module _ (h : Head) (w : Bounded h) (b : Cells) (i : ℕ) where
       }
 
   -- slot i itself
-  pub step-fits : WidthsLow (b .widths) → Fits (filledAt h (b .slots) (b .agreed) (b .holidays) i) (shapeAt h (b .slots) (b .agreed) (b .holidays) i) (stretchAt h b i)
+  pub step-fits : WidthsLow (b .widths) → Scalable (filledAt h (b .slots) (b .agreed) (b .holidays) i) (shapeAt h (b .slots) (b .agreed) (b .holidays) i) (stretchAt h b i)
   step-fits wide = record { method-low = method-low (filled-form h (b .slots) (b .agreed) (b .holidays) i); scales = scaled-well wide slot }
 
-  module _ (entered : Entered) (new : Filled) (begins : entered .begins ≡ beginsAt h b i) (here : entered .stretch ≡ stretchAt h b i) (outcome : new .outcome ≡ filledAt h (b .slots) (b .agreed) (b .holidays) i) (shaped : new .shape ≡ shapeAt h (b .slots) (b .agreed) (b .holidays) i) (next : new .next ≡ fillsAt h (b .slots) (b .agreed .versions) (i + 1)) where
+  module _ (entered : Entered) (new : Filled) (begins : entered .begins ≡ beginsAt h b i) (here : entered .stretch ≡ stretchAt h b i) (outcome : new .outcome ≡ filledAt h (b .slots) (b .agreed) (b .holidays) i) (shaped : new .shape ≡ shapeAt h (b .slots) (b .agreed) (b .holidays) i) (next : new .next ≡ walkAt h (b .slots) (b .agreed .versions) (i + 1)) where
     carried : fitNext (new .outcome) (new .shape) (entered .stretch) ≡ carriedAt h b (i + 1)
     carried = (λ t. fitNext (outcome t) (shaped t) (here t)) ∙ fit-next slot ∙ ap (carriedAt h b) (sym (add-one i))
 
@@ -193,5 +193,5 @@ module _ (h : Head) (w : Bounded h) (b : Cells) (i : ℕ) where
     step-done = record {
       outcome = (λ t. fitOutcome (outcome t) (shaped t) (here t)) ∙ fit-outcome slot;
       begins = begins;
-      next = λ t. record { fills = next t; stretch = carried t };
+      next = λ t. record { walk = next t; stretch = carried t };
     }

@@ -43,10 +43,10 @@ module _ (h : Head) (s : Slots) (agreed : Agreed) (holidays : List ℕ) (a k : �
   count-small = sum-small _ 1 (λ i. cond-small (isS (filledAt h s agreed holidays i .quality)) 1 1 (lit≤ tt)) a k
 
   module _ (b : Bounded h) where
-    actual-low : AgreedLow agreed → summaryOf h s agreed holidays a k .actual ≤ k * 99999999
+    actual-low : AgreedLow agreed → summaryOf h s agreed holidays a k .actual ≤ k * 99_999_999
     unfolding summaryOf
     actual-low low =
-        sum-small _ 99999999
+        sum-small _ 99_999_999
         (λ i. cond-small (isA (filledAt h s agreed holidays i .quality) || isF (filledAt h s agreed holidays i .quality)) _ _ (filled-low h b s agreed holidays i low)) a k
 
     shapes-low : summaryOf h s agreed holidays a k .shapes ≤ k * (12 * cap h)
@@ -55,7 +55,7 @@ module _ (h : Head) (s : Slots) (agreed : Agreed) (holidays : List ℕ) (a k : �
 
     -- there is room for one slot more, with shape x
     pub summary-fits : AgreedLow agreed → k ≤ slotCount h → (m : Summary) (x : ℕ) → m ≡ summaryOf h s agreed holidays a k → x ≡ shapeAt h s agreed holidays (a + k)
-        → (m .actual ≤ 11519999884800) × (m .shapes ≤ 115200000000) × (m .count ≤ 115200) × (x ≤ 6000000)
+        → (m .actual ≤ 11_519_999_884_800) × (m .shapes ≤ 115_200_000_000) × (m .count ≤ 115_200) × (x ≤ 6_000_000)
     summary-fits low l m x e f =
         let n = count-high h b in
         rw (e, f) (

@@ -5,13 +5,14 @@ use Prim.Native.Nat.{ℕ, zero, suc, _+_, _-_, _*_, _/_}
 use lib.Dec.{leb, ltb, eqb}
 use lib.IntN.{ℤ, pos, negsuc, natAbs, _+ℤ_, _-ℤ_, _*ℤ_}
 use lib.ListN.{getD, length, take}
-use Rattle.base.specs.Lists.{every}
+use Rattle.base.specs.Lists.{every, sumOf}
 use Rattle.rules.specs.declared.Head.{Head}
 use Rattle.rules.specs.declared.Outcome.{Outcome}
 use Rattle.rules.specs.declared.Quality.the-variants.{A, S, F, N}
 use Rattle.rules.specs.Opening.{Slots, Agreed, slotsPerDay, slotCount}
 use Rattle.rules.specs.Tests.{isGap, outageBit, goodAt}
 use Rattle.rules.specs.Weeks.{firstBack, farthestBack, weeksWithin}
+use Rattle.rules.specs.Numbers.{mostMinutes}
 
 -- 1. Outage zero: slot i is delivered with the outage bit
 unfoldable pub outageAt : List ℕ → List ℕ → ℕ → Bool
@@ -61,7 +62,7 @@ runLength h s agreed i = runBefore h s agreed i + runFrom h s agreed i (slotCoun
 -- g × L at most 120, with good l before and good r after
 abbrev pub lineTests : Head → Slots → ℕ → ℕ → List Bool
 lineTests h s start g =
-    leb (g * h .interval) 120
+    leb (g * h .interval) mostMinutes
     ∷ leb 1 start
     ∷ goodAt h s (start - 1)
     ∷ ltb (start + g) (slotCount h)
@@ -110,13 +111,9 @@ references h s holidays i =
     let first = firstBack h holidays d in
     take 4 (weeksBack h s holidays first i (weeksWithin first (farthestBack holidays d)))
 
-unfoldable pub total : List ℕ → ℕ
-total [] = 0
-total (x ∷ xs) = x + total xs
-
 -- their mean, rounded down
 unfoldable pub meanOf : List ℕ → ℕ
-meanOf xs = total xs / length xs
+meanOf xs = sumOf xs / length xs
 
 -- 3, and 4. None, when no reference exists
 unfoldable pub fromReferences : List ℕ → Outcome
@@ -133,9 +130,10 @@ filledAt h s a holidays i =
     (cond (isLinear h s (a .versions) i) (record { value = linearValue h s (a .versions) i; quality = S; method = 2 })
     (fromReferences (references h s holidays i)))))
 
--- the shape of a slot filled with these references at hand (02, W7): of a linear slot 12 × its value, of a same-day slot 12 × sum / number, which is whole; another slot has none
+-- the shape of a slot filled with these references at hand (02, W7): of a linear slot 12 × its value, of a same-day slot
+-- 12 × sum / number, which is whole; another slot has none
 unfoldable pub shapeOf : Outcome → List ℕ → ℕ
-shapeOf o xs = cond (eqb (o .method) 2) (12 * o .value) (cond (eqb (o .method) 3) (12 * total xs / length xs) 0)
+shapeOf o xs = cond (eqb (o .method) 2) (12 * o .value) (cond (eqb (o .method) 3) (12 * sumOf xs / length xs) 0)
 
 unfoldable pub shapeAt : Head → Slots → Agreed → List ℕ → ℕ → ℕ
 shapeAt h s a holidays i = shapeOf (filledAt h s a holidays i) (references h s holidays i)

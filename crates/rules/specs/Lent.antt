@@ -23,4 +23,5 @@ lentAgreed agreed agreedVersions = agreedLists (now agreed) (now agreedVersions)
 abbrev pub lentCells : RefT (List ℕ) → RefT (List ℕ) → RefT (List ℕ) → RefT (List ℕ) → RefT (List ℕ) → RefT (List ℕ) → RefT (List ℕ)
     → RefT (List ℕ) → RefT (List ℕ) → Cells
 lentCells values versions statuses holidays readings readVersions agreed agreedVersions widths =
-    cells (lentSlots values versions statuses) (now holidays) (now readings) (now readVersions) (lentAgreed agreed agreedVersions) (now widths)
+    cells (lentSlots values versions statuses) (now holidays) (now readings) (now readVersions)
+    (lentAgreed agreed agreedVersions) (now widths)

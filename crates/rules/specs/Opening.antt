@@ -4,8 +4,9 @@ use mathlib.Core.List.{List, [], _∷_}
 use Prim.Native.Nat.{ℕ, _+_, _*_, _/_}
 use lib.Dec.{leb, eqb}
 use Rattle.base.specs.Lists.{every}
-use Rattle.calendar.specs.Calendar.{dayNumber, isDate}
+use Rattle.calendar.specs.Calendar.{dayNumber, isDate, dayCount}
 use Rattle.rules.specs.declared.Head.{Head}
+use Rattle.rules.specs.Numbers.{mostDays, dayMinutes, mostLimit, mostTolerance}
 
 -- the day number of the first day
 unfoldable pub firstDay : Head → ℕ
@@ -14,13 +15,13 @@ firstDay h = dayNumber (h .year) (h .month) (h .day)
 unfoldable pub intervalOk : ℕ → Bool
 intervalOk interval = eqb interval 5 || (eqb interval 15 || eqb interval 30)
 
--- the last day is not after 2099-12-31, day 36,524
+-- the last day is not after 2099-12-31
 abbrev pub dayTests : Head → List Bool
 dayTests h =
     isDate (h .year) (h .month) (h .day)
     ∷ leb 1 (h .days)
-    ∷ leb (h .days) 400
-    ∷ leb (firstDay h + h .days) 36525
+    ∷ leb (h .days) mostDays
+    ∷ leb (firstDay h + h .days) dayCount
     ∷ []
 
 -- the demand limit is 1 to 1,000,000 W (02, W5)
@@ -29,8 +30,8 @@ headTests h =
     intervalOk (h .interval)
     ∷ every (dayTests h)
     ∷ leb 1 (h .limit)
-    ∷ leb (h .limit) 1000000
-    ∷ leb (h .tolerance) 1000000
+    ∷ leb (h .limit) mostLimit
+    ∷ leb (h .tolerance) mostTolerance
     ∷ []
 
 unfoldable pub headOk : Head → Bool
@@ -38,7 +39,7 @@ headOk h = every (headTests h)
 
 -- n: slots a day
 unfoldable pub slotsPerDay : Head → ℕ
-slotsPerDay h = 1440 / h .interval
+slotsPerDay h = dayMinutes / h .interval
 
 -- N = n × D: slots of the book
 unfoldable pub slotCount : Head → ℕ

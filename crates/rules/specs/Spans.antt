@@ -6,6 +6,7 @@ use Prim.Native.Nat.{ℕ, zero, suc, _+_, _-_, _*_, _/_, _%_}
 use lib.Dec.{leb, eqb}
 use lib.ListN.{getD}
 use Rattle.base.specs.Lists.{sum, any, upTo}
+use Rattle.base.specs.Numbers.{dialModulus}
 use Rattle.rules.specs.declared.Head.{Head}
 use Rattle.rules.specs.declared.Outcome.{Outcome}
 use Rattle.rules.specs.declared.Quality.{Quality}
@@ -63,13 +64,14 @@ nextRead readVersions d (suc k) = cond (isRead readVersions d) (some d) (nextRea
 
 -- (later reading − earlier reading) mod 100,000,000, for readings of an eight-digit dial
 unfoldable pub advance : ℕ → ℕ → ℕ
-advance earlier later = (later + 100000000 - earlier) % 100000000
+advance earlier later = (later + dialModulus - earlier) % dialModulus
 
--- with G the advance of two readings, u the earlier one's width and v the later one's, the advance lies from the larger of 0 and G − u to G + v, or, where G + v is 100,000,000 or more, from 0 to G + v − 100,000,000 (02, W10)
+-- with G the advance of two readings, u the earlier one's width and v the later one's, the advance lies from the larger of 0 and
+-- G − u to G + v, or, where G + v is 100,000,000 or more, from 0 to G + v − 100,000,000 (02, W10)
 unfoldable pub rangeOf : ℕ → ℕ → ℕ → Range
 rangeOf g u v =
-    cond (leb 100000000 (g + v))
-    (record { lowest = 0; highest = g + v - 100000000 })
+    cond (leb dialModulus (g + v))
+    (record { lowest = 0; highest = g + v - dialModulus })
     (record { lowest = g - u; highest = g + v })
 
 -- the least advance in the range that is at least v; if there is none, the highest (02, W10)
@@ -81,7 +83,8 @@ leastIn range v =
 unfoldable pub isNear : Range → ℕ → ℕ → Bool
 isNear range v t = leb (range .lowest - v) t && leb (v - range .highest) t
 
--- 2 (open) if a slot is N; else, if a slot is S, 1 (scaled) when R ≥ V and 3 (disagrees) when R < V; else 0 when some advance in the range is within t of V and 3 otherwise
+-- 2 (open) if a slot is N; else, if a slot is S, 1 (scaled) when R ≥ V and 3 (disagrees) when R < V; else 0 when some advance in
+-- the range is within t of V and 3 otherwise
 unfoldable pub stateBy : Bool → Bool → Range → ℕ → ℕ → ℕ → ℕ
 stateBy hasN hasS range r v t = cond hasN 2 (cond hasS (cond (leb v r) 1 3) (cond (isNear range v t) 0 3))
 
@@ -114,19 +117,19 @@ module _ (h : Head) (b : Cells) (first last : ℕ) where
   range = rangeOf G (getD (b .widths) first 0) (getD (b .widths) last 0)
 
   -- V, the sum of its A and F slots
-  unfoldable pub actual : ℕ
-  actual = sum (λ i. actualIn (filled i)) start slotsIn
+  unfoldable pub actualSum : ℕ
+  actualSum = sum (λ i. actualIn (filled i)) start slotsIn
 
   unfoldable pub R : ℕ
-  R = leastIn range actual
+  R = leastIn range actualSum
 
   unfoldable pub stateOf : ℕ
   stateOf =
       stateBy (any (λ i. isN (filled i .quality)) start slotsIn) (any (λ i. isS (filled i .quality)) start slotsIn)
-      range R actual (h .tolerance)
+      range R actualSum (h .tolerance)
 
   unfoldable pub T : ℕ
-  T = R - actual
+  T = R - actualSum
 
   -- the shapes are all 0
   unfoldable pub allZero : Bool

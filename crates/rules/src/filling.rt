@@ -11,12 +11,13 @@ ghost use mathlib.Core.Bool.{false};
 ghost use mathlib.Core.Path.{_≡_};
 ghost use Prim.Native.Nat.{_+_, _*_, _/_, _<_, _≤_};
 ghost use lib.ListN.{take};
+ghost use Rattle.base.specs.Lists.{sumOf};
 ghost use Rattle.rules.specs.Opening.{slotsPerDay, slotCount};
 ghost use Rattle.rules.specs.Tests.{goodAt};
-ghost use Rattle.rules.specs.Filling.{isReference, references, total, meanOf, fromReferences, isOutageZero, filledAt, shapeOf, shapeAt};
+ghost use Rattle.rules.specs.Filling.{isReference, references, meanOf, fromReferences, isOutageZero, filledAt, shapeOf, shapeAt};
 ghost use Rattle.rules.specs.Lent.{lentSlots, lentAgreed};
 ghost use Rattle.rules.specs.Inner.Lent.{Lent, Settled};
-ghost use Rattle.rules.specs.Inner.Fills.{actualOf, agreedOf, lineAt, lineBefore};
+ghost use Rattle.rules.specs.Inner.Walks.{actualOf, agreedOf, lineAt, lineBefore};
 
 // Up to four values of the same position on earlier weeks, nearest first.
 pub struct References {
@@ -45,7 +46,7 @@ pub struct Lined {
 }
 
 // Slot `at`, of day `day`, can be a reference.
-fn is_reference(
+pub fn is_reference(
     head: Head,
     values: &[u32],
     versions: &[u32],
@@ -76,7 +77,10 @@ pub fn find_references(
     slot: usize,
 ) -> References
     requires { ⌜ Lent head (lentSlots values versions statuses) (now holidays) × (slot < slotCount head) ⌝ }
-    ensures { λ r. ⌜ (r .count ≤ 4) × (take (r .count) (r .values) ≡ references head (lentSlots (values .entry) (versions .entry) (statuses .entry)) (now (holidays .entry)) slot) ⌝ }
+    ensures { λ r. ⌜
+        (let s = lentSlots (values .entry) (versions .entry) (statuses .entry) in
+        (r .count ≤ 4) × (take (r .count) (r .values) ≡ references head s (now (holidays .entry)) slot))
+        ⌝ }
 {
     let n = opening::slots_per_day(head);
     let week = 7 * n;
@@ -114,7 +118,13 @@ pub fn find_references(
 // The mean of the references, with its remainder and their number.
 pub fn mean_of(found: References) -> Mean
     requires { ⌜ (1 ≤ found .count) × (found .count ≤ 4) ⌝ }
-    ensures { λ r. ⌜ (r .mean ≡ meanOf (take (found .count) (found .values))) × (r .number ≡ found .count) × (r .mean * r .number + r .remainder ≡ total (take (found .count) (found .values))) × (r .remainder < r .number) ⌝ }
+    ensures { λ r. ⌜
+        (let xs = take (found .count) (found .values) in
+        (r .mean ≡ meanOf xs)
+        × (r .number ≡ found .count)
+        × (r .mean * r .number + r .remainder ≡ sumOf xs)
+        × (r .remainder < r .number))
+        ⌝ }
 {
     let values = found.values;
     let count = found.count;
@@ -163,7 +173,10 @@ fn same_day(
     at: usize,
 ) -> Shaped
     requires { ⌜ Lent head (lentSlots values versions statuses) (now holidays) × (at < slotCount head) ⌝ }
-    ensures { λ r. ⌜ (r .outcome ≡ fromReferences (references head (lentSlots (values .entry) (versions .entry) (statuses .entry)) (now (holidays .entry)) at)) × (r .shape ≡ shapeOf (r .outcome) (references head (lentSlots (values .entry) (versions .entry) (statuses .entry)) (now (holidays .entry)) at)) ⌝ }
+    ensures { λ r. ⌜
+        (let xs = references head (lentSlots (values .entry) (versions .entry) (statuses .entry)) (now (holidays .entry)) at in
+        (r .outcome ≡ fromReferences xs) × (r .shape ≡ shapeOf (r .outcome) xs))
+        ⌝ }
 {
     let found = find_references(head, values, versions, statuses, holidays, at);
     if found.count == 0 {
@@ -208,7 +221,8 @@ fn by_agreement(value: u32) -> Outcome
     }
 }
 
-// The outcome before scaling of slot `at`, which has a cause, and its shape; `outage` says whether outage zero applies, `line` which line it lies on.
+// The outcome before scaling of slot `at`, which has a cause, and its shape; `outage` says whether outage zero applies, `line`
+// which line it lies on.
 fn unscaled(
     head: Head,
     values: &[u32],
@@ -221,8 +235,21 @@ fn unscaled(
     outage: bool,
     line: Line,
 ) -> Shaped
-    requires { ⌜ Lent head (lentSlots values versions statuses) (now holidays) × Settled head (lentAgreed agreed «agreed_versions») × (at < slotCount head) × (goodAt head (lentSlots values versions statuses) at ≡ false) × (outage ≡ isOutageZero head (lentSlots values versions statuses) at) × (line ≡ lineAt head (lentSlots values versions statuses) (now «agreed_versions») at) ⌝ }
-    ensures { λ r. ⌜ (r .outcome ≡ filledAt head (lentSlots (values .entry) (versions .entry) (statuses .entry)) (lentAgreed (agreed .entry) («agreed_versions» .entry)) (now (holidays .entry)) at) × (r .shape ≡ shapeAt head (lentSlots (values .entry) (versions .entry) (statuses .entry)) (lentAgreed (agreed .entry) («agreed_versions» .entry)) (now (holidays .entry)) at) ⌝ }
+    requires { ⌜
+        (let s = lentSlots values versions statuses in
+        Lent head s (now holidays)
+        × Settled head (lentAgreed agreed «agreed_versions»)
+        × (at < slotCount head)
+        × (goodAt head s at ≡ false)
+        × (outage ≡ isOutageZero head s at)
+        × (line ≡ lineAt head s (now «agreed_versions») at))
+        ⌝ }
+    ensures { λ r. ⌜
+        (let s = lentSlots (values .entry) (versions .entry) (statuses .entry) in
+        let a = lentAgreed (agreed .entry) («agreed_versions» .entry) in
+        (r .outcome ≡ filledAt head s a (now (holidays .entry)) at)
+        × (r .shape ≡ shapeAt head s a (now (holidays .entry)) at))
+        ⌝ }
 {
     if 0 < agreed_versions[at] {
         return unshaped(by_agreement(agreed[at]));
@@ -263,8 +290,22 @@ pub fn fill_cause(
     outage: bool,
     before: Line,
 ) -> Lined
-    requires { ⌜ Lent head (lentSlots values versions statuses) (now holidays) × Settled head (lentAgreed agreed «agreed_versions») × (at < slotCount head) × (goodAt head (lentSlots values versions statuses) at ≡ false) × (outage ≡ isOutageZero head (lentSlots values versions statuses) at) × (before ≡ lineBefore head (lentSlots values versions statuses) (now «agreed_versions») at) ⌝ }
-    ensures { λ r. ⌜ (r .outcome ≡ filledAt head (lentSlots (values .entry) (versions .entry) (statuses .entry)) (lentAgreed (agreed .entry) («agreed_versions» .entry)) (now (holidays .entry)) at) × (r .shape ≡ shapeAt head (lentSlots (values .entry) (versions .entry) (statuses .entry)) (lentAgreed (agreed .entry) («agreed_versions» .entry)) (now (holidays .entry)) at) × (r .line ≡ lineAt head (lentSlots (values .entry) (versions .entry) (statuses .entry)) (now («agreed_versions» .entry)) at) ⌝ }
+    requires { ⌜
+        (let s = lentSlots values versions statuses in
+        Lent head s (now holidays)
+        × Settled head (lentAgreed agreed «agreed_versions»)
+        × (at < slotCount head)
+        × (goodAt head s at ≡ false)
+        × (outage ≡ isOutageZero head s at)
+        × (before ≡ lineBefore head s (now «agreed_versions») at))
+        ⌝ }
+    ensures { λ r. ⌜
+        (let s = lentSlots (values .entry) (versions .entry) (statuses .entry) in
+        let a = lentAgreed (agreed .entry) («agreed_versions» .entry) in
+        (r .outcome ≡ filledAt head s a (now (holidays .entry)) at)
+        × (r .shape ≡ shapeAt head s a (now (holidays .entry)) at)
+        × (r .line ≡ lineAt head s (a .versions) at))
+        ⌝ }
 {
     let line = linear::line_on(
         head,

@@ -1,18 +1,33 @@
 // The rules of document 01: opening bounds, tests of a slot, filling, spans.
 pub mod filling;
-pub mod fills;
 pub mod limits;
 pub mod linear;
 pub mod opening;
+pub mod outage;
 pub mod pass;
 pub mod range;
 pub mod readings;
 pub mod spans;
 pub mod stretch;
 pub mod tests;
+pub mod walk;
 pub mod weeks;
 
-// The five figures of a book's opening, which every later call is given; the first day is three of these fields, and the demand limit stands in the kind's stead.
+// The bounds of a book.
+pub const MOST_DAYS: u32 = 400;
+
+pub const DAY_MINUTES: u32 = 1440;
+
+pub const MOST_TOLERANCE: u32 = 1_000_000;
+
+pub const MOST_LIMIT: u32 = 1_000_000;
+
+pub const MOST_MINUTES: u32 = 120;
+
+pub const MOST_WIDTH: u32 = 9999;
+
+// The five figures of a book's opening, which every later call is given; the first day is three of these fields, and the demand
+// limit stands in the kind's stead.
 pub struct Head {
     pub year: u32,
     pub month: u32,

@@ -1,8 +1,9 @@
 // The harbour's table of demand limits (02, W5).
+use crate::MOST_LIMIT;
 ghost use mathlib.Core.Path.{_≡_};
 ghost use lib.ListN.{length};
-ghost use Rattle.base.specs.Lists.{any};
-ghost use Rattle.rules.specs.Limits.{breaksAt, tableOk, loadAnswer};
+ghost use Rattle.base.specs.Lists.{all};
+ghost use Rattle.rules.specs.Limits.{risesAt, tableOk, loadAnswer};
 
 // The demand limit in W, or the refusal's number.
 pub enum Loaded {
@@ -10,24 +11,24 @@ pub enum Loaded {
     Refused(u8),
 }
 
-// A limit is not above the one before, or over 1,000,000.
-fn is_broken(table: &[u32]) -> bool
-    ensures { λ r. ⌜ r ≡ any (breaksAt (now (table .entry))) 0 (length (now (table .entry))) ⌝ }
+// Each limit is above the one before, and none over 1,000,000.
+fn is_rising(table: &[u32]) -> bool
+    ensures { λ r. ⌜ r ≡ all (risesAt (now (table .entry))) 0 (length (now (table .entry))) ⌝ }
 {
     let mut last = 0;
     let mut i = 0;
     while i < table.len() {
         let limit = table[i];
         if limit <= last {
-            return true;
+            return false;
         }
-        if 1000000 < limit {
-            return true;
+        if MOST_LIMIT < limit {
+            return false;
         }
         last = limit;
         i += 1;
     }
-    false
+    true
 }
 
 fn table_ok(table: &[u32]) -> bool
@@ -39,7 +40,7 @@ fn table_ok(table: &[u32]) -> bool
     if 24 < table.len() {
         return false;
     }
-    !is_broken(table)
+    is_rising(table)
 }
 
 // The limit at a place of the table, counted from 1.

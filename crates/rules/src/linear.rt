@@ -1,6 +1,7 @@
 // A run of slots that a straight line may fill (02, W2).
 use crate::Head;
-use crate::fills;
+use crate::MOST_MINUTES;
+use crate::outage;
 use crate::tests;
 ghost use mathlib.Core.Bool.{true, false};
 ghost use mathlib.Core.Path.{_≡_};
@@ -11,9 +12,10 @@ ghost use Rattle.rules.specs.Tests.{goodAt};
 ghost use Rattle.rules.specs.Filling.{isOutageZero, inRun, runBefore, floorOver, lineValue};
 ghost use Rattle.rules.specs.Lent.{lentSlots};
 ghost use Rattle.rules.specs.Inner.Lent.{Fitted};
-ghost use Rattle.rules.specs.Inner.Fills.{bareLine, lineAt, lineBefore, lengthWithin, Drawn};
+ghost use Rattle.rules.specs.Inner.Walks.{bareLine, lineAt, lineBefore, lengthWithin, Drawn};
 
-// A slot's place j in its run and, where the line fills the run, its length g and the values l and r beside it; a slot in no run has place 0.
+// A slot's place j in its run and, where the line fills the run, its length g and the values l and r beside it; a slot in no run
+// has place 0.
 pub struct Line {
     pub place: u32,
     pub length: u32,
@@ -66,10 +68,19 @@ fn length_within(
     agreed_versions: &[u32],
     at: usize,
 ) -> usize
-    requires { ⌜ Fitted head (lentSlots values versions statuses) × (length (now «agreed_versions») ≡ slotCount head) × (at < slotCount head) × (inRun head (lentSlots values versions statuses) (now «agreed_versions») at ≡ true) ⌝ }
-    ensures { λ r. ⌜ r ≡ lengthWithin head (lentSlots (values .entry) (versions .entry) (statuses .entry)) (now («agreed_versions» .entry)) at ⌝ }
+    requires { ⌜
+        (let s = lentSlots values versions statuses in
+        Fitted head s
+        × (length (now «agreed_versions») ≡ slotCount head)
+        × (at < slotCount head)
+        × (inRun head s (now «agreed_versions») at ≡ true))
+        ⌝ }
+    ensures { λ r. ⌜
+        (let s = lentSlots (values .entry) (versions .entry) (statuses .entry) in
+        r ≡ lengthWithin head s (now («agreed_versions» .entry)) at)
+        ⌝ }
 {
-    let most = (120 / head.interval) as usize;
+    let most = (MOST_MINUTES / head.interval) as usize;
     let mut k: usize = 1;
     while k <= most {
         let next = at + k;
@@ -83,7 +94,7 @@ fn length_within(
             return 0;
         }
         // the slot before lies in the run, so it is not zeroed
-        if fills::outage_zero(versions, statuses, next, false) {
+        if outage::outage_zero(versions, statuses, next, false) {
             return 0;
         }
         k += 1;
@@ -100,8 +111,18 @@ fn begin(
     agreed_versions: &[u32],
     at: usize,
 ) -> Line
-    requires { ⌜ Fitted head (lentSlots values versions statuses) × (length (now «agreed_versions») ≡ slotCount head) × (at < slotCount head) × (inRun head (lentSlots values versions statuses) (now «agreed_versions») at ≡ true) × (runBefore head (lentSlots values versions statuses) (now «agreed_versions») at ≡ 0) ⌝ }
-    ensures { λ r. ⌜ r ≡ lineAt head (lentSlots (values .entry) (versions .entry) (statuses .entry)) (now («agreed_versions» .entry)) at ⌝ }
+    requires { ⌜
+        (let s = lentSlots values versions statuses in
+        Fitted head s
+        × (length (now «agreed_versions») ≡ slotCount head)
+        × (at < slotCount head)
+        × (inRun head s (now «agreed_versions») at ≡ true)
+        × (runBefore head s (now «agreed_versions») at ≡ 0))
+        ⌝ }
+    ensures { λ r. ⌜
+        (let s = lentSlots (values .entry) (versions .entry) (statuses .entry) in
+        r ≡ lineAt head s (now («agreed_versions» .entry)) at)
+        ⌝ }
 {
     if at < 1 {
         return bare(1);
@@ -134,8 +155,19 @@ pub fn line_on(
     outage: bool,
     before: Line,
 ) -> Line
-    requires { ⌜ Fitted head (lentSlots values versions statuses) × (length (now «agreed_versions») ≡ slotCount head) × (at < slotCount head) × (goodAt head (lentSlots values versions statuses) at ≡ false) × (outage ≡ isOutageZero head (lentSlots values versions statuses) at) × (before ≡ lineBefore head (lentSlots values versions statuses) (now «agreed_versions») at) ⌝ }
-    ensures { λ r. ⌜ r ≡ lineAt head (lentSlots (values .entry) (versions .entry) (statuses .entry)) (now («agreed_versions» .entry)) at ⌝ }
+    requires { ⌜
+        (let s = lentSlots values versions statuses in
+        Fitted head s
+        × (length (now «agreed_versions») ≡ slotCount head)
+        × (at < slotCount head)
+        × (goodAt head s at ≡ false)
+        × (outage ≡ isOutageZero head s at)
+        × (before ≡ lineBefore head s (now «agreed_versions») at))
+        ⌝ }
+    ensures { λ r. ⌜
+        (let s = lentSlots (values .entry) (versions .entry) (statuses .entry) in
+        r ≡ lineAt head s (now («agreed_versions» .entry)) at)
+        ⌝ }
 {
     if 0 < agreed_versions[at] {
         return bare(0);

@@ -1,5 +1,10 @@
 // The bounds of a head and the figures that follow from it (01, Opening).
+use crate::DAY_MINUTES;
 use crate::Head;
+use crate::MOST_DAYS;
+use crate::MOST_LIMIT;
+use crate::MOST_TOLERANCE;
+use calendar::DAY_COUNT;
 ghost use mathlib.Core.Path.{_≡_};
 ghost use mathlib.Core.Bool.{true};
 ghost use Rattle.base.specs.Lists.{every};
@@ -27,10 +32,10 @@ fn are_days(head: Head) -> bool
     if head.days < 1 {
         return false;
     }
-    if 400 < head.days {
+    if MOST_DAYS < head.days {
         return false;
     }
-    calendar::day_number(head.year, head.month, head.day) + head.days <= 36525
+    calendar::day_number(head.year, head.month, head.day) + head.days <= DAY_COUNT
 }
 
 // The head is within its bounds.
@@ -46,10 +51,10 @@ pub fn head_ok(head: Head) -> bool
     if head.limit < 1 {
         return false;
     }
-    if 1000000 < head.limit {
+    if MOST_LIMIT < head.limit {
         return false;
     }
-    head.tolerance <= 1000000
+    head.tolerance <= MOST_TOLERANCE
 }
 
 // The day number of the first day.
@@ -65,7 +70,7 @@ pub fn slots_per_day(head: Head) -> usize
     requires { ⌜ headOk head ≡ true ⌝ }
     ensures { λ r. ⌜ r ≡ slotsPerDay head ⌝ }
 {
-    (1440 / head.interval) as usize
+    (DAY_MINUTES / head.interval) as usize
 }
 
 // Slots of the book.

@@ -1,26 +1,26 @@
 // The pass over the slots from slot 0 upward: the outcome of each, and the span that begins at it.
 use crate::Head;
 use crate::Outcome;
-use crate::fills;
-use crate::fills::Filled;
-use crate::fills::Fills;
 use crate::linear;
 use crate::stretch;
 use crate::stretch::Begins;
 use crate::stretch::Entered;
 use crate::stretch::Stretch;
+use crate::walk;
+use crate::walk::Filled;
+use crate::walk::Walk;
 ghost use mathlib.Core.Path.{_≡_};
 ghost use Prim.Native.Nat.{_<_};
 ghost use Rattle.rules.specs.declared.Head.{Head};
 ghost use Rattle.rules.specs.Opening.{Cells, slotCount};
 ghost use Rattle.rules.specs.Lent.{lentCells};
 ghost use Rattle.rules.specs.Inner.Lent.{Whole};
-ghost use Rattle.rules.specs.Inner.Stretches.{Fits};
+ghost use Rattle.rules.specs.Inner.Stretches.{Scalable};
 ghost use Rattle.rules.specs.Inner.Passes.{passAt, settled, SteppedAt};
 
 // What is known before a slot: of the runs that the slot before it lies in, and of its stretch.
 pub struct Pass {
-    pub fills: Fills,
+    pub walk: Walk,
     pub stretch: Stretch,
 }
 
@@ -34,20 +34,20 @@ pub struct Stepped {
 pub fn first() -> Pass
     ensures { λ r. ⌜ ((h : Head) (b : Cells) → r ≡ passAt h b 0) ⌝ }
 {
-    let fills = Fills {
+    let walk = Walk {
         at: 0,
         outage: false,
         line: linear::bare(0),
     };
     Pass {
-        fills: fills,
+        walk: walk,
         stretch: stretch::unscaled_to(0),
     }
 }
 
 // A filled slot in the stretch that it lies in.
 fn settle(entered: Entered, filled: Filled) -> Stepped
-    requires { ⌜ Fits (filled .outcome) (filled .shape) (entered .stretch) ⌝ }
+    requires { ⌜ Scalable (filled .outcome) (filled .shape) (entered .stretch) ⌝ }
     ensures { λ r. ⌜ r ≡ settled entered filled ⌝ }
 {
     let begins = entered.begins;
@@ -58,7 +58,7 @@ fn settle(entered: Entered, filled: Filled) -> Stepped
     let on = filled.next;
     let carry = fitting.next;
     let next = Pass {
-        fills: on,
+        walk: on,
         stretch: carry,
     };
     Stepped {
@@ -82,10 +82,17 @@ pub fn step(
     widths: &[u16],
     pass: Pass,
 ) -> Stepped
-    requires { ⌜ Whole head (lentCells values versions statuses holidays readings reads agreed «agreed_versions» widths) × (pass .fills .at < slotCount head) × (pass ≡ passAt head (lentCells values versions statuses holidays readings reads agreed «agreed_versions» widths) (pass .fills .at)) ⌝ }
-    ensures { λ r. ⌜ SteppedAt head (lentCells (values .entry) (versions .entry) (statuses .entry) (holidays .entry) (readings .entry) (reads .entry) (agreed .entry) («agreed_versions» .entry) (widths .entry)) (pass .fills .at) r ⌝ }
+    requires { ⌜
+        (let b = lentCells values versions statuses holidays readings reads agreed «agreed_versions» widths in
+        Whole head b × (pass .walk .at < slotCount head) × (pass ≡ passAt head b (pass .walk .at)))
+        ⌝ }
+    ensures { λ r. ⌜
+        (let b = lentCells (values .entry) (versions .entry) (statuses .entry) (holidays .entry) (readings .entry) (reads .entry)
+        (agreed .entry) («agreed_versions» .entry) (widths .entry) in
+        SteppedAt head b (pass .walk .at) r)
+        ⌝ }
 {
-    let fills = pass.fills;
+    let walk = pass.walk;
     let carried = pass.stretch;
     let entered = stretch::enter(
         head,
@@ -98,10 +105,10 @@ pub fn step(
         agreed,
         agreed_versions,
         widths,
-        fills,
+        walk,
         carried,
     );
-    let filled = fills::fill(
+    let filled = walk::fill(
         head,
         values,
         versions,
@@ -109,7 +116,7 @@ pub fn step(
         holidays,
         agreed,
         agreed_versions,
-        fills,
+        walk,
     );
     settle(entered, filled)
 }

@@ -1,6 +1,8 @@
 // Where the advance of a dial lies whose readings have widths, and the advance that a span is held to (02, W10).
+use base::DIAL_MODULUS;
 ghost use mathlib.Core.Path.{_≡_};
 ghost use Prim.Native.Nat.{_-_, _<_};
+ghost use Rattle.base.specs.Numbers.{dialModulus};
 ghost use Rattle.rules.specs.Spans.{rangeOf, leastIn, isNear};
 
 pub struct Range {
@@ -10,15 +12,15 @@ pub struct Range {
 
 // With `g` the advance of two readings, `u` the earlier one's width and `v` the later one's.
 pub fn range_of(g: u32, u: u16, v: u16) -> Range
-    requires { ⌜ g < 100000000 ⌝ }
+    requires { ⌜ g < dialModulus ⌝ }
     ensures { λ r. ⌜ r ≡ rangeOf g u v ⌝ }
 {
     let down = u as u32;
     let highest = g + (v as u32);
-    if highest >= 100000000 {
+    if highest >= DIAL_MODULUS {
         return Range {
             lowest: 0,
-            highest: highest - 100000000,
+            highest: highest - DIAL_MODULUS,
         };
     }
     if g <= down {

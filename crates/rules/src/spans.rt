@@ -3,19 +3,21 @@ use crate::Head;
 use crate::Outcome;
 use crate::Quality;
 use crate::filling;
-use crate::fills;
-use crate::fills::Fills;
 use crate::linear;
+use crate::outage;
 use crate::range;
 use crate::range::Range;
 use crate::tests;
+use crate::walk::Walk;
+use base::DIAL_MODULUS;
 ghost use mathlib.Core.Path.{_≡_};
 ghost use Prim.Native.Nat.{_+_, _-_, _^_, _<_, _≤_};
+ghost use Rattle.base.specs.Numbers.{dialModulus};
 ghost use Rattle.rules.specs.Opening.{slotCount};
 ghost use Rattle.rules.specs.Spans.{isS, advance, stateBy, share};
 ghost use Rattle.rules.specs.Lent.{lentSlots, lentAgreed};
 ghost use Rattle.rules.specs.Inner.Lent.{Lent, Settled};
-ghost use Rattle.rules.specs.Inner.Fills.{fillsAt};
+ghost use Rattle.rules.specs.Inner.Walks.{walkAt};
 ghost use Rattle.rules.specs.Inner.Summaries.{summaryOf, actualAdded, addedTo, scalingOf, scaledBy, Scales};
 
 // V, the sum and the number of the shapes, whether a slot is N, whether one is S.
@@ -57,7 +59,7 @@ fn add_actual(sum: Summary, value: u64) -> Summary
 
 // One slot more, of at most 115,200: an A or F value is at most 99,999,999 Wh, a shape 6,000,000, all shapes together 115,200,000,000.
 fn add(sum: Summary, slot: Outcome, shape: u64) -> Summary
-    requires { ⌜ (sum .actual ≤ 11519999884800) × (sum .shapes ≤ 115200000000) × (sum .count ≤ 115200) × (shape ≤ 6000000) ⌝ }
+    requires { ⌜ (sum .actual ≤ 11_519_999_884_800) × (sum .shapes ≤ 115_200_000_000) × (sum .count ≤ 115_200) × (shape ≤ 6_000_000) ⌝ }
     ensures { λ r. ⌜ r ≡ addedTo sum slot shape ⌝ }
 {
     let value = slot.value as u64;
@@ -91,11 +93,21 @@ pub fn summarise(
     holidays: &[u8],
     agreed: &[u32],
     agreed_versions: &[u32],
-    first: Fills,
+    first: Walk,
     count: usize,
 ) -> Summary
-    requires { ⌜ Lent head (lentSlots values versions statuses) (now holidays) × Settled head (lentAgreed agreed «agreed_versions») × (first .at + count ≤ slotCount head) × (first ≡ fillsAt head (lentSlots values versions statuses) (now «agreed_versions») (first .at)) ⌝ }
-    ensures { λ r. ⌜ r ≡ summaryOf head (lentSlots (values .entry) (versions .entry) (statuses .entry)) (lentAgreed (agreed .entry) («agreed_versions» .entry)) (now (holidays .entry)) (first .at) count ⌝ }
+    requires { ⌜
+        (let s = lentSlots values versions statuses in
+        Lent head s (now holidays)
+        × Settled head (lentAgreed agreed «agreed_versions»)
+        × (first .at + count ≤ slotCount head)
+        × (first ≡ walkAt head s (now «agreed_versions») (first .at)))
+        ⌝ }
+    ensures { λ r. ⌜
+        (let s = lentSlots (values .entry) (versions .entry) (statuses .entry) in
+        let a = lentAgreed (agreed .entry) («agreed_versions» .entry) in
+        r ≡ summaryOf head s a (now (holidays .entry)) (first .at) count)
+        ⌝ }
 {
     let mut sum = Summary {
         actual: 0,
@@ -115,7 +127,7 @@ pub fn summarise(
             line = linear::bare(0);
             sum = add(sum, filling::delivered(values[at]), 0);
         } else {
-            outage = fills::outage_zero(versions, statuses, at, outage);
+            outage = outage::outage_zero(versions, statuses, at, outage);
             let lined = filling::fill_cause(
                 head,
                 values,
@@ -138,10 +150,11 @@ pub fn summarise(
 
 // G, for a dial of eight digits.
 pub fn advanced(earlier: u32, later: u32) -> u32
-    requires { ⌜ earlier < 100000000 ⌝ }
+    requires { ⌜ earlier < dialModulus ⌝ }
     ensures { λ r. ⌜ r ≡ advance earlier later ⌝ }
 {
-    (((later as u64) + 100000000 - (earlier as u64)) % 100000000) as u32
+    let turn = DIAL_MODULUS as u64;
+    (((later as u64) + turn - (earlier as u64)) % turn) as u32
 }
 
 // 0 agrees, 1 scaled, 2 open, 3 disagrees.
@@ -165,7 +178,7 @@ pub fn state_of(sum: Summary, range: Range, r: u64, tolerance: u64) -> u8
 
 // floor(t × c / e).
 fn share_of(t: u64, c: u64, e: u64) -> u64
-    requires { ⌜ (t < 100000000) × (c ≤ 115200000000) × (0 < e) ⌝ }
+    requires { ⌜ (t < dialModulus) × (c ≤ 115_200_000_000) × (0 < e) ⌝ }
     ensures { λ r. ⌜ r ≡ share t c e ⌝ }
 {
     t * c / e
@@ -173,7 +186,7 @@ fn share_of(t: u64, c: u64, e: u64) -> u64
 
 // The new value of a slot before which the running sum is `p`, and with which it is `c`.
 fn new_value(t: u64, p: u64, c: u64, e: u64) -> u32
-    requires { ⌜ (t < 100000000) × (p ≤ c) × (c ≤ e) × (e ≤ 115200000000) × (0 < e) ⌝ }
+    requires { ⌜ (t < dialModulus) × (p ≤ c) × (c ≤ e) × (e ≤ 115_200_000_000) × (0 < e) ⌝ }
     ensures { λ r. ⌜ r ≡ share t c e - share t p e ⌝ }
 {
     (share_of(t, c, e) - share_of(t, p, e)) as u32

@@ -3,7 +3,6 @@ use crate::Head;
 use crate::Outcome;
 use crate::Quality;
 use crate::Span;
-use crate::fills::Fills;
 use crate::opening;
 use crate::range;
 use crate::readings;
@@ -11,6 +10,7 @@ use crate::readings::Next;
 use crate::spans;
 use crate::spans::Scaling;
 use crate::spans::Summary;
+use crate::walk::Walk;
 ghost use mathlib.Core.List.{[]};
 ghost use mathlib.Core.Path.{_≡_};
 ghost use Prim.Native.Nat.{_≤_};
@@ -18,7 +18,8 @@ ghost use Rattle.rules.specs.declared.stretch.Begins.the-variants.{Nothi
 ghost use Rattle.rules.specs.Spans.{spanOf};
 ghost use Rattle.rules.specs.Lent.{lentSlots, lentAgreed, lentCells, cells};
 ghost use Rattle.rules.specs.Inner.Lent.{Lent, Settled, Dialled, Widths, Whole};
-ghost use Rattle.rules.specs.Inner.Stretches.{unscaledTo, spanStretch, stretchBy, beginsWith, stretchFrom, beginsAt, stretchAt, fitOutcome, fitNext, Fits, Starts, Before};
+ghost use Rattle.rules.specs.Inner.Stretches.{unscaledTo, spanStretch, stretchBy, stretchFrom, stretchAt, beginsWith, beginsAt};
+ghost use Rattle.rules.specs.Inner.Stretches.{fitOutcome, fitNext, Scalable, Starts, Before};
 
 // Where the stretch ends, and how it is scaled.
 pub struct Stretch {
@@ -44,7 +45,7 @@ pub struct Entered {
 }
 
 // A slot's outcome, and the stretch one slot on.
-pub struct Fitting {
+pub struct InStretch {
     pub outcome: Outcome,
     pub next: Stretch,
 }
@@ -89,12 +90,24 @@ fn meet(
     agreed: &[u32],
     agreed_versions: &[u32],
     widths: &[u16],
-    fills: Fills,
+    walk: Walk,
     first: usize,
     last: usize,
 ) -> Met
-    requires { ⌜ Lent head (lentSlots values versions statuses) (now holidays) × Dialled head (now readings) × Settled head (lentAgreed agreed «agreed_versions») × Starts head (lentSlots values versions statuses) (now «agreed_versions») fills first last × Widths head (now widths) ⌝ }
-    ensures { λ r. ⌜ (r .span ≡ spanOf head (cells (lentSlots (values .entry) (versions .entry) (statuses .entry)) (now (holidays .entry)) (now (readings .entry)) [] (lentAgreed (agreed .entry) («agreed_versions» .entry)) (now (widths .entry))) first last) × (r .stretch ≡ spanStretch head (cells (lentSlots (values .entry) (versions .entry) (statuses .entry)) (now (holidays .entry)) (now (readings .entry)) [] (lentAgreed (agreed .entry) («agreed_versions» .entry)) (now (widths .entry))) first last (fills .at)) ⌝ }
+    requires { ⌜
+        (let s = lentSlots values versions statuses in
+        Lent head s (now holidays)
+        × Dialled head (now readings)
+        × Settled head (lentAgreed agreed «agreed_versions»)
+        × Starts head s (now «agreed_versions») walk first last
+        × Widths head (now widths))
+        ⌝ }
+    ensures { λ r. ⌜
+        (let s = lentSlots (values .entry) (versions .entry) (statuses .entry) in
+        let a = lentAgreed (agreed .entry) («agreed_versions» .entry) in
+        let b = cells s (now (holidays .entry)) (now (readings .entry)) [] a (now (widths .entry)) in
+        (r .span ≡ spanOf head b first last) × (r .stretch ≡ spanStretch head b first last (walk .at)))
+        ⌝ }
 {
     let day = opening::slots_per_day(head);
     let sum = spans::summarise(
@@ -105,7 +118,7 @@ fn meet(
         holidays,
         agreed,
         agreed_versions,
-        fills,
+        walk,
         (last - first) * day,
     );
     let advance = spans::advanced(readings[first], readings[last]);
@@ -147,12 +160,19 @@ fn reach(
     agreed: &[u32],
     agreed_versions: &[u32],
     widths: &[u16],
-    fills: Fills,
+    walk: Walk,
     day: usize,
     last: usize,
 ) -> Entered
-    requires { ⌜ Whole head (lentCells values versions statuses holidays readings reads agreed «agreed_versions» widths) × Starts head (lentSlots values versions statuses) (now «agreed_versions») fills day last ⌝ }
-    ensures { λ r. ⌜ (r .begins ≡ beginsWith head (lentCells (values .entry) (versions .entry) (statuses .entry) (holidays .entry) (readings .entry) (reads .entry) (agreed .entry) («agreed_versions» .entry) (widths .entry)) day last) × (r .stretch ≡ stretchFrom head (lentCells (values .entry) (versions .entry) (statuses .entry) (holidays .entry) (readings .entry) (reads .entry) (agreed .entry) («agreed_versions» .entry) (widths .entry)) day last (fills .at)) ⌝ }
+    requires { ⌜
+        (let b = lentCells values versions statuses holidays readings reads agreed «agreed_versions» widths in
+        Whole head b × Starts head (lentSlots values versions statuses) (now «agreed_versions») walk day last)
+        ⌝ }
+    ensures { λ r. ⌜
+        (let b = lentCells (values .entry) (versions .entry) (statuses .entry) (holidays .entry) (readings .entry) (reads .entry)
+        (agreed .entry) («agreed_versions» .entry) (widths .entry) in
+        (r .begins ≡ beginsWith head b day last) × (r .stretch ≡ stretchFrom head b day last (walk .at)))
+        ⌝ }
 {
     if reads[day] == 0 {
         return no_span(unscaled_to(last * opening::slots_per_day(head)));
@@ -167,7 +187,7 @@ fn reach(
         agreed,
         agreed_versions,
         widths,
-        fills,
+        walk,
         day,
         last,
     );
@@ -191,13 +211,20 @@ pub fn enter(
     agreed: &[u32],
     agreed_versions: &[u32],
     widths: &[u16],
-    fills: Fills,
+    walk: Walk,
     carried: Stretch,
 ) -> Entered
-    requires { ⌜ Whole head (lentCells values versions statuses holidays readings reads agreed «agreed_versions» widths) × Before head (lentCells values versions statuses holidays readings reads agreed «agreed_versions» widths) fills carried ⌝ }
-    ensures { λ r. ⌜ (r .begins ≡ beginsAt head (lentCells (values .entry) (versions .entry) (statuses .entry) (holidays .entry) (readings .entry) (reads .entry) (agreed .entry) («agreed_versions» .entry) (widths .entry)) (fills .at)) × (r .stretch ≡ stretchAt head (lentCells (values .entry) (versions .entry) (statuses .entry) (holidays .entry) (readings .entry) (reads .entry) (agreed .entry) («agreed_versions» .entry) (widths .entry)) (fills .at)) ⌝ }
+    requires { ⌜
+        (let b = lentCells values versions statuses holidays readings reads agreed «agreed_versions» widths in
+        Whole head b × Before head b walk carried)
+        ⌝ }
+    ensures { λ r. ⌜
+        (let b = lentCells (values .entry) (versions .entry) (statuses .entry) (holidays .entry) (readings .entry) (reads .entry)
+        (agreed .entry) («agreed_versions» .entry) (widths .entry) in
+        (r .begins ≡ beginsAt head b (walk .at)) × (r .stretch ≡ stretchAt head b (walk .at)))
+        ⌝ }
 {
-    let at = fills.at;
+    let at = walk.at;
     if at != carried.until {
         return no_span(carried);
     }
@@ -215,7 +242,7 @@ pub fn enter(
             agreed,
             agreed_versions,
             widths,
-            fills,
+            walk,
             day,
             last,
         ),
@@ -224,20 +251,20 @@ pub fn enter(
 }
 
 // A slot's outcome in the stretch that it lies in, and the stretch one slot on.
-pub fn fit(slot: Outcome, shape: u64, here: Stretch) -> Fitting
-    requires { ⌜ Fits slot shape here ⌝ }
+pub fn fit(slot: Outcome, shape: u64, here: Stretch) -> InStretch
+    requires { ⌜ Scalable slot shape here ⌝ }
     ensures { λ r. ⌜ (r .outcome ≡ fitOutcome slot shape here) × (r .next ≡ fitNext slot shape here) ⌝ }
 {
     let by = here.by;
     if by.whole == 0 {
-        return Fitting {
+        return InStretch {
             outcome: slot,
             next: here,
         };
     }
     let quality = slot.quality;
     if !spans::is_substituted(quality) {
-        return Fitting {
+        return InStretch {
             outcome: slot,
             next: here,
         };
@@ -253,7 +280,7 @@ pub fn fit(slot: Outcome, shape: u64, here: Stretch) -> Fitting
         until: here.until,
         by: rest,
     };
-    Fitting {
+    InStretch {
         outcome: outcome,
         next: next,
     }

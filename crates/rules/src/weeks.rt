@@ -35,7 +35,10 @@ fn way_within(day: usize, first: usize, farthest: usize) -> Way
 // The way from a target on day `day`: on a holiday it leads to Sundays.
 pub fn way_back(head: Head, holidays: &[u8], day: usize) -> Way
     requires { ⌜ (headOk head ≡ true) × (length (now holidays) ≡ head .days) × (day < head .days) ⌝ }
-    ensures { λ r. ⌜ (r .first ≡ firstBack head (now (holidays .entry)) day) × InBook (r .first) (farthestBack (now (holidays .entry)) day) day (r .weeks) ⌝ }
+    ensures { λ r. ⌜
+        (let held = now (holidays .entry) in
+        (r .first ≡ firstBack head held day) × InBook (r .first) (farthestBack held day) day (r .weeks))
+        ⌝ }
 {
     if holidays[day] == 0 {
         return way_within(day, 7, 364);

@@ -5,7 +5,9 @@ use lib.Dec.{leb, ltb, eqb}
 use lib.ListN.{length, getD}
 use Rattle.base.specs.Refusals.{unless}
 use Rattle.base.specs.Refusals.Rule.{rule}
+use Rattle.base.specs.Numbers.{eightDigits}
 use Rattle.rules.specs.Opening.{Agreed}
+use Rattle.rules.specs.Numbers.{mostWidth}
 use Rattle.book.specs.Answers.{Answer}
 use Rattle.book.specs.Answers.Answer.{refused}
 use Rattle.book.specs.Cells.{Reads}
@@ -13,7 +15,7 @@ use Rattle.book.specs.Filling.{againstBoundary, againstAgreed, storedIn}
 
 unfoldable pub numberAnswer : Agreed → ℕ → ℕ → ℕ → Answer
 numberAnswer a place version number =
-    unless refused (rule 3 (leb (length (a .values)) place) ∷ rule 4 (eqb version 0) ∷ rule 12 (ltb 99999999 number) ∷ [])
+    unless refused (rule 3 (leb (length (a .values)) place) ∷ rule 4 (eqb version 0) ∷ rule 12 (ltb eightDigits number) ∷ [])
     (againstAgreed (getD (a .versions) place 0) (getD (a .values) place 0) version number)
 
 unfoldable pub numberAfter : Agreed → ℕ → ℕ → ℕ → Agreed
@@ -28,8 +30,8 @@ readAnswer r boundary version reading width =
     unless refused
     (rule 3 (leb (length (r .readings)) boundary)
     ∷ rule 4 (eqb version 0)
-    ∷ rule 6 (ltb 99999999 reading)
-    ∷ rule 17 (ltb 9999 width)
+    ∷ rule 6 (ltb eightDigits reading)
+    ∷ rule 17 (ltb mostWidth width)
     ∷ [])
     (againstBoundary (getD (r .readVersions) boundary 0) (getD (r .readings) boundary 0) (getD (r .widths) boundary 0) version reading width)
 

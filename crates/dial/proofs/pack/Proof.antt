@@ -21,7 +21,7 @@ unfolding packAnswer packAfter
 returns-2 c =
     let a = c .before .before .before .args in
     let four : length (a .bytes .now) ≡ 4 = omega arith in
-    let over : 99999999 < a .reading = omega arith in
+    let over : 99_999_999 < a .reading = omega arith in
     rw (eq-eqb _ _ four, lt-ltb _ _ over) (refl, refl)
 
 two-digits-requires : tie.Need-two-digits-requires
@@ -56,7 +56,7 @@ unfolding packAnswer packAfter
 returns-3 c =
     let a = c .before .before .before .before .before .before .before .args in
     let four : length (a .bytes .now) ≡ 4 = omega arith in
-    let within : a .reading ≤ 99999999 = omega arith in
+    let within : a .reading ≤ 99_999_999 = omega arith in
     rw (eq-eqb _ _ four, le-ltb _ _ within) (
       refl,
       filled (a .bytes .now) four

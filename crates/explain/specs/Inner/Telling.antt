@@ -3,7 +3,7 @@ use mathlib.Core.Bool.{cond}
 use Prim.Native.Nat.{ℕ}
 use lib.Dec.{eqb}
 use Rattle.rules.specs.declared.Outcome.{Outcome}
-use Rattle.rules.specs.declared.fills.Filled.{Filled}
+use Rattle.rules.specs.declared.walk.Filled.{Filled}
 use Rattle.rules.specs.declared.stretch.Stretch.{Stretch}
 use Rattle.rules.specs.declared.spans.Scaling.{Scaling}
 use Rattle.rules.specs.declared.tests.Cause.{Cause}

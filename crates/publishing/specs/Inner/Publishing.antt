@@ -89,10 +89,10 @@ pub record Roomy (h : Head) (b : Cells) (d : List ℕ) : Type 0 where
 pub record Next (h : Head) (b : Cells) (d : List ℕ) (table : ℕ) (here : Progress) : Type 0 where
   pub roomy : Roomy h b d
   pub place : table ≡ 6 * slotCount h
-  pub inside : here .pass .fills .at < slotCount h
-  pub known : here ≡ progressAt h b (here .pass .fills .at)
+  pub inside : here .pass .walk .at < slotCount h
+  pub known : here ≡ progressAt h b (here .pass .walk .at)
 
 -- one slot on: its record and that of the span that begins at it are written
 pub record PutNext (h : Head) (b : Cells) (d e : List ℕ) (here next : Progress) : Type 0 where
-  pub bytes : e ≡ nextBytes h b d (here .pass .fills .at)
-  pub known : next ≡ progressAt h b (here .pass .fills .at + 1)
+  pub bytes : e ≡ nextBytes h b d (here .pass .walk .at)
+  pub known : next ≡ progressAt h b (here .pass .walk .at + 1)

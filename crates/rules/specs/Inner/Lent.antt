@@ -4,8 +4,10 @@ use mathlib.Core.List.{List}
 use mathlib.Core.Path.{_≡_}
 use Prim.Native.Nat.{ℕ, suc, _<_, _≤_}
 use lib.ListN.{length, getD}
+use Rattle.base.specs.Numbers.{dialModulus}
 use Rattle.rules.specs.declared.Head.{Head}
 use Rattle.rules.specs.Opening.{Slots, Agreed, Cells, headOk, slotCount}
+use Rattle.rules.specs.Numbers.{mostWidth}
 
 -- a good head, and slot lists of its length
 pub record Fitted (h : Head) (s : Slots) : Type 0 where
@@ -21,7 +23,7 @@ pub record Lent (h : Head) (s : Slots) (days : List ℕ) : Type 0 where
 
 -- no agreed value is over 99,999,999
 abbrev pub AgreedLow : Agreed → Type 0
-AgreedLow a = (i : ℕ) → getD (a .values) i 0 < 100000000
+AgreedLow a = (i : ℕ) → getD (a .values) i 0 < dialModulus
 
 -- agreed lists of a head's length, with such values
 pub record Settled (h : Head) (a : Agreed) : Type 0 where
@@ -32,11 +34,11 @@ pub record Settled (h : Head) (a : Agreed) : Type 0 where
 -- readings of an eight-digit dial
 pub record Dialled (h : Head) (readings : List ℕ) : Type 0 where
   pub length : length readings ≡ suc (h .days)
-  pub low : (d : ℕ) → getD readings d 0 < 100000000
+  pub low : (d : ℕ) → getD readings d 0 < dialModulus
 
 -- no width is over 9,999 (02, W10)
 abbrev pub WidthsLow : List ℕ → Type 0
-WidthsLow widths = (d : ℕ) → getD widths d 0 ≤ 9999
+WidthsLow widths = (d : ℕ) → getD widths d 0 ≤ mostWidth
 
 -- a width for each boundary
 pub record Widths (h : Head) (widths : List ℕ) : Type 0 where

@@ -6,25 +6,25 @@ use Rattle.rules.specs.declared.Head.{Head}
 use Rattle.rules.specs.declared.Span as declared
 use Rattle.rules.specs.declared.pass.Pass.{Pass}
 use Rattle.rules.specs.declared.pass.Stepped.{Stepped}
-use Rattle.rules.specs.declared.fills.Filled.{Filled}
+use Rattle.rules.specs.declared.walk.Filled.{Filled}
 use Rattle.rules.specs.declared.stretch.Entered.{Entered}
 use Rattle.rules.specs.declared.stretch.Begins.{Begins}
 use Rattle.rules.specs.declared.stretch.Begins.the-variants.{Span, Nothing}
 use Rattle.rules.specs.Opening.{Cells}
 use Rattle.rules.specs.Spans.{outcomeAt}
-use Rattle.rules.specs.Inner.Fills.{fillsAt}
+use Rattle.rules.specs.Inner.Walks.{walkAt}
 use Rattle.rules.specs.Inner.Stretches.{carriedAt, fitOutcome, fitNext, beginsAt}
 
 -- a pass before slot i
 unfoldable pub passAt : Head → Cells → ℕ → Pass
-passAt h b i = record { fills = fillsAt h (b .slots) (b .agreed .versions) i; stretch = carriedAt h b i }
+passAt h b i = record { walk = walkAt h (b .slots) (b .agreed .versions) i; stretch = carriedAt h b i }
 
 -- a filled slot in its stretch
 abbrev pub settled : Entered → Filled → Stepped
 settled entered filled = record {
   outcome = fitOutcome (filled .outcome) (filled .shape) (entered .stretch);
   begins = entered .begins;
-  next = record { fills = filled .next; stretch = fitNext (filled .outcome) (filled .shape) (entered .stretch) };
+  next = record { walk = filled .next; stretch = fitNext (filled .outcome) (filled .shape) (entered .stretch) };
 }
 
 -- the outcome of slot i, the span that begins at it, and the pass before the next slot

@@ -14,13 +14,13 @@ use Rattle.rules.specs.declared.Outcome.{Outcome}
 use Rattle.rules.specs.declared.Quality.the-variants.{S}
 use Rattle.rules.specs.declared.spans.Summary.{Summary}
 use Rattle.rules.specs.declared.spans.Scaling.{Scaling}
-use Rattle.rules.specs.declared.fills.Fills.{Fills}
+use Rattle.rules.specs.declared.walk.Walk.{Walk}
 use Rattle.rules.specs.declared.stretch.Stretch.{Stretch}
 use Rattle.rules.specs.declared.stretch.Begins.{Begins}
 use Rattle.rules.specs.declared.stretch.Begins.the-variants.{Span, Nothing}
 use Rattle.rules.specs.Opening.{Slots, Cells, slotsPerDay, slotCount}
 use Rattle.rules.specs.Spans.{isS, isRead, spanOf, lastRead, nextRead, T, allZero, E, P, stateOf, spanFrom}
-use Rattle.rules.specs.Inner.Fills.{fillsAt}
+use Rattle.rules.specs.Inner.Walks.{walkAt}
 use Rattle.rules.specs.Inner.Summaries.{scalingOf, scaledBy, Scales}
 
 -- what the search for a boundary answers
@@ -93,7 +93,7 @@ fitNext o shape here =
     here
 
 -- a slot that can be scaled without a wrap, where it is to be scaled
-pub record Fits (o : Outcome) (shape : ℕ) (here : Stretch) : Type 0 where
+pub record Scalable (o : Outcome) (shape : ℕ) (here : Stretch) : Type 0 where
   pub method-low : o .method ≤ 5
   pub scales : isS (o .quality) ≡ true → (here .by .whole ≡ 0 → ⊥) → Scales shape (here .by)
 
@@ -114,14 +114,14 @@ stretchFrom h b d last i =
     cond (isRead (b .readVersions) d) (spanStretch h b d last i) (unscaledTo (last * slotsPerDay h))
 
 -- the pass stands at the first slot of the span between two boundaries
-pub record Starts (h : Head) (s : Slots) (agreed : List ℕ) (fills : Fills) (first last : ℕ) : Type 0 where
+pub record Starts (h : Head) (s : Slots) (agreed : List ℕ) (walk : Walk) (first last : ℕ) : Type 0 where
   pub ordered : first < last
   pub within : last ≤ h .days
-  pub known : fills ≡ fillsAt h s agreed (fills .at)
-  pub at-first : fills .at ≡ first * slotsPerDay h
+  pub known : walk ≡ walkAt h s agreed (walk .at)
+  pub at-first : walk .at ≡ first * slotsPerDay h
 
 -- the pass stands before a slot, with the stretch of the slot before it
-pub record Before (h : Head) (b : Cells) (fills : Fills) (carried : Stretch) : Type 0 where
-  pub inside : fills .at < slotCount h
-  pub known : fills ≡ fillsAt h (b .slots) (b .agreed .versions) (fills .at)
-  pub stretch : carried ≡ carriedAt h b (fills .at)
+pub record Before (h : Head) (b : Cells) (walk : Walk) (carried : Stretch) : Type 0 where
+  pub inside : walk .at < slotCount h
+  pub known : walk ≡ walkAt h (b .slots) (b .agreed .versions) (walk .at)
+  pub stretch : carried ≡ carriedAt h b (walk .at)

@@ -4,6 +4,7 @@ use mathlib.Core.List.{List}
 use Prim.Native.Nat.{ℕ, _+_, _-_, _≤_, _<_}
 use lib.Dec.{eqb}
 use Rattle.base.specs.Lists.{sum, any}
+use Rattle.base.specs.Numbers.{dialModulus}
 use Rattle.rules.specs.declared.Head.{Head}
 use Rattle.rules.specs.declared.Outcome.{Outcome}
 use Rattle.rules.specs.declared.spans.Summary.{Summary}
@@ -70,7 +71,7 @@ scaledBy shape by =
 
 -- an S slot with this shape can be scaled without a wrap
 pub record Scales (shape : ℕ) (by : Scaling) : Type 0 where
-  pub t-low : by .t < 100000000
+  pub t-low : by .t < dialModulus
   pub room : by .passed + (shape + by .extra) ≤ by .whole
-  pub whole-high : by .whole ≤ 115200000000
+  pub whole-high : by .whole ≤ 115_200_000_000
   pub whole-low : 0 < by .whole

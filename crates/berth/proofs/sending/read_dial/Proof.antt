@@ -34,7 +34,7 @@ returns c = let a = c .before .before .before .before .before .before .before .b
     let b = c .before .before .before .before .before .before .register2 .ensures .1 in
     let e = c .before .before .before .before .before .before .before .before .before .before .before .before .before .before .before .before .before .before .before .before .before .before .before .args in
     let old = lentReads (e .readings) (e .reads) (e .widths) in
-    let then : Reads → Reads = λ r. registerAfter (e .head) r (e .head .days) 1 (e .total % 100000000) 0 in
+    let then : Reads → Reads = λ r. registerAfter (e .head) r (e .head .days) 1 (e .total % 100_000_000) 0 in
     b ∙ ap then a
 
 pub read-dial-spec : {M : Type 1} → statement M

@@ -39,7 +39,7 @@ returns-2 c = rw (lt-leb _ _ (inside (c .before)), eq-eqb _ _ (c .if2 .taken)) (
 returns-3 : tie.Need-returns-3
 unfolding numberAnswer numberAfter
 returns-3 c =
-    let large : 99999999 < c .before .before .before .before .before .args .number = omega (arith, c .if3 .taken) in
+    let large : 99_999_999 < c .before .before .before .before .before .args .number = omega (arith, c .if3 .taken) in
     rw (lt-leb _ _ (inside (c .before .before)), ne-eqb _ _ (c .before .if2 .left), lt-ltb _ _ large) (refl, refl)
 
 mul-against-agreed : tie.Need-mul-against-agreed
@@ -81,7 +81,7 @@ same-length-2 c = search needs
 -- what `against_agreed` found is the answer
 found : (c : lts.After-against-agreed claims reads.Pre reads.Post) → whole (c .before .before .before .before .before .before .before .before) ≡ filedMeant (c .against-agreed .result)
 found c =
-    let small : c .before .before .before .before .before .before .before .before .args .number ≤ 99999999 = omega (arith, c .before .before .before .if3 .left) in
+    let small : c .before .before .before .before .before .before .before .before .args .number ≤ 99_999_999 = omega (arith, c .before .before .before .if3 .left) in
     number-sound _ _ _ _ (inside (c .before .before .before .before .before)) (c .before .before .before .before .if2 .left) small ∙ sym (c .against-agreed .ensures)
 
 returns-4 : tie.Need-returns-4

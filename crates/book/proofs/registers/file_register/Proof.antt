@@ -39,13 +39,13 @@ returns-2 c = rw (lt-leb _ _ (inside (c .before)), eq-eqb _ _ (c .if2 .taken)) (
 returns-3 : tie.Need-returns-3
 unfolding readAnswer readAfter
 returns-3 c =
-    let large : 99999999 < c .before .before .before .before .before .before .args .reading = omega (arith, c .if3 .taken) in
+    let large : 99_999_999 < c .before .before .before .before .before .before .args .reading = omega (arith, c .if3 .taken) in
     rw (lt-leb _ _ (inside (c .before .before)), ne-eqb _ _ (c .before .if2 .left), lt-ltb _ _ large) (refl, refl)
 
 returns-4 : tie.Need-returns-4
 unfolding readAnswer readAfter
 returns-4 c =
-    let small : c .before .before .before .before .before .before .before .args .reading ≤ 99999999 = omega (arith, c .before .if3 .left) in
+    let small : c .before .before .before .before .before .before .before .args .reading ≤ 99_999_999 = omega (arith, c .before .if3 .left) in
     let wide : 9999 < c .before .before .before .before .before .before .before .args .width = omega (arith, c .if4 .taken) in
     rw (lt-leb _ _ (inside (c .before .before .before)), ne-eqb _ _ (c .before .before .if2 .left), le-ltb _ _ small, lt-ltb _ _ wide) (refl, refl)
 
@@ -106,7 +106,7 @@ same-length-3 c = search needs
 -- what `against_boundary` found is the answer
 found : (c : lts.After-against-boundary claims reads.Pre reads.Post) → whole (c .before .before .before .before .before .before .before .before .before .before .before) ≡ filedMeant (c .against-boundary .result)
 found c =
-    let small : c .before .before .before .before .before .before .before .before .before .before .before .args .reading ≤ 99999999 = omega (arith, c .before .before .before .before .before .if3 .left) in
+    let small : c .before .before .before .before .before .before .before .before .before .before .before .args .reading ≤ 99_999_999 = omega (arith, c .before .before .before .before .before .if3 .left) in
     let narrow : c .before .before .before .before .before .before .before .before .before .before .before .args .width ≤ 9999 = omega (arith, c .before .before .before .before .if4 .left) in
     read-sound _ _ _ _ _ (inside (c .before .before .before .before .before .before .before)) (c .before .before .before .before .before .before .if2 .left) small narrow ∙ sym (c .against-boundary .ensures)
 

@@ -1,6 +1,6 @@
 -- `back::fill_slot`: the pass before the slot fills it.
 use Rattle.rules.specs.Lent.{slots}
-use Rattle.explain.proofs.Passing.{fills-place, fills-known}
+use Rattle.explain.proofs.Passing.{walk-place, walk-known}
 use borrow.Author.Needs.{needs}
 use Rattle.explain.proofs.back.fill_slot.Statement.{statement}
 use Rattle.explain.proofs.back.fill_slot.Tie as tie
@@ -11,13 +11,13 @@ fills-before-requires c κs = search needs
 fill-requires : tie.Need-fill-requires
 fill-requires c κs = let a = (c .before .before .before .before .before .before .before) .args in
     let s = slots (a .values .now) (a .versions .now) (a .statuses .now) in
-    let p = fills-place (a .head) s (a .agreed-versions .now) (c .fills-before .result) (a .at) (c .fills-before .ensures) in
-    ((c .before .before .before .before .before .before .before) .pre .0, (c .before .before .before .before .before .before .before) .pre .1, rw p ((c .before .before .before .before .before .before .before) .pre .2), fills-known (a .head) s (a .agreed-versions .now) (c .fills-before .result) (a .at) (c .fills-before .ensures))
+    let p = walk-place (a .head) s (a .agreed-versions .now) (c .fills-before .result) (a .at) (c .fills-before .ensures) in
+    ((c .before .before .before .before .before .before .before) .pre .0, (c .before .before .before .before .before .before .before) .pre .1, rw p ((c .before .before .before .before .before .before .before) .pre .2), walk-known (a .head) s (a .agreed-versions .now) (c .fills-before .result) (a .at) (c .fills-before .ensures))
 
 returns : tie.Need-returns
 returns c = let a = (c .before .before .before .before .before .before .before .before) .args in
     let s = slots (a .values .now) (a .versions .now) (a .statuses .now) in
-    let p = fills-place (a .head) s (a .agreed-versions .now) (c .before .fills-before .result) (a .at) (c .before .fills-before .ensures) in
+    let p = walk-place (a .head) s (a .agreed-versions .now) (c .before .fills-before .result) (a .at) (c .before .fills-before .ensures) in
     rw p at (c .fill .ensures)
 
 pub fill-slot-spec : {M : Type 1} → statement M

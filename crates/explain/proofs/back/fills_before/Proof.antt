@@ -7,9 +7,9 @@ use native.Mathlib.Omega.{arith}
 use Rattle.rules.specs.Opening.{slotCount}
 use Rattle.rules.specs.Tests.{goodAt}
 use Rattle.rules.specs.Lent.{slots}
-use Rattle.rules.specs.Inner.Fills.{zeroBefore, lineBefore}
+use Rattle.rules.specs.Inner.Walks.{zeroBefore, lineBefore}
 use Rattle.rules.proofs.Outages.{zero-applies}
-use Rattle.explain.proofs.Passing.{none-before, zero-next, line-next, fills-are}
+use Rattle.explain.proofs.Passing.{none-before, zero-next, line-next, walk-are}
 use Rattle.explain.proofs.back.fills_before.Statement.{statement}
 use Rattle.explain.proofs.back.fills_before.Tie as tie
 
@@ -62,7 +62,7 @@ returns : tie.Need-returns Inv-loop μ-loop
 returns c = let a = (c .before .before .before .before .before .before .before .before) .args in
     let s = slots (a .values .now) (a .versions .now) (a .statuses .now) in
     let e : c .before .loop .k ≡ a .at = omega (arith, c .before .loop .inv .0, c .loop-test .left) in
-    fills-are (a .head) s (a .agreed-versions .now) (a .at) _ _ (c .before .loop .inv .1 ∙ ap (zeroBefore (s .versions) (s .statuses) (slotCount (a .head))) e) (c .before .loop .inv .2 ∙ ap (lineBefore (a .head) s (a .agreed-versions .now)) e)
+    walk-are (a .head) s (a .agreed-versions .now) (a .at) _ _ (c .before .loop .inv .1 ∙ ap (zeroBefore (s .versions) (s .statuses) (slotCount (a .head))) e) (c .before .loop .inv .2 ∙ ap (lineBefore (a .head) s (a .agreed-versions .now)) e)
 
 pub fills-before-spec : {M : Type 1} → statement M
 fills-before-spec =

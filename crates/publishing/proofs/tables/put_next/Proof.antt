@@ -35,7 +35,7 @@ unfolding progressAt
 put-begun-requires c κs = let a = c .before .before .before .before .before .before .before .before .before .before .before .before .before .before .before .before .before .before .args in
     let w = bounded (a .head) (c .before .before .before .before .before .before .before .before .before .before .before .before .before .before .before .before .before .before .pre .roomy .whole .lent .fitted .head) in
     let b = cells (slots (a .values .now) (a .versions .now) (a .statuses .now)) (a .holidays .now) (a .readings .now) (a .reads .now) (agreedLists (a .agreed .now) (a .agreed-versions .now)) (a .widths .now) in
-    let i = a .here .pass .fills .at in
+    let i = a .here .pass .walk .at in
     let k : a .here .spans ≡ length (begunBefore (a .head) b i) = ap (λ (p : Progress). p .spans) (c .before .before .before .before .before .before .before .before .before .before .before .before .before .before .before .before .before .before .pre .known) in
     let g : length (listOf (c .before .before .before .before .before .before .step .result .begins)) ≡ length (listOf (beginsAt (a .head) b i)) = ap (λ (x : Begins). length (listOf x)) (c .before .before .before .before .before .before .step .ensures .begins) in
     omega (arith, k, g, begun-room (a .head) b w i (c .before .before .before .before .before .before .before .before .before .before .before .before .before .before .before .before .before .before .pre .inside), c .before .before .before .before .before .before .before .before .before .before .before .before .before .before .before .before .before .before .pre .roomy .room, c .before .before .before .before .before .before .before .before .before .before .before .before .before .before .before .before .before .before .pre .place)
@@ -45,8 +45,8 @@ unfolding progressAt totalsOf
 add-requires c κs = let a = c .before .before .before .before .before .before .before .before .before .before .before .before .before .before .before .before .before .before .before .before .before .before .before .args in
     let w = bounded (a .head) (c .before .before .before .before .before .before .before .before .before .before .before .before .before .before .before .before .before .before .before .before .before .before .before .pre .roomy .whole .lent .fitted .head) in
     let b = cells (slots (a .values .now) (a .versions .now) (a .statuses .now)) (a .holidays .now) (a .readings .now) (a .reads .now) (agreedLists (a .agreed .now) (a .agreed-versions .now)) (a .widths .now) in
-    let i = a .here .pass .fills .at in
-    let l : i ≤ 115200 = omega (arith, count-high (a .head) w, c .before .before .before .before .before .before .before .before .before .before .before .before .before .before .before .before .before .before .before .before .before .before .before .pre .inside) in
+    let i = a .here .pass .walk .at in
+    let l : i ≤ 115_200 = omega (arith, count-high (a .head) w, c .before .before .before .before .before .before .before .before .before .before .before .before .before .before .before .before .before .before .before .before .before .before .before .pre .inside) in
     let x : a .here .totals .actual ≡ total (one isA) (firstSlots (a .head) b i) = ap (λ (p : Progress). p .totals .actual) (c .before .before .before .before .before .before .before .before .before .before .before .before .before .before .before .before .before .before .before .before .before .before .before .pre .known) in
     let y : a .here .totals .substituted ≡ total (one isS) (firstSlots (a .head) b i) = ap (λ (p : Progress). p .totals .substituted) (c .before .before .before .before .before .before .before .before .before .before .before .before .before .before .before .before .before .before .before .before .before .before .before .pre .known) in
     let f : a .here .totals .agreed ≡ total (one isF) (firstSlots (a .head) b i) = ap (λ (p : Progress). p .totals .agreed) (c .before .before .before .before .before .before .before .before .before .before .before .before .before .before .before .before .before .before .before .before .before .before .before .pre .known) in
@@ -60,7 +60,7 @@ same-length c = search needs
 returns : tie.Need-returns
 returns c = let a = c .before .before .before .before .before .before .before .before .before .before .before .before .before .before .before .before .before .before .before .before .before .before .before .before .args in
     let b = cells (slots (a .values .now) (a .versions .now) (a .statuses .now)) (a .holidays .now) (a .readings .now) (a .reads .now) (agreedLists (a .agreed .now) (a .agreed-versions .now)) (a .widths .now) in
-    let i = a .here .pass .fills .at in
+    let i = a .here .pass .walk .at in
     record {
       bytes = bytes-next (a .head) b i (a .out .now) _ _ (a .here) (a .table) (c .before .before .before .before .before .before .before .before .before .before .before .before .step .result .outcome) (c .before .before .before .before .before .before .before .before .before .before .before .before .step .result .begins) (c .before .before .before .before .before .before .before .before .before .before .before .before .before .before .before .before .before .before .before .before .before .before .before .before .pre .known) (c .before .before .before .before .before .before .before .before .before .before .before .before .step .ensures .outcome) (c .before .before .before .before .before .before .before .before .before .before .before .before .step .ensures .begins) (c .before .before .before .before .before .before .before .before .before .before .before .before .before .before .before .before .before .before .before .before .before .before .before .before .pre .place) (c .before .before .before .before .before .before .before .before .before .put-slot .ensures) (c .before .before .before .before .before .put-begun .ensures .1);
       known = progress-next (a .head) b i (a .here) (c .before .before .before .before .before .before .before .before .before .before .before .before .step .result .next) (c .before .before .before .before .before .put-begun .result) (c .add .result) (c .before .before .before .before .before .before .before .before .before .before .before .before .step .result .outcome) (c .before .before .before .before .before .before .before .before .before .before .before .before .step .result .begins) (c .before .before .before .before .before .before .before .before .before .before .before .before .before .before .before .before .before .before .before .before .before .before .before .before .pre .known) (c .before .before .before .before .before .before .before .before .before .before .before .before .step .ensures .outcome) (c .before .before .before .before .before .before .before .before .before .before .before .before .step .ensures .begins) (c .before .before .before .before .before .before .before .before .before .before .before .before .step .ensures .next) (c .before .before .before .before .before .put-begun .ensures .0) (c .add .ensures);

@@ -8,13 +8,14 @@ use native.Mathlib.Omega.{arith}
 use borrow.Author.Needs.{needs}
 use lib.ListN.{length, take, getD}
 use lib.Seq.{length-take-le}
-use Rattle.rules.specs.Filling.{total, meanOf}
+use Rattle.base.specs.Lists.{sumOf}
+use Rattle.rules.specs.Filling.{meanOf}
 use Rattle.rules.proofs.References.{total-next}
 use Rattle.rules.proofs.filling.mean_of.Statement.{statement}
 use Rattle.rules.proofs.filling.mean_of.Tie as tie
 
 abbrev Inv-loop : tie.InvT-loop
-Inv-loop values count sum₀ i₀ sum i = (i ≤ count) × (sum ≡ total (take i values)) × (sum ≤ i * 4294967295)
+Inv-loop values count sum₀ i₀ sum i = (i ≤ count) × (sum ≡ sumOf (take i values)) × (sum ≤ i * 4_294_967_295)
 
 abbrev μ-loop : tie.MeasureT-loop
 μ-loop values count sum₀ i₀ sum i = count - i
@@ -27,11 +28,11 @@ returns c =
     let l : length v ≡ 4 = search needs in
     let e : c .before .loop .i ≡ n = omega arith in
     let p : 0 < n = omega arith in
-    let t : c .before .loop .sum ≡ total (take n v) = rw e at (c .before .loop .inv .1) in
+    let t : c .before .loop .sum ≡ sumOf (take n v) = rw e at (c .before .loop .inv .1) in
     (rw (length-take-le n v (omega arith), ← t), refl, div-add-mod' (c .before .loop .sum) n ∙ t, mod-lt (c .before .loop .sum) p)
 
 loop-holds : tie.Need-loop-holds Inv-loop μ-loop
-unfolding total
+unfolding sumOf
 loop-holds c = search needs
 
 mul-sum : tie.Need-mul-sum Inv-loop μ-loop

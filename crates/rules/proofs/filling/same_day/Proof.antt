@@ -4,7 +4,8 @@ use Prim.Native.Nat.{_*_}
 use native.Mathlib.Omega.{arith}
 use lib.ListN.{length, take}
 use lib.Seq.{length-take-le}
-use Rattle.rules.specs.Filling.{total, shapeOf}
+use Rattle.base.specs.Lists.{sumOf}
+use Rattle.rules.specs.Filling.{shapeOf}
 use Rattle.rules.proofs.References.{from-none, from-some}
 use Rattle.rules.proofs.Shapes.{shape-exact}
 use borrow.Author.Needs.{needs}
@@ -36,7 +37,7 @@ returns-2 c = let r = c .before .before .before .before .find-references .result
     let e : length x ≡ r .count = length-take-le _ _ (omega arith) in
     let n : length x ≡ 0 → ⊥ = omega arith in
     let m = c .before .mean-of .ensures in
-    let q : c .shape-of .result * length x ≡ 12 * total x = rw (e, ← m .2, ← m .1) (c .shape-of .ensures) in
+    let q : c .shape-of .result * length x ≡ 12 * sumOf x = rw (e, ← m .2, ← m .1) (c .shape-of .ensures) in
     rw (← c .before .before .before .before .find-references .ensures .1) (rw (from-some _ n, m .0), shape-exact _ _ _ (omega arith) q)
 
 pub same-day-spec : {M : Type 1} → statement M

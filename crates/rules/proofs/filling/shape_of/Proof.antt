@@ -17,18 +17,18 @@ cast-sum : tie.Need-cast-sum
 cast-sum c = search needs
 
 mul-sum : tie.Need-mul-sum
-mul-sum c = let p : c .before .before .args .mean .mean ≤ 4294967295 = search needs in
+mul-sum c = let p : c .before .before .args .mean .mean ≤ 4_294_967_295 = search needs in
     omega (arith, mul-le-mul p (c .before .before .pre .1))
 
 cast-sum-2 : tie.Need-cast-sum-2
 cast-sum-2 c = search needs
 
 add-sum : tie.Need-add-sum
-add-sum c = let p : c .before .before .before .args .mean .mean ≤ 4294967295 = search needs in
+add-sum c = let p : c .before .before .before .args .mean .mean ≤ 4_294_967_295 = search needs in
     omega (arith, mul-le-mul p (c .before .before .before .pre .1))
 
 mul-result : tie.Need-mul-result
-mul-result c = let p : c .before .before .before .args .mean .mean ≤ 4294967295 = search needs in
+mul-result c = let p : c .before .before .before .args .mean .mean ≤ 4_294_967_295 = search needs in
     omega (arith, mul-le-mul p (c .before .before .before .pre .1))
 
 div-result : tie.Need-div-result

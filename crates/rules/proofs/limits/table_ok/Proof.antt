@@ -6,7 +6,7 @@ use Rattle.rules.specs.Limits.{tableOk}
 use borrow.Author.Needs.{needs}
 use Rattle.rules.proofs.limits.table_ok.Statement.{statement}
 use Rattle.rules.proofs.limits.table_ok.Tie as tie
-use Rattle.rules.proofs.limits.is_broken.Reads as is-broken-reads
+use Rattle.rules.proofs.limits.is_rising.Reads as is-rising-reads
 
 returns : tie.Need-returns
 unfolding tableOk
@@ -16,12 +16,12 @@ returns-2 : tie.Need-returns-2
 unfolding tableOk
 returns-2 c = simp (le-leb _ _ (c .before .if1 .left), lt-leb _ _ (c .if2 .taken))
 
-is-broken-requires : tie.Need-is-broken-requires
-is-broken-requires c κs = search needs
+is-rising-requires : tie.Need-is-rising-requires
+is-rising-requires c κs = search needs
 
 returns-3 : tie.Need-returns-3
 unfolding tableOk
-returns-3 c = simp (le-leb _ _ (c .before .before .if1 .left), le-leb _ _ (c .before .if2 .left), c .is-broken .ensures, and-true)
+returns-3 c = simp (le-leb _ _ (c .before .before .if1 .left), le-leb _ _ (c .before .if2 .left), c .is-rising .ensures, and-true)
 
 pub table-ok-spec : {M : Type 1} → statement M
-table-ok-spec = tie.close (tie.spec returns returns-2 is-broken-requires returns-3)
+table-ok-spec = tie.close (tie.spec returns returns-2 is-rising-requires returns-3)

@@ -10,7 +10,7 @@ use lib.Dec.{lit<}
 use Rattle.rules.specs.Opening.{slotCount}
 use Rattle.rules.specs.Filling.{runFrom}
 use Rattle.rules.specs.Lent.{slots}
-use Rattle.rules.specs.Inner.Fills.{zeroBefore}
+use Rattle.rules.specs.Inner.Walks.{zeroBefore}
 use Rattle.rules.proofs.Bounds.{bounded}
 use Rattle.rules.proofs.Runs.{run-agreed, run-zeroed, run-holds, from-on, run-on, within-last, within-good, within-broken, within-long}
 use Rattle.rules.proofs.Outages.{zero-applies, run-not-zeroed}

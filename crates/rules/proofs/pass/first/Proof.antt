@@ -1,5 +1,5 @@
 -- `pass::first` knows nothing before slot 0.
-use Rattle.rules.specs.Inner.Fills.{zeroBefore, lineBefore, fillsAt}
+use Rattle.rules.specs.Inner.Walks.{zeroBefore, lineBefore, walkAt}
 use Rattle.rules.specs.Inner.Stretches.{carriedAt}
 use Rattle.rules.specs.Inner.Passes.{passAt}
 use borrow.Author.Needs.{needs}
@@ -13,7 +13,7 @@ unscaled-to-requires : tie.Need-unscaled-to-requires
 unscaled-to-requires c κs = search needs
 
 returns : tie.Need-returns
-unfolding passAt fillsAt carriedAt zeroBefore lineBefore
+unfolding passAt walkAt carriedAt zeroBefore lineBefore
 returns c = λ h b. rw (c .unscaled-to .ensures, c .before .bare .ensures)
 
 pub first-spec : {M : Type 1} → statement M

@@ -16,13 +16,13 @@ add-highest c = search needs
 returns : tie.Need-returns
 unfolding rangeOf
 returns c = let a = c .before .args in
-    let p : leb 100000000 (a .g + a .v) ≡ true = le-leb 100000000 (a .g + a .v) (omega (arith, c .if1 .taken)) in
+    let p : leb 100_000_000 (a .g + a .v) ≡ true = le-leb 100_000_000 (a .g + a .v) (omega (arith, c .if1 .taken)) in
     rw p
 
 returns-2 : tie.Need-returns-2
 unfolding rangeOf
 returns-2 c = let a = c .before .before .args in
-    let p : leb 100000000 (a .g + a .v) ≡ false = lt-leb 100000000 (a .g + a .v) (omega (arith, c .before .if1 .left)) in
+    let p : leb 100_000_000 (a .g + a .v) ≡ false = lt-leb 100_000_000 (a .g + a .v) (omega (arith, c .before .if1 .left)) in
     let z : a .g - a .u ≡ 0 = omega (arith, c .if2 .taken) in
     rw (p, z)
 
@@ -32,7 +32,7 @@ sub-t6 c = search needs
 returns-3 : tie.Need-returns-3
 unfolding rangeOf
 returns-3 c = let a = c .before .before .args in
-    let p : leb 100000000 (a .g + a .v) ≡ false = lt-leb 100000000 (a .g + a .v) (omega (arith, c .before .if1 .left)) in
+    let p : leb 100_000_000 (a .g + a .v) ≡ false = lt-leb 100_000_000 (a .g + a .v) (omega (arith, c .before .if1 .left)) in
     rw p
 
 pub range-of-spec : {M : Type 1} → statement M

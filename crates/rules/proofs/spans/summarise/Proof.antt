@@ -9,12 +9,12 @@ use native.Mathlib.Nat.{add-zero}
 use native.Mathlib.Omega.{arith}
 use Rattle.rules.specs.Opening.{slotCount}
 use Rattle.rules.specs.Lent.{slots, agreedLists}
-use Rattle.rules.specs.Inner.Fills.{zeroBefore, lineBefore}
+use Rattle.rules.specs.Inner.Walks.{zeroBefore, lineBefore}
 use Rattle.rules.specs.Inner.Summaries.{summaryOf}
 use Rattle.rules.proofs.Bounds.{bounded, count-high}
 use Rattle.rules.proofs.Runs.{run-good}
 use Rattle.rules.proofs.Outages.{zero-none, zero-on, zero-applies, good-delivered, filled-good}
-use Rattle.rules.proofs.Lines.{line-none, line-on, fills-outage, fills-line}
+use Rattle.rules.proofs.Lines.{line-none, line-on, walk-outage, walk-line}
 use Rattle.rules.proofs.Summaries.{summary-on, summary-fits}
 use Rattle.rules.proofs.spans.summarise.Statement.{statement}
 use Rattle.rules.proofs.spans.summarise.Tie as tie
@@ -32,7 +32,7 @@ loop-holds : tie.Need-loop-holds Inv-loop μ-loop
 unfolding summaryOf sum any
 loop-holds c = let a = c .before .before .before .before .before .before .before .args in
     let s = slots (a .values .now) (a .versions .now) (a .statuses .now) in
-    (zero-le, rw add-zero (fills-outage (a .head) s (a .agreed-versions .now) (a .first) (a .first .at) (c .before .before .before .before .before .before .before .pre .3) _ refl), rw add-zero (fills-line (a .head) s (a .agreed-versions .now) (a .first) (a .first .at) (c .before .before .before .before .before .before .before .pre .3)), refl)
+    (zero-le, rw add-zero (walk-outage (a .head) s (a .agreed-versions .now) (a .first) (a .first .at) (c .before .before .before .before .before .before .before .pre .3) _ refl), rw add-zero (walk-line (a .head) s (a .agreed-versions .now) (a .first) (a .first .at) (c .before .before .before .before .before .before .before .pre .3)), refl)
 
 add-at : tie.Need-add-at Inv-loop μ-loop
 add-at c = omega (arith, count-high (c .before .before .before .before .before .before .before .before .before .args .head) (bounded (c .before .before .before .before .before .before .before .before .before .args .head) (c .before .before .before .before .before .before .before .before .before .pre .0 .fitted .head)))

@@ -22,7 +22,7 @@ returns : tie.Need-returns
 returns c = let a = c .before .before .before .before .before .before .before .before .before .before .before .before .args in
     let w = bounded (a .head) (c .before .before .before .before .before .before .before .before .before .before .before .before .pre .0 .lent .fitted .head) in
     let b = cells (slots (a .values .now) (a .versions .now) (a .statuses .now)) (a .holidays .now) (a .readings .now) (a .reads .now) (agreedLists (a .agreed .now) (a .agreed-versions .now)) (a .widths .now) in
-    let k = carried-on (a .head) w b (a .fills .at) (c .before .before .before .before .before .before .before .before .before .before .before .before .pre .1 .inside) (λ z. c .before .if1 .taken (z ∙ ap (λ (s : Stretch). s .until) (sym (c .before .before .before .before .before .before .before .before .before .before .before .before .pre .1 .stretch)))) in
+    let k = carried-on (a .head) w b (a .walk .at) (c .before .before .before .before .before .before .before .before .before .before .before .before .pre .1 .inside) (λ z. c .before .if1 .taken (z ∙ ap (λ (s : Stretch). s .until) (sym (c .before .before .before .before .before .before .before .before .before .before .before .before .pre .1 .stretch)))) in
     (c .no-span .ensures .0 ∙ sym (k .0), c .no-span .ensures .1 ∙ c .before .before .before .before .before .before .before .before .before .before .before .before .pre .1 .stretch ∙ k .1)
 
 slots-per-day-requires : tie.Need-slots-per-day-requires
@@ -35,12 +35,12 @@ div-day c = let w = bounded (c .before .before .before .before .before .before .
 add-next-read : tie.Need-add-next-read
 add-next-read c = let a = c .before .before .before .before .before .before .before .before .before .before .before .before .args in
     let w = bounded (a .head) (c .before .before .before .before .before .before .before .before .before .before .before .before .pre .0 .lent .fitted .head) in
-    rw (c .slots-per-day .ensures) (omega (arith, w .days-high, day-below (a .head) w (a .fills .at) (c .before .before .before .before .before .before .before .before .before .before .before .before .pre .1 .inside)))
+    rw (c .slots-per-day .ensures) (omega (arith, w .days-high, day-below (a .head) w (a .walk .at) (c .before .before .before .before .before .before .before .before .before .before .before .before .pre .1 .inside)))
 
 next-read-requires : tie.Need-next-read-requires
 next-read-requires c κs = let a = c .before .before .before .before .before .before .before .before .before .before .before .before .args in
     let w = bounded (a .head) (c .before .before .before .before .before .before .before .before .before .before .before .before .pre .0 .lent .fitted .head) in
-    rw (c .slots-per-day .ensures, c .before .before .before .before .before .before .before .before .before .before .before .before .pre .0 .readVersions) (omega (arith, day-below (a .head) w (a .fills .at) (c .before .before .before .before .before .before .before .before .before .before .before .before .pre .1 .inside)))
+    rw (c .slots-per-day .ensures, c .before .before .before .before .before .before .before .before .before .before .before .before .pre .0 .readVersions) (omega (arith, day-below (a .head) w (a .walk .at) (c .before .before .before .before .before .before .before .before .before .before .before .before .pre .1 .inside)))
 
 enum-known-next : tie.Need-enum-known-next
 enum-known-next c = search needs
@@ -49,12 +49,12 @@ reach-requires : tie.Need-reach-requires
 reach-requires c κs = let a = c .before .before .before .before .before .before .before .before .before .before .before .before .before .before .before .before .args in
     let w = bounded (a .head) (c .before .before .before .before .before .before .before .before .before .before .before .before .before .before .before .before .pre .0 .lent .fitted .head) in
     let b = cells (slots (a .values .now) (a .versions .now) (a .statuses .now)) (a .holidays .now) (a .readings .now) (a .reads .now) (agreedLists (a .agreed .now) (a .agreed-versions .now)) (a .widths .now) in
-    let d = a .fills .at / slotsPerDay (a .head) in
+    let d = a .walk .at / slotsPerDay (a .head) in
     let last = c .before .next .given .0 .0 in
     let e : nextRead (a .reads .now) (d + 1) (a .head .days - d) ≡ some last = next-behind (a .head) (a .reads .now) d (some last) (c .before .before .before .before .before .before .before .before .before .before .before .before .before .before .before .before .pre .0 .readVersions) (rw (c .before .before .before .before .slots-per-day .ensures) at (sym (c .before .before .before .next-read .ensures) ∙ ap nextMeant (c .before .next .given .1))) in
     let t = next-tells (a .reads .now) (a .head .days - d) (d + 1) last e in
-    let k = carried-ends (a .head) w b (a .fills .at) (c .before .before .before .before .before .before .before .before .before .before .before .before .before .before .before .before .pre .1 .inside) (c .before .before .before .before .before .if1 .left ∙ ap (λ (s : Stretch). s .until) (c .before .before .before .before .before .before .before .before .before .before .before .before .before .before .before .before .pre .1 .stretch)) in
-    let y = day-below (a .head) w (a .fills .at) (c .before .before .before .before .before .before .before .before .before .before .before .before .before .before .before .before .pre .1 .inside) in
+    let k = carried-ends (a .head) w b (a .walk .at) (c .before .before .before .before .before .before .before .before .before .before .before .before .before .before .before .before .pre .1 .inside) (c .before .before .before .before .before .if1 .left ∙ ap (λ (s : Stretch). s .until) (c .before .before .before .before .before .before .before .before .before .before .before .before .before .before .before .before .pre .1 .stretch)) in
+    let y = day-below (a .head) w (a .walk .at) (c .before .before .before .before .before .before .before .before .before .before .before .before .before .before .before .before .pre .1 .inside) in
     rw (c .before .before .before .before .slots-per-day .ensures) (c .before .before .before .before .before .before .before .before .before .before .before .before .before .before .before .before .pre .0, record { ordered = omega (arith, t .low); within = omega (arith, t .high, y); known = c .before .before .before .before .before .before .before .before .before .before .before .before .before .before .before .before .pre .1 .known; at-first = k .0 })
 
 enum-told : tie.Need-enum-told
@@ -73,21 +73,21 @@ returns-2 : tie.Need-returns-2
 returns-2 c = let a = c .before .before .before .before .before .before .before .before .before .before .before .before .before .before .before .before .before .args in
     let w = bounded (a .head) (c .before .before .before .before .before .before .before .before .before .before .before .before .before .before .before .before .before .pre .0 .lent .fitted .head) in
     let b = cells (slots (a .values .now) (a .versions .now) (a .statuses .now)) (a .holidays .now) (a .readings .now) (a .reads .now) (agreedLists (a .agreed .now) (a .agreed-versions .now)) (a .widths .now) in
-    let d = a .fills .at / slotsPerDay (a .head) in
+    let d = a .walk .at / slotsPerDay (a .head) in
     let last = c .before .before .next .given .0 .0 in
     let e : nextRead (a .reads .now) (d + 1) (a .head .days - d) ≡ some last = next-behind (a .head) (a .reads .now) d (some last) (c .before .before .before .before .before .before .before .before .before .before .before .before .before .before .before .before .before .pre .0 .readVersions) (rw (c .before .before .before .before .before .slots-per-day .ensures) at (sym (c .before .before .before .before .next-read .ensures) ∙ ap nextMeant (c .before .before .next .given .1))) in
-    let k = carried-ends (a .head) w b (a .fills .at) (c .before .before .before .before .before .before .before .before .before .before .before .before .before .before .before .before .before .pre .1 .inside) (c .before .before .before .before .before .before .if1 .left ∙ ap (λ (s : Stretch). s .until) (c .before .before .before .before .before .before .before .before .before .before .before .before .before .before .before .before .before .pre .1 .stretch)) in
+    let k = carried-ends (a .head) w b (a .walk .at) (c .before .before .before .before .before .before .before .before .before .before .before .before .before .before .before .before .before .pre .1 .inside) (c .before .before .before .before .before .before .if1 .left ∙ ap (λ (s : Stretch). s .until) (c .before .before .before .before .before .before .before .before .before .before .before .before .before .before .before .before .before .pre .1 .stretch)) in
     let r = rw (c .before .before .before .before .before .slots-per-day .ensures) at (c .reach .ensures) in
-    (r .0 ∙ begins-some (a .head) w b (a .fills .at) (k .0) last e, r .1 ∙ stretch-some (a .head) w b (a .fills .at) last (k .1) e)
+    (r .0 ∙ begins-some (a .head) w b (a .walk .at) (k .0) last e, r .1 ∙ stretch-some (a .head) w b (a .walk .at) last (k .1) e)
 
 returns-3 : tie.Need-returns-3
 returns-3 c = let a = c .before .before .before .before .before .before .before .before .before .before .before .before .before .before .before .before .before .before .args in
     let w = bounded (a .head) (c .before .before .before .before .before .before .before .before .before .before .before .before .before .before .before .before .before .before .pre .0 .lent .fitted .head) in
     let b = cells (slots (a .values .now) (a .versions .now) (a .statuses .now)) (a .holidays .now) (a .readings .now) (a .reads .now) (agreedLists (a .agreed .now) (a .agreed-versions .now)) (a .widths .now) in
-    let d = a .fills .at / slotsPerDay (a .head) in
+    let d = a .walk .at / slotsPerDay (a .head) in
     let e : nextRead (a .reads .now) (d + 1) (a .head .days - d) ≡ none = next-behind (a .head) (a .reads .now) d none (c .before .before .before .before .before .before .before .before .before .before .before .before .before .before .before .before .before .before .pre .0 .readVersions) (rw (c .before .before .before .before .before .before .slots-per-day .ensures) at (sym (c .before .before .before .before .before .next-read .ensures) ∙ ap nextMeant (c .before .before .before .enum-told .given .1))) in
-    let k = carried-ends (a .head) w b (a .fills .at) (c .before .before .before .before .before .before .before .before .before .before .before .before .before .before .before .before .before .before .pre .1 .inside) (c .before .before .before .before .before .before .before .if1 .left ∙ ap (λ (s : Stretch). s .until) (c .before .before .before .before .before .before .before .before .before .before .before .before .before .before .before .before .before .before .pre .1 .stretch)) in
-    (c .no-span2 .ensures .0 ∙ sym (begins-none (a .head) w b (a .fills .at) (k .0) e), c .no-span2 .ensures .1 ∙ c .before .unscaled-to .ensures ∙ (rw (c .before .before .slot-count .ensures) (sym (stretch-none (a .head) w b (a .fills .at) e))))
+    let k = carried-ends (a .head) w b (a .walk .at) (c .before .before .before .before .before .before .before .before .before .before .before .before .before .before .before .before .before .before .pre .1 .inside) (c .before .before .before .before .before .before .before .if1 .left ∙ ap (λ (s : Stretch). s .until) (c .before .before .before .before .before .before .before .before .before .before .before .before .before .before .before .before .before .before .pre .1 .stretch)) in
+    (c .no-span2 .ensures .0 ∙ sym (begins-none (a .head) w b (a .walk .at) (k .0) e), c .no-span2 .ensures .1 ∙ c .before .unscaled-to .ensures ∙ (rw (c .before .before .slot-count .ensures) (sym (stretch-none (a .head) w b (a .walk .at) e))))
 
 pub enter-spec : {M : Type 1} → statement M
 enter-spec =

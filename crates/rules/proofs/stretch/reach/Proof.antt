@@ -47,7 +47,7 @@ unfolding beginsWith stretchFrom
 returns-2 c = let a = c .before .before .before .before .before .before .before .before .before .before .before .before .before .before .args in
     let s = slots (a .values .now) (a .versions .now) (a .statuses .now) in
     let g = agreedLists (a .agreed .now) (a .agreed-versions .now) in
-    rw (is-read (a .reads .now) (a .day) (c .before .before .before .if1 .left)) (ap Span (c .before .before .meet .ensures .0 ∙ span-versions (a .head) s (a .holidays .now) (a .readings .now) [] (a .reads .now) g (a .widths .now) (a .day) (a .last)), c .before .before .meet .ensures .1 ∙ stretch-versions (a .head) s (a .holidays .now) (a .readings .now) [] (a .reads .now) g (a .widths .now) (a .day) (a .last) (a .fills .at))
+    rw (is-read (a .reads .now) (a .day) (c .before .before .before .if1 .left)) (ap Span (c .before .before .meet .ensures .0 ∙ span-versions (a .head) s (a .holidays .now) (a .readings .now) [] (a .reads .now) g (a .widths .now) (a .day) (a .last)), c .before .before .meet .ensures .1 ∙ stretch-versions (a .head) s (a .holidays .now) (a .readings .now) [] (a .reads .now) g (a .widths .now) (a .day) (a .last) (a .walk .at))
 
 pub reach-spec : {M : Type 1} → statement M
 reach-spec =

@@ -1,4 +1,4 @@
--- `fills::outage_after`. From slot j on the answer is that from the start.
+-- `outage::outage_after`. From slot j on the answer is that from the start.
 use mathlib.Core.Path.{_≡_, refl, sym, _∙_}
 use Prim.Native.Nat.{_≤_, _-_}
 use native.Mathlib.Omega.{arith}
@@ -6,8 +6,8 @@ use borrow.Author.Needs.{needs}
 use lib.ListN.{length}
 use Rattle.rules.specs.Filling.{outageAfter}
 use Rattle.rules.proofs.Outages.{gap, delivered, after-end, after-gap, after-delivered}
-use Rattle.rules.proofs.fills.outage_after.Statement.{statement}
-use Rattle.rules.proofs.fills.outage_after.Tie as tie
+use Rattle.rules.proofs.outage.outage_after.Statement.{statement}
+use Rattle.rules.proofs.outage.outage_after.Tie as tie
 
 abbrev Inv-loop : tie.InvT-loop
 Inv-loop versions statuses start j₀ j =

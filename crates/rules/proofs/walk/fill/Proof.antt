@@ -1,14 +1,14 @@
 use Rattle.rules.proofs.Shapes.{shape-good}
--- `fills::fill`: a good slot has its value, another is filled.
+-- `walk::fill`: a good slot has its value, another is filled.
 use mathlib.Core.Path.{_∙_, sym, refl}
 use native.Mathlib.Omega.{arith}
 use Rattle.rules.specs.Lent.{slots, agreedLists}
 use Rattle.rules.proofs.Runs.{run-good}
 use Rattle.rules.proofs.Outages.{zero-none, zero-applies, good-delivered, filled-good}
-use Rattle.rules.proofs.Lines.{line-none, fills-outage, fills-line, fills-next}
+use Rattle.rules.proofs.Lines.{line-none, walk-outage, walk-line, walk-next}
 use borrow.Author.Needs.{needs}
-use Rattle.rules.proofs.fills.fill.Statement.{statement}
-use Rattle.rules.proofs.fills.fill.Tie as tie
+use Rattle.rules.proofs.walk.fill.Statement.{statement}
+use Rattle.rules.proofs.walk.fill.Tie as tie
 
 add-on : tie.Need-add-on
 add-on c = search needs
@@ -33,24 +33,24 @@ returns c = let a = c .before .before .before .before .before .before .before .b
     let s = slots (a .values .now) (a .versions .now) (a .statuses .now) in
     let v = a .agreed-versions .now in
     let x = agreedLists (a .agreed .now) v in
-    let i = a .fills .at in
+    let i = a .walk .at in
     let g = sym (c .before .before .before .before .is-good .ensures) ∙ c .before .before .before .if1 .taken in
-    (c .delivered .ensures ∙ filled-good (a .head) s x (a .holidays .now) i g, shape-good (a .head) s x (a .holidays .now) i g, fills-next (a .head) s v i _ refl _ (sym (zero-none (s .versions) (s .statuses) _ _ (good-delivered (a .head) s i g))) _ (c .before .before .bare .ensures ∙ line-none (a .head) s v i (run-good (a .head) s v i g)))
+    (c .delivered .ensures ∙ filled-good (a .head) s x (a .holidays .now) i g, shape-good (a .head) s x (a .holidays .now) i g, walk-next (a .head) s v i _ refl _ (sym (zero-none (s .versions) (s .statuses) _ _ (good-delivered (a .head) s i g))) _ (c .before .before .bare .ensures ∙ line-none (a .head) s v i (run-good (a .head) s v i g)))
 
 outage-zero-requires : tie.Need-outage-zero-requires
 outage-zero-requires c κs = let a = c .before .before .before .before .before .before .before .before .args in
     let s = slots (a .values .now) (a .versions .now) (a .statuses .now) in
-    (omega arith, omega arith, fills-outage (a .head) s (a .agreed-versions .now) (a .fills) (a .fills .at) (c .before .before .before .before .before .before .before .before .pre .3) _ (c .before .before .before .before .before .before .before .before .pre .0 .fitted .versions))
+    (omega arith, omega arith, walk-outage (a .head) s (a .agreed-versions .now) (a .walk) (a .walk .at) (c .before .before .before .before .before .before .before .before .pre .3) _ (c .before .before .before .before .before .before .before .before .pre .0 .fitted .versions))
 
 fill-cause-requires : tie.Need-fill-cause-requires
 fill-cause-requires c κs = let a = c .before .before .before .before .before .before .before .before .before .before .args in
     let s = slots (a .values .now) (a .versions .now) (a .statuses .now) in
-    (c .before .before .before .before .before .before .before .before .before .before .pre .0, c .before .before .before .before .before .before .before .before .before .before .pre .1, c .before .before .before .before .before .before .before .before .before .before .pre .2, sym (c .before .before .before .is-good .ensures) ∙ c .before .before .if1 .left, c .before .outage-zero .ensures ∙ zero-applies (a .head) s _ (c .before .before .before .before .before .before .before .before .before .before .pre .0 .fitted .versions) (a .fills .at), fills-line (a .head) s (a .agreed-versions .now) (a .fills) (a .fills .at) (c .before .before .before .before .before .before .before .before .before .before .pre .3))
+    (c .before .before .before .before .before .before .before .before .before .before .pre .0, c .before .before .before .before .before .before .before .before .before .before .pre .1, c .before .before .before .before .before .before .before .before .before .before .pre .2, sym (c .before .before .before .is-good .ensures) ∙ c .before .before .if1 .left, c .before .outage-zero .ensures ∙ zero-applies (a .head) s _ (c .before .before .before .before .before .before .before .before .before .before .pre .0 .fitted .versions) (a .walk .at), walk-line (a .head) s (a .agreed-versions .now) (a .walk) (a .walk .at) (c .before .before .before .before .before .before .before .before .before .before .pre .3))
 
 returns-2 : tie.Need-returns-2
 returns-2 c = let a = c .before .before .before .before .before .before .before .before .before .before .before .before .before .args in
     let s = slots (a .values .now) (a .versions .now) (a .statuses .now) in
-    (c .before .before .fill-cause .ensures .0, c .before .before .fill-cause .ensures .1, fills-next (a .head) s (a .agreed-versions .now) (a .fills .at) _ (c .before .before .before .before .before .before .before .before .before .before .before .before .before .pre .0 .fitted .versions) _ (c .before .before .before .before .outage-zero .ensures) _ (c .before .before .fill-cause .ensures .2))
+    (c .before .before .fill-cause .ensures .0, c .before .before .fill-cause .ensures .1, walk-next (a .head) s (a .agreed-versions .now) (a .walk .at) _ (c .before .before .before .before .before .before .before .before .before .before .before .before .before .pre .0 .fitted .versions) _ (c .before .before .before .before .outage-zero .ensures) _ (c .before .before .fill-cause .ensures .2))
 
 pub fill-spec : {M : Type 1} → statement M
 fill-spec =

@@ -1,4 +1,4 @@
--- What the pass that fills the slots knows at a slot.
+-- What the walk that fills the slots knows at a slot.
 use mathlib.Core.Bool.{Bool, false, cond, _&&_, _||_}
 use mathlib.Core.List.{List, [], _∷_}
 use Prim.Native.Nat.{ℕ, zero, suc, _+_, _-_, _*_, _≤_}
@@ -8,11 +8,12 @@ use Rattle.base.specs.Lists.{every}
 use Rattle.rules.specs.declared.Head.{Head}
 use Rattle.rules.specs.declared.Outcome.{Outcome}
 use Rattle.rules.specs.declared.Quality.the-variants.{A, F}
-use Rattle.rules.specs.declared.fills.Fills.{Fills}
+use Rattle.rules.specs.declared.walk.Walk.{Walk}
 use Rattle.rules.specs.declared.linear.Line.{Line}
 use Rattle.rules.specs.Opening.{Slots, slotCount}
 use Rattle.rules.specs.Tests.{isGap, goodAt}
 use Rattle.rules.specs.Filling.{outageBefore, outageAfter, inRun, runBefore, runFrom, runStart, runLength, isLinear}
+use Rattle.rules.specs.Numbers.{mostMinutes}
 
 -- a good slot with this value
 abbrev pub actualOf : ℕ → Outcome
@@ -61,7 +62,7 @@ lineBefore h s agreed (suc i) = lineAt h s agreed i
 
 -- g × L at most 120, and a good slot after the g slots from slot i
 abbrev pub endTests : Head → Slots → ℕ → ℕ → List Bool
-endTests h s i g = leb (g * h .interval) 120 ∷ ltb (i + g) (slotCount h) ∷ goodAt h s (i + g) ∷ []
+endTests h s i g = leb (g * h .interval) mostMinutes ∷ ltb (i + g) (slotCount h) ∷ goodAt h s (i + g) ∷ []
 
 -- the slots of the run that begins at slot i, where these hold; else 0
 unfoldable pub lengthWithin : Head → Slots → List ℕ → ℕ → ℕ
@@ -73,9 +74,9 @@ lengthWithin h s agreed i =
 pub record Drawn (l : Line) : Type 0 where
   pub place : l .place ≤ l .length
   pub length : l .length ≤ 24
-  pub left : l .left ≤ 500000
-  pub right : l .right ≤ 500000
+  pub left : l .left ≤ 500_000
+  pub right : l .right ≤ 500_000
 
-unfoldable pub fillsAt : Head → Slots → List ℕ → ℕ → Fills
-fillsAt h s agreed i =
+unfoldable pub walkAt : Head → Slots → List ℕ → ℕ → Walk
+walkAt h s agreed i =
     record { at = i; outage = zeroBefore (s .versions) (s .statuses) (slotCount h) i; line = lineBefore h s agreed i }

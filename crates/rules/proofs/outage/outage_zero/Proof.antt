@@ -1,10 +1,10 @@
--- `fills::outage_zero`: inside a run the answer stands; at its first slot both sides are looked at.
+-- `outage::outage_zero`: inside a run the answer stands; at its first slot both sides are looked at.
 use mathlib.Core.Path.{sym, _∙_}
 use native.Mathlib.Omega.{arith}
 use Rattle.rules.proofs.Outages.{gap, delivered, zero-none, zero-first, zero-kept, zero-before, zero-after}
 use borrow.Author.Needs.{needs}
-use Rattle.rules.proofs.fills.outage_zero.Statement.{statement}
-use Rattle.rules.proofs.fills.outage_zero.Tie as tie
+use Rattle.rules.proofs.outage.outage_zero.Statement.{statement}
+use Rattle.rules.proofs.outage.outage_zero.Tie as tie
 
 mul-if1 : tie.Need-mul-if1
 mul-if1 c = search needs

@@ -1,0 +1,76 @@
+-- `limits::is_rising`. Every limit passed rises, so the test of all is that of those left; the one before is known.
+use borrow.Author.Needs.{needs}
+use mathlib.Core.Path.{_≡_, sym, _∙_}
+use Prim.Native.Nat.{_≤_, _-_, zero-le}
+use native.Mathlib.Nat.{sub-zero}
+use native.Mathlib.Omega.{arith}
+use lib.ListN.{length}
+use Rattle.base.specs.Lists.{all}
+use Rattle.base.proofs.Sums.{all-more, all-fails, all-done}
+use Rattle.rules.specs.Limits.{limitBefore, risesAt}
+use Rattle.rules.proofs.Tables.{before-first, before-on, not-above, too-high, rises}
+use Rattle.rules.proofs.limits.is_rising.Statement.{statement}
+use Rattle.rules.proofs.limits.is_rising.Tie as tie
+
+abbrev Inv-loop : tie.InvT-loop
+Inv-loop table last₀ i₀ last i =
+    (i ≤ length table) × (last ≡ limitBefore table i) × (all (risesAt table) 0 (length table) ≡ all (risesAt table) i (length table - i))
+
+abbrev μ-loop : tie.MeasureT-loop
+μ-loop table last₀ i₀ last i = length table - i
+
+loop-holds : tie.Need-loop-holds Inv-loop μ-loop
+loop-holds c = (zero-le, before-first (c .args .table .now), rw sub-zero)
+
+mul-limit : tie.Need-mul-limit Inv-loop μ-loop
+mul-limit c = search needs
+
+shared-slice-read-limit : tie.Need-shared-slice-read-limit Inv-loop μ-loop
+shared-slice-read-limit c = omega arith
+
+returns : tie.Need-returns Inv-loop μ-loop
+returns c =
+    let l = c .before .before .before .loop in
+    let table = c .before .before .before .before .args .table .now in
+    sym (l .inv .2 ∙ all-fails (risesAt table) (l .i) (length table) (c .before .before .loop-test .taken) (not-above table (l .i) (l .last) (l .inv .1) (c .if1 .taken)))
+
+returns-2 : tie.Need-returns-2 Inv-loop μ-loop
+returns-2 c =
+    let l = c .before .before .before .before .loop in
+    let table = c .before .before .before .before .before .args .table .now in
+    sym (l .inv .2 ∙ all-fails (risesAt table) (l .i) (length table) (c .before .before .before .loop-test .taken) (too-high table (l .i) (l .last) (l .inv .1) (c .if2 .taken)))
+
+add-i : tie.Need-add-i Inv-loop μ-loop
+add-i c = omega arith
+
+loop-less : tie.Need-loop-less Inv-loop μ-loop
+loop-less c = omega arith
+
+loop-again : tie.Need-loop-again Inv-loop μ-loop
+loop-again c =
+    let l = c .before .before .before .before .loop in
+    let table = c .before .before .before .before .before .args .table .now in
+    let rising = rises table (l .i) (l .last) (l .inv .1) (c .before .if1 .left) (c .if2 .left) in
+    (omega arith, before-on table (l .i), l .inv .2 ∙ all-more (risesAt table) (l .i) (length table) (c .before .before .before .loop-test .taken) rising)
+
+returns-3 : tie.Need-returns-3 Inv-loop μ-loop
+returns-3 c =
+    let l = c .before .loop in
+    let table = c .before .before .args .table .now in
+    sym (l .inv .2 ∙ all-done (risesAt table) (l .i) (length table) (omega arith))
+
+pub is-rising-spec : {M : Type 1} → statement M
+is-rising-spec =
+    tie.close
+    (tie.spec
+    Inv-loop
+    μ-loop
+    loop-holds
+    mul-limit
+    shared-slice-read-limit
+    returns
+    returns-2
+    add-i
+    loop-less
+    loop-again
+    returns-3)
