@@ -16,7 +16,8 @@ use Rattle.rules.specs.Opening.{headOk, slotCount, Cells}
 use Rattle.rules.specs.Spans.{isRead}
 use Rattle.rules.proofs.Bounds.{bounded}
 use Rattle.book.specs.Arguments.{Call}
-use Rattle.book.specs.Plain.{Said, DialRead, deliveries, reads, highest, contentWith, readVersion, readContent, slotVersion, slotContent, bookOf}
+use Rattle.book.specs.Contents.{DialRead}
+use Rattle.book.specs.Plain.{Said, deliveries, reads, highest, contentWith, readVersion, readContent, slotVersion, slotContent, bookOf}
 use Rattle.claim.specs.Claim.{plainOf}
 use Rattle.berth.specs.Steps.{lostAt, valueAt}
 use Rattle.berth.specs.Run.{callsOf}

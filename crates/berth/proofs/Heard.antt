@@ -14,7 +14,8 @@ use Rattle.book.specs.Answers.{byVersion}
 use Rattle.book.specs.Answers.Answer.{stored}
 use Rattle.book.specs.Arguments.{Call, argumentRules}
 use Rattle.book.specs.Arguments.Call.{delivery, register}
-use Rattle.book.specs.Plain.{Said, Measured, deliveries, reads, agreements, named, highest, againstKept, plainAnswer, keep, keptOf}
+use Rattle.book.specs.Contents.{Measured}
+use Rattle.book.specs.Plain.{Said, deliveries, reads, agreements, named, highest, againstKept, plainAnswer, keep, keptOf}
 use Rattle.berth.specs.Steps.{lostAt, valueAt}
 use Rattle.berth.specs.Run.{sentAt, sent, trueTotal, dialReads, callsOf}
 

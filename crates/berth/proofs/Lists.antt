@@ -7,7 +7,7 @@ use Rattle.rules.specs.declared.Head.{Head}
 use Rattle.rules.specs.Opening.{headOk, slotCount}
 use Rattle.book.specs.Arguments.{Call}
 use Rattle.book.specs.Arguments.Call.{delivery}
-use Rattle.book.specs.Cells.{Reads, Book, readsOf, bookFits}
+use Rattle.book.specs.Cells.{Reads, Book, readsOf, bookFits, withSlots, withReads}
 use Rattle.book.specs.Opening.{opened, openAnswer, openAfter}
 use Rattle.book.specs.Filling.{deliverAfter, countsAfter, registerAfter, after, afterAll}
 use Rattle.claim.specs.Claim.{leftBy}
@@ -25,31 +25,11 @@ abbrev pub sentIn : Book → Sent
 sentIn b = record { slots = b .cells .slots; counts = b .counts }
 
 abbrev withSent : Book → Sent → Book
-withSent b s = record {
-  cells = record {
-    slots = s .slots;
-    holidays = b .cells .holidays;
-    readings = b .cells .readings;
-    readVersions = b .cells .readVersions;
-    agreed = b .cells .agreed;
-    widths = b .cells .widths;
-  };
-  counts = s .counts;
-}
+withSent b s = record { cells = withSlots (b .cells) (s .slots); counts = s .counts }
 
 -- a book with other lists of reads
-abbrev withReads : Book → Reads → Book
-withReads b r = record {
-  cells = record {
-    slots = b .cells .slots;
-    holidays = b .cells .holidays;
-    readings = r .readings;
-    readVersions = r .readVersions;
-    agreed = b .cells .agreed;
-    widths = r .widths;
-  };
-  counts = b .counts;
-}
+abbrev withDial : Book → Reads → Book
+withDial b r = record { cells = withReads (b .cells) r; counts = b .counts }
 
 -- what the dial's two reads leave
 abbrev pub dialAfter : Head → Reads → ℕ → Reads
@@ -74,14 +54,14 @@ module _ (h : Head) (seed loss : ℕ) (b : Book) where
       ∙ ap (λ (c : Book). afterAll h c (sentAt h seed loss i)) (all-sent i)
       ∙ one-sent (sentFrom h seed loss (sentIn b) i) i
 
-  dial-read : (total : ℕ) → afterAll h b (dialReads h total) ≡ withReads b (dialAfter h (readsOf (b .cells)) total)
+  dial-read : (total : ℕ) → afterAll h b (dialReads h total) ≡ withDial b (dialAfter h (readsOf (b .cells)) total)
   unfolding dialReads afterAll after
   dial-read total = refl
 
 -- a book o that was opened, with the lists s after the deliveries and r after the reads
 pub run-lists : (h : Head) (seed loss : ℕ) (o : Book) (s : Sent) (r : Reads) (total : ℕ) → o ≡ opened h
     → total ≡ trueTotal h seed loss → s ≡ sentFrom h seed loss (sentIn o) (slotCount h) → r ≡ dialAfter h (readsOf (o .cells)) total
-    → withReads (withSent o s) r ≡ leftBy h (callsOf h seed loss)
+    → withDial (withSent o s) r ≡ leftBy h (callsOf h seed loss)
 unfolding callsOf
 run-lists h seed loss o s r total e t p q =
     rw (q, p, t, e)

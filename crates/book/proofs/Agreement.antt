@@ -23,6 +23,7 @@ use Rattle.book.specs.Cells.{readsOf, allLong, slotsFit, daysFit, readsF
 use Rattle.book.specs.Opening.{opened}
 use Rattle.book.specs.Filling.{inputRules, againstSlot, againstDay, againstBoundary, againstAgreed, againstDelivery, deliverAnswer, holidayAnswer, registerAnswer, agreeAnswer, answer, after, answers, afterAll}
 use Rattle.book.specs.Plain.{deliveries, reads, agreements, named, highest, contentWith, againstKept, plainAnswer, keep, plainAnswers, keptOf, bookOf, deliveredOn, countsOf, listsOf}
+use Rattle.book.specs.Contents.{dialRead, readAt}
 use Rattle.book.proofs.Tables.{upTo-zero}
 use Rattle.book.proofs.Next.{countedIn, booked, after-filed, filed-refused, book-next}
 use Rattle.book.proofs.Counting.{day-positive, not-full, counts-next, counts-none}
@@ -62,7 +63,7 @@ against-day h kept day ok lt = simp upTo-at (rw (day-clean h kept ok day) (go (n
     go false = refl
 
 against-boundary : (h : Head) (kept : List Call) (boundary version reading width : ℕ) → Kept h kept → boundary < suc (h .days)
-    → againstBoundary (getD (bookOf h kept .readVersions) boundary 0) (getD (bookOf h kept .readings) boundary 0) (getD (bookOf h kept .widths) boundary 0) version reading width
+    → againstBoundary (getD (bookOf h kept .readVersions) boundary 0) (readAt (readsOf (bookOf h kept)) boundary) version (dialRead reading width)
     ≡ againstKept kept (register boundary version reading width)
 unfolding againstBoundary againstKept bookOf
 against-boundary h kept boundary version reading width ok lt = simp upTo-at (rw (read-clean h kept ok boundary))

@@ -8,7 +8,8 @@ use borrow.Author.Tests.{le-ltb, ne-eqb}
 use Rattle.rules.specs.declared.Head.{Head}
 use Rattle.book.specs.Arguments.{Call}
 use Rattle.book.specs.Cells.{slotFault, dayFault, numberFault, readFault, agreedFault}
-use Rattle.book.specs.Plain.{Said, Measured, DialRead, deliveries, reads, agreements, named, slotVersion, slotContent, readVersion, readContent, agreedVersion, agreedContent}
+use Rattle.book.specs.Contents.{Measured, DialRead}
+use Rattle.book.specs.Plain.{Said, deliveries, reads, agreements, named, slotVersion, slotContent, readVersion, readContent, agreedVersion, agreedContent}
 use Rattle.book.proofs.Said.{from}
 use Rattle.book.proofs.Members.{deliveredAs, readAs, agreedAs, deliveries-from, reads-from, agreements-from}
 use Rattle.book.proofs.Kept.{Kept, Sound, kept-sound}

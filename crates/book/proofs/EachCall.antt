@@ -9,7 +9,7 @@ use Rattle.book.specs.declared.calls.Call.{Call}
 use Rattle.book.specs.declared.calls.Call.the-variants.{Delivery, Holiday, Register, Agreed}
 use Rattle.book.specs.Answers.{Answer}
 use Rattle.book.specs.Arguments.{callMeant}
-use Rattle.book.specs.Cells.{Book, readsOf}
+use Rattle.book.specs.Cells.{Book, readsOf, withSlots, withHolidays, withReads, withAgreed}
 use Rattle.book.specs.Lent.{readLists}
 use Rattle.book.specs.Filling.{deliverAnswer, deliverAfter, countsAfter, holidayAnswer, holidayAfter, registerAnswer, registerAfter, agreeAnswer, agreeAfter, answer, after}
 
@@ -23,85 +23,45 @@ module _ (h : Head) (b : Cells) (counts : List ℕ) (call : Call) (a : Answer) w
       → slots values versions statuses ≡ deliverAfter h (b .slots) counts slot version value status
       → after-counts ≡ countsAfter h (b .slots) counts slot version value status
       → (a ≡ answer h (book b counts) (callMeant call))
-      × (book (cells (slots values versions statuses) (b .holidays) (b .readings) (b .readVersions) (b .agreed) (b .widths)) after-counts ≡ after h (book b counts) (callMeant call))
+      × (book (withSlots b (slots values versions statuses)) after-counts ≡ after h (book b counts) (callMeant call))
   unfolding answer after
   delivered slot version value status values versions statuses after-counts k e p s =
       rw k (
         e,
-        λ t. record {
-          cells = record {
-            slots = p t;
-            holidays = b .holidays;
-            readings = b .readings;
-            readVersions = b .readVersions;
-            agreed = b .agreed;
-            widths = b .widths;
-          };
-          counts = s t;
-        },
+        λ t. record { cells = withSlots b (p t); counts = s t },
       )
 
   pub named : (day : ℕ) (holidays : List ℕ) → call ≡ Holiday day → a ≡ holidayAnswer h (b .holidays) day
       → holidays ≡ holidayAfter h (b .holidays) day
       → (a ≡ answer h (book b counts) (callMeant call))
-      × (book (cells (b .slots) holidays (b .readings) (b .readVersions) (b .agreed) (b .widths)) counts ≡ after h (book b counts) (callMeant call))
+      × (book (withHolidays b holidays) counts ≡ after h (book b counts) (callMeant call))
   unfolding answer after
   named day holidays k e p =
       rw k (
         e,
-        λ t. record {
-          cells = record {
-            slots = b .slots;
-            holidays = p t;
-            readings = b .readings;
-            readVersions = b .readVersions;
-            agreed = b .agreed;
-            widths = b .widths;
-          };
-          counts = counts;
-        },
+        λ t. record { cells = withHolidays b (p t); counts = counts },
       )
 
   pub registered : (boundary version reading width : ℕ) (readings reads widths : List ℕ) → call ≡ Register boundary version reading width
       → a ≡ registerAnswer h (readsOf b) boundary version reading width
       → readLists readings reads widths ≡ registerAfter h (readsOf b) boundary version reading width
       → (a ≡ answer h (book b counts) (callMeant call))
-      × (book (cells (b .slots) (b .holidays) readings reads (b .agreed) widths) counts ≡ after h (book b counts) (callMeant call))
+      × (book (withReads b (readLists readings reads widths)) counts ≡ after h (book b counts) (callMeant call))
   unfolding answer after
   registered boundary version reading width readings reads widths k e p =
       rw k (
         e,
-        λ t. record {
-          cells = record {
-            slots = b .slots;
-            holidays = b .holidays;
-            readings = p t .readings;
-            readVersions = p t .readVersions;
-            agreed = b .agreed;
-            widths = p t .widths;
-          };
-          counts = counts;
-        },
+        λ t. record { cells = withReads b (p t); counts = counts },
       )
 
   pub settled : (slot version value : ℕ) (values versions : List ℕ) → call ≡ Agreed slot version value
       → a ≡ agreeAnswer h (b .agreed) slot version value
       → agreedLists values versions ≡ agreeAfter h (b .agreed) slot version value
       → (a ≡ answer h (book b counts) (callMeant call))
-      × (book (cells (b .slots) (b .holidays) (b .readings) (b .readVersions) (agreedLists values versions) (b .widths)) counts ≡ after h (book b counts) (callMeant call))
+      × (book (withAgreed b (agreedLists values versions)) counts ≡ after h (book b counts) (callMeant call))
   unfolding answer after
   settled slot version value values versions k e p =
       rw k (
         e,
-        λ t. record {
-          cells = record {
-            slots = b .slots;
-            holidays = b .holidays;
-            readings = b .readings;
-            readVersions = b .readVersions;
-            agreed = p t;
-            widths = b .widths;
-          };
-          counts = counts;
-        },
+        λ t. record { cells = withAgreed b (p t); counts = counts },
       )

@@ -10,7 +10,8 @@ use borrow.Author.Tests.{eqb-true, eq-eqb}
 use Rattle.base.proofs.Logic.{or-parts}
 use Rattle.book.specs.Arguments.{Call}
 use Rattle.book.specs.Arguments.Call.{delivery, holiday, register, agreed}
-use Rattle.book.specs.Plain.{Said, Measured, DialRead, deliveries, reads, agreements, named}
+use Rattle.book.specs.Contents.{Measured, DialRead}
+use Rattle.book.specs.Plain.{Said, deliveries, reads, agreements, named}
 
 -- the call that said it
 abbrev pub deliveredAs : ℕ → Said Measured → Call

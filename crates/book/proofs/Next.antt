@@ -9,50 +9,28 @@ use Rattle.base.specs.Lists.{upTo}
 use Rattle.base.proofs.Logic.{and-parts}
 use Rattle.rules.specs.declared.Head.{Head}
 use Rattle.rules.specs.Opening.{slotsPerDay, slotCount, Cells}
+use Rattle.rules.specs.Lent.{agreedLists}
 use Rattle.book.specs.Answers.{Answer, isAccepted, isStored, byVersion}
 use Rattle.book.specs.Answers.Answer.{done, stored, late, repeat, refused}
 use Rattle.book.specs.Arguments.{Call}
 use Rattle.book.specs.Arguments.Call.{delivery, holiday, register, agreed}
-use Rattle.book.specs.Cells.{Book}
+use Rattle.book.specs.Cells.{Book, withSlots, withHolidays, withReads, withAgreed}
 use Rattle.book.specs.Filling.{storedIn, slotsWith, countsWith, deliverAfter, countsAfter, holidayAfter, registerAfter, agreeAfter, answer, after}
-use Rattle.book.specs.Plain.{Said, Measured, DialRead, deliveries, reads, agreements, named, highest, slotVersion, slotContent, readVersion, readContent, againstKept, bookOf}
+use Rattle.book.specs.Contents.{Measured, DialRead}
+use Rattle.book.specs.Plain.{Said, deliveries, reads, agreements, named, highest, slotVersion, slotContent, readVersion, readContent, againstKept, bookOf}
+use Rattle.book.specs.Lent.{readLists}
 use Rattle.book.proofs.Tables.{upTo-filed}
 use Rattle.book.proofs.Said.{latest, said-filed}
 
 -- the cells after a call with this answer
 unfoldable pub filedIn : Answer → Cells → Call → Cells
-filedIn a b (delivery slot version value status) = record {
-  slots = slotsWith a (b .slots) slot version value status;
-  holidays = b .holidays;
-  readings = b .readings;
-  readVersions = b .readVersions;
-  agreed = b .agreed;
-  widths = b .widths;
-}
-filedIn a b (holiday day) = record {
-  slots = b .slots;
-  holidays = storedIn a (b .holidays) day 1;
-  readings = b .readings;
-  readVersions = b .readVersions;
-  agreed = b .agreed;
-  widths = b .widths;
-}
-filedIn a b (register boundary version reading width) = record {
-  slots = b .slots;
-  holidays = b .holidays;
-  readings = storedIn a (b .readings) boundary reading;
-  readVersions = storedIn a (b .readVersions) boundary version;
-  agreed = b .agreed;
-  widths = storedIn a (b .widths) boundary width;
-}
-filedIn a b (agreed slot version value) = record {
-  slots = b .slots;
-  holidays = b .holidays;
-  readings = b .readings;
-  readVersions = b .readVersions;
-  agreed = record { values = storedIn a (b .agreed .values) slot value; versions = storedIn a (b .agreed .versions) slot version };
-  widths = b .widths;
-}
+filedIn a b (delivery slot version value status) = withSlots b (slotsWith a (b .slots) slot version value status)
+filedIn a b (holiday day) = withHolidays b (storedIn a (b .holidays) day 1)
+filedIn a b (register boundary version reading width) =
+    withReads b
+    (readLists (storedIn a (b .readings) boundary reading) (storedIn a (b .readVersions) boundary version) (storedIn a (b .widths) boundary width))
+filedIn a b (agreed slot version value) =
+    withAgreed b (agreedLists (storedIn a (b .agreed .values) slot value) (storedIn a (b .agreed .versions) slot version))
 
 -- the counts after it
 unfoldable pub countedIn : Head → Answer → Book → Call → List ℕ

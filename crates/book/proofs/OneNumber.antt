@@ -14,6 +14,7 @@ use Rattle.book.specs.Arguments.{argumentRules}
 use Rattle.book.specs.Cells.{Reads, readsFit, agreedFits}
 use Rattle.book.specs.Filling.{againstBoundary, againstAgreed, registerAnswer, agreeAnswer}
 use Rattle.book.specs.Inner.Numbers.{numberAnswer, readAnswer}
+use Rattle.book.specs.Contents.{dialRead, readAt}
 use Rattle.book.proofs.Fits.{long}
 
 -- past its own rules it is what its cell says
@@ -25,7 +26,7 @@ number-sound a place version number inside some small = rw (lt-leb _ _ inside, n
 
 pub read-sound : (r : Reads) (boundary version reading width : ℕ) → boundary < length (r .readings) → (version ≡ 0 → ⊥) → reading ≤ 99_999_999 → width ≤ 9999
     → readAnswer r boundary version reading width
-    ≡ againstBoundary (getD (r .readVersions) boundary 0) (getD (r .readings) boundary 0) (getD (r .widths) boundary 0) version reading width
+    ≡ againstBoundary (getD (r .readVersions) boundary 0) (readAt r boundary) version (dialRead reading width)
 unfolding readAnswer
 read-sound r boundary version reading width inside some small narrow =
     rw (lt-leb _ _ inside, ne-eqb _ _ some, le-ltb _ _ small, le-ltb _ _ narrow)

@@ -10,7 +10,8 @@ use Rattle.rules.specs.Opening.{slotCount}
 use Rattle.book.specs.Answers.{isAccepted, byVersion}
 use Rattle.book.specs.Arguments.{Call}
 use Rattle.book.specs.Arguments.Call.{delivery, holiday, register, agreed}
-use Rattle.book.specs.Plain.{Said, Measured, DialRead, deliveries, reads, agreements, named, highest, slotVersion, slotContent, readVersion, readContent, agreedVersion, agreedContent, againstKept, plainAnswer, keptOf, bookOf}
+use Rattle.book.specs.Contents.{Measured, DialRead}
+use Rattle.book.specs.Plain.{Said, deliveries, reads, agreements, named, highest, slotVersion, slotContent, readVersion, readContent, agreedVersion, agreedContent, againstKept, plainAnswer, keptOf, bookOf}
 use Rattle.book.proofs.Tables.{upTo-same}
 use Rattle.book.proofs.Said.{latest, AllFair, fair-next, ruled, ruled-same, same-said, highest-within}
 use Rattle.book.proofs.Kept.{Kept, accepted, keptOf-kept}

@@ -4,8 +4,8 @@ use Prim.Native.Nat.{ℕ}
 use lib.Dec.{ltb}
 use Rattle.base.specs.declared.Performed.{Performed}
 use Rattle.base.specs.declared.Performed.the-variants as performed
-use Rattle.book.specs.declared.Filed.{Filed}
-use Rattle.book.specs.declared.Filed.the-variants as filed
+use Rattle.book.specs.declared.Received.{Received}
+use Rattle.book.specs.declared.Received.the-variants as received
 
 -- a refusal gives the number only
 pub data Answer : Type 0 where
@@ -20,11 +20,11 @@ abbrev pub openedMeant : Performed → Answer
 openedMeant performed.Done = done
 openedMeant (performed.Refused n) = refused n
 
-abbrev pub filedMeant : Filed → Answer
-filedMeant filed.Stored = stored
-filedMeant filed.Late = late
-filedMeant filed.Repeat = repeat
-filedMeant (filed.Refused n) = refused n
+abbrev pub receivedMeant : Received → Answer
+receivedMeant received.Stored = stored
+receivedMeant received.Late = late
+receivedMeant received.Repeat = repeat
+receivedMeant (received.Refused n) = refused n
 
 -- an answer as one number: refusals are under 100, so 0, 100 and 101 are free
 abbrev pub answerCode : Answer → ℕ

@@ -2,9 +2,9 @@
 use mathlib.Core.List.{List, [], _∷_}
 use Prim.Native.Nat.{ℕ}
 use lib.Dec.{leb, ltb, eqb}
+use Rattle.base.specs.Numbers.{eightDigits}
 use Rattle.base.specs.Refusals.{Rule}
 use Rattle.base.specs.Refusals.Rule.{rule}
-use Rattle.base.specs.Numbers.{eightDigits}
 use Rattle.rules.specs.declared.Head.{Head}
 use Rattle.rules.specs.Opening.{slotCount}
 use Rattle.rules.specs.Numbers.{mostWidth}

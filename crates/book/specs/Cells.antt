@@ -9,6 +9,7 @@ use Rattle.base.specs.Numbers.{eightDigits}
 use Rattle.rules.specs.declared.Head.{Head}
 use Rattle.rules.specs.Opening.{slotsPerDay, slotCount, Slots, Agreed, Cells}
 use Rattle.rules.specs.Numbers.{mostWidth}
+use Rattle.rules.specs.Lent.{cells}
 
 -- the lent lists of boundaries, the widths last (02, W10)
 pub record Reads : Type 0 where
@@ -18,6 +19,19 @@ pub record Reads : Type 0 where
 
 abbrev pub readsOf : Cells → Reads
 readsOf b = record { readings = b .readings; readVersions = b .readVersions; widths = b .widths }
+
+-- cells with other slots, holidays, reads or agreed lists
+abbrev pub withSlots : Cells → Slots → Cells
+withSlots b s = cells s (b .holidays) (b .readings) (b .readVersions) (b .agreed) (b .widths)
+
+abbrev pub withHolidays : Cells → List ℕ → Cells
+withHolidays b holidays = cells (b .slots) holidays (b .readings) (b .readVersions) (b .agreed) (b .widths)
+
+abbrev pub withReads : Cells → Reads → Cells
+withReads b r = cells (b .slots) (b .holidays) (r .readings) (r .readVersions) (b .agreed) (r .widths)
+
+abbrev pub withAgreed : Cells → Agreed → Cells
+withAgreed b a = cells (b .slots) (b .holidays) (b .readings) (b .readVersions) a (b .widths)
 
 -- the lent lists of a book: the cells that the rules read, and the counts of delivered slots (02, W6)
 pub record Book : Type 0 where

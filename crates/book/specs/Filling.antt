@@ -12,27 +12,26 @@ use Rattle.book.specs.Answers.{Answer, isStored, byVersion}
 use Rattle.book.specs.Answers.Answer.{stored, repeat, refused}
 use Rattle.book.specs.Arguments.{Call, argumentRules}
 use Rattle.book.specs.Arguments.Call.{delivery, holiday, register, agreed}
-use Rattle.book.specs.Cells.{Reads, Book, readsOf, slotsFit, daysFit, readsFit, agreedFits, countsFit, slotFault, dayFault, readFault, agreedFault}
+use Rattle.book.specs.Cells.{Reads, Book, readsOf, withSlots, withHolidays, withReads, withAgreed}
+use Rattle.book.specs.Cells.{slotsFit, daysFit, readsFit, agreedFits, countsFit, slotFault, dayFault, readFault, agreedFault}
+use Rattle.book.specs.Contents.{Measured, DialRead, measured, dialRead, measuredAt, readAt, sameMeasured, sameRead}
 
 -- the rules from the input, where the lists that the call is lent fit or do not
 abbrev pub inputRules : Head → Bool → Call → List Rule
 inputRules h fit c = rule 1 (not (headOk h)) ∷ rule 2 (not fit) ∷ argumentRules h c
 
 -- a call against its own cell, which stands first: 11 goes before 10
-unfoldable pub againstSlot : ℕ → ℕ → ℕ → ℕ → ℕ → ℕ → Answer
-againstSlot oldVersion oldValue oldStatus version value status =
-    cond (slotFault oldVersion oldValue oldStatus) (refused 11)
-    (byVersion oldVersion version (eqb oldValue value && eqb oldStatus status))
+unfoldable pub againstSlot : ℕ → Measured → ℕ → Measured → Answer
+againstSlot oldVersion old version new =
+    cond (slotFault oldVersion (old .value) (old .status)) (refused 11) (byVersion oldVersion version (sameMeasured old new))
 
 -- "A holiday is stored the first time, then repeat."
 unfoldable pub againstDay : ℕ → Answer
 againstDay cell = cond (dayFault cell) (refused 11) (cond (eqb cell 0) stored repeat)
 
--- "The width is part of the content that a repeat compares" (02, W10)
-unfoldable pub againstBoundary : ℕ → ℕ → ℕ → ℕ → ℕ → ℕ → Answer
-againstBoundary oldVersion oldReading oldWidth version reading width =
-    cond (readFault oldVersion oldReading oldWidth) (refused 11)
-    (byVersion oldVersion version (eqb oldReading reading && eqb oldWidth width))
+unfoldable pub againstBoundary : ℕ → DialRead → ℕ → DialRead → Answer
+againstBoundary oldVersion old version new =
+    cond (readFault oldVersion (old .reading) (old .width)) (refused 11) (byVersion oldVersion version (sameRead old new))
 
 -- "by the version rule of a delivery" (02, W1)
 unfoldable pub againstAgreed : ℕ → ℕ → ℕ → ℕ → Answer
@@ -51,7 +50,7 @@ isFull h oldVersion count = eqb oldVersion 0 && leb (slotsPerDay h) count
 unfoldable pub againstDelivery : Head → Slots → List ℕ → ℕ → ℕ → ℕ → ℕ → Answer
 againstDelivery h s counts slot version value status =
     cond (isFull h (getD (s .versions) slot 0) (getD counts (slot / slotsPerDay h) 0)) (refused 11)
-    (againstSlot (getD (s .versions) slot 0) (getD (s .values) slot 0) (getD (s .statuses) slot 0) version value status)
+    (againstSlot (getD (s .versions) slot 0) (measuredAt s slot) version (measured value status))
 
 -- a delivery
 unfoldable pub deliverAnswer : Head → Slots → List ℕ → ℕ → ℕ → ℕ → ℕ → Answer
@@ -91,7 +90,7 @@ holidayAfter h holidays day = storedIn (holidayAnswer h holidays day) holidays d
 unfoldable pub registerAnswer : Head → Reads → ℕ → ℕ → ℕ → ℕ → Answer
 registerAnswer h r boundary version reading width =
     unless refused (inputRules h (readsFit h r) (register boundary version reading width))
-    (againstBoundary (getD (r .readVersions) boundary 0) (getD (r .readings) boundary 0) (getD (r .widths) boundary 0) version reading width)
+    (againstBoundary (getD (r .readVersions) boundary 0) (readAt r boundary) version (dialRead reading width))
 
 unfoldable pub registerAfter : Head → Reads → ℕ → ℕ → ℕ → ℕ → Reads
 registerAfter h r boundary version reading width = record {
@@ -121,47 +120,16 @@ answer h b (agreed slot version value) = agreeAnswer h (b .cells .agreed) slot v
 
 unfoldable pub after : Head → Book → Call → Book
 after h b (delivery slot version value status) = record {
-  cells = record {
-    slots = deliverAfter h (b .cells .slots) (b .counts) slot version value status;
-    holidays = b .cells .holidays;
-    readings = b .cells .readings;
-    readVersions = b .cells .readVersions;
-    agreed = b .cells .agreed;
-    widths = b .cells .widths;
-  };
+  cells = withSlots (b .cells) (deliverAfter h (b .cells .slots) (b .counts) slot version value status);
   counts = countsAfter h (b .cells .slots) (b .counts) slot version value status;
 }
-after h b (holiday day) = record {
-  cells = record {
-    slots = b .cells .slots;
-    holidays = holidayAfter h (b .cells .holidays) day;
-    readings = b .cells .readings;
-    readVersions = b .cells .readVersions;
-    agreed = b .cells .agreed;
-    widths = b .cells .widths;
-  };
-  counts = b .counts;
-}
+after h b (holiday day) = record { cells = withHolidays (b .cells) (holidayAfter h (b .cells .holidays) day); counts = b .counts }
 after h b (register boundary version reading width) = record {
-  cells = record {
-    slots = b .cells .slots;
-    holidays = b .cells .holidays;
-    readings = registerAfter h (readsOf (b .cells)) boundary version reading width .readings;
-    readVersions = registerAfter h (readsOf (b .cells)) boundary version reading width .readVersions;
-    agreed = b .cells .agreed;
-    widths = registerAfter h (readsOf (b .cells)) boundary version reading width .widths;
-  };
+  cells = withReads (b .cells) (registerAfter h (readsOf (b .cells)) boundary version reading width);
   counts = b .counts;
 }
 after h b (agreed slot version value) = record {
-  cells = record {
-    slots = b .cells .slots;
-    holidays = b .cells .holidays;
-    readings = b .cells .readings;
-    readVersions = b .cells .readVersions;
-    agreed = agreeAfter h (b .cells .agreed) slot version value;
-    widths = b .cells .widths;
-  };
+  cells = withAgreed (b .cells) (agreeAfter h (b .cells .agreed) slot version value);
   counts = b .counts;
 }
 

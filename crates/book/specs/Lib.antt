@@ -1,6 +1,7 @@
 pub mod Answers
 pub mod Arguments
 pub mod Cells
+pub mod Contents
 pub mod Lent
 pub mod Opening
 pub mod Filling

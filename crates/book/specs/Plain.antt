@@ -1,5 +1,5 @@
 -- What a list of calls amounts to, from the head and the calls' arguments alone (01, The plain book; 02, W1, W6 and W10).
-use mathlib.Core.Bool.{Bool, false, not, cond, _&&_, _||_}
+use mathlib.Core.Bool.{Bool, false, not, cond, _||_}
 use mathlib.Core.List.{List, [], _∷_}
 use Prim.Native.Nat.{ℕ, suc, max, _*_}
 use lib.Dec.{ltb, eqb}
@@ -13,27 +13,18 @@ use Rattle.book.specs.Answers.Answer.{stored, repeat, refused}
 use Rattle.book.specs.Arguments.{Call, argumentRules}
 use Rattle.book.specs.Cells.{Book}
 use Rattle.book.specs.Arguments.Call.{delivery, holiday, register, agreed}
+use Rattle.book.specs.Contents.{Measured, DialRead, measured, dialRead, sameMeasured, sameRead}
 
 -- what a kept delivery, register read or agreed call says: its version and its content
 pub record Said (A : Type 0) : Type 0 where
   pub version : ℕ
   pub content : A
 
--- a delivery's content; an agreed call's is the value
-pub record Measured : Type 0 where
-  pub value : ℕ
-  pub status : ℕ
-
--- a register read's content (02, W10)
-pub record DialRead : Type 0 where
-  pub reading : ℕ
-  pub width : ℕ
-
 -- the kept deliveries for a slot
 unfoldable pub deliveries : ℕ → List Call → List (Said Measured)
 deliveries i [] = []
 deliveries i (delivery slot version value status ∷ kept) =
-    cond (eqb slot i) (record { version = version; content = record { value = value; status = status } } ∷ deliveries i kept)
+    cond (eqb slot i) (record { version = version; content = measured value status } ∷ deliveries i kept)
     (deliveries i kept)
 deliveries i (holiday day ∷ kept) = deliveries i kept
 deliveries i (register boundary version reading width ∷ kept) = deliveries i kept
@@ -45,7 +36,7 @@ reads d [] = []
 reads d (delivery slot version value status ∷ kept) = reads d kept
 reads d (holiday day ∷ kept) = reads d kept
 reads d (register boundary version reading width ∷ kept) =
-    cond (eqb boundary d) (record { version = version; content = record { reading = reading; width = width } } ∷ reads d kept)
+    cond (eqb boundary d) (record { version = version; content = dialRead reading width } ∷ reads d kept)
     (reads d kept)
 reads d (agreed slot version value ∷ kept) = reads d kept
 
@@ -81,13 +72,13 @@ abbrev pub slotVersion : List Call → ℕ → ℕ
 slotVersion kept i = highest (deliveries i kept)
 
 abbrev pub slotContent : List Call → ℕ → Measured
-slotContent kept i = contentWith (record { value = 0; status = 0 }) (slotVersion kept i) (deliveries i kept)
+slotContent kept i = contentWith (measured 0 0) (slotVersion kept i) (deliveries i kept)
 
 abbrev pub readVersion : List Call → ℕ → ℕ
 readVersion kept d = highest (reads d kept)
 
 abbrev pub readContent : List Call → ℕ → DialRead
-readContent kept d = contentWith (record { reading = 0; width = 0 }) (readVersion kept d) (reads d kept)
+readContent kept d = contentWith (dialRead 0 0) (readVersion kept d) (reads d kept)
 
 -- "with a highest version of their own" (02, W1)
 abbrev pub agreedVersion : List Call → ℕ → ℕ
@@ -99,12 +90,10 @@ agreedContent kept i = contentWith 0 (agreedVersion kept i) (agreements i kept)
 -- a call that breaks no rule from the input
 unfoldable pub againstKept : List Call → Call → Answer
 againstKept kept (delivery slot version value status) =
-    byVersion (slotVersion kept slot) version
-    (eqb (slotContent kept slot .value) value && eqb (slotContent kept slot .status) status)
+    byVersion (slotVersion kept slot) version (sameMeasured (slotContent kept slot) (measured value status))
 againstKept kept (holiday day) = cond (named day kept) repeat stored
 againstKept kept (register boundary version reading width) =
-    byVersion (readVersion kept boundary) version
-    (eqb (readContent kept boundary .reading) reading && eqb (readContent kept boundary .width) width)
+    byVersion (readVersion kept boundary) version (sameRead (readContent kept boundary) (dialRead reading width))
 againstKept kept (agreed slot version value) =
     byVersion (agreedVersion kept slot) version (eqb (agreedContent kept slot) value)
 

@@ -1,8 +1,8 @@
 // Any of the filling calls as a value, made on all the lists.
-use crate::Filed;
+use crate::Received;
 use rules::Head;
 ghost use mathlib.Core.Path.{_≡_};
-ghost use Rattle.book.specs.Answers.{filedMeant};
+ghost use Rattle.book.specs.Answers.{receivedMeant};
 ghost use Rattle.book.specs.Arguments.{callMeant};
 ghost use Rattle.book.specs.Filling.{answer, after};
 ghost use Rattle.book.specs.Lent.{lentBook};
@@ -41,12 +41,14 @@ pub fn fill(
     counts: &mut [u16],
     widths: &mut [u16],
     call: Call,
-) -> Filed
+) -> Received
     ensures { λ r. ⌜
         (let book =
-        lentBook (values .entry) (versions .entry) (statuses .entry) (holidays .entry) (readings .entry) (reads .entry) (agreed .entry) («agreed_versions» .entry) (counts .entry) (widths .entry) in
-        (filedMeant r ≡ answer head book (callMeant call))
-        × (lentBook (values .exit) (versions .exit) (statuses .exit) (holidays .exit) (readings .exit) (reads .exit) (agreed .exit) («agreed_versions» .exit) (counts .exit) (widths .exit)
+        lentBook (values .entry) (versions .entry) (statuses .entry) (holidays .entry) (readings .entry) (reads .entry)
+        (agreed .entry) («agreed_versions» .entry) (counts .entry) (widths .entry) in
+        (receivedMeant r ≡ answer head book (callMeant call))
+        × (lentBook (values .exit) (versions .exit) (statuses .exit) (holidays .exit) (readings .exit) (reads .exit)
+        (agreed .exit) («agreed_versions» .exit) (counts .exit) (widths .exit)
         ≡ after head book (callMeant call)))
         ⌝ }
 {

@@ -1,5 +1,5 @@
 // A delivery past the rules from its input: its cells and its day's count (01, The three calls that fill it; 02, W6).
-use crate::Filed;
+use crate::Received;
 use crate::filing;
 use rules::Head;
 use rules::opening;
@@ -9,7 +9,7 @@ ghost use Prim.Native.Nat.{_+_, _/_};
 ghost use lib.Dec.{eqb};
 ghost use Rattle.rules.specs.Opening.{headOk, slotsPerDay};
 ghost use Rattle.rules.specs.Lent.{lentSlots};
-ghost use Rattle.book.specs.Answers.{filedMeant};
+ghost use Rattle.book.specs.Answers.{receivedMeant};
 ghost use Rattle.book.specs.Filling.{isFull, againstDelivery, slotsWith, countsWith};
 ghost use Rattle.book.specs.Inner.Lent.{Deliverable};
 
@@ -59,12 +59,12 @@ pub fn file_delivery(
     version: u32,
     value: u32,
     status: u8,
-) -> Filed
+) -> Received
     requires { ⌜ Deliverable head (lentSlots values versions statuses) (now counts) slot ⌝ }
     ensures { λ r. ⌜
         (let slots = lentSlots (values .entry) (versions .entry) (statuses .entry) in
         let found = againstDelivery head slots (now (counts .entry)) slot version value status in
-        (filedMeant r ≡ found)
+        (receivedMeant r ≡ found)
         × (lentSlots (values .exit) (versions .exit) (statuses .exit)
         ≡ slotsWith found slots slot version value status)
         × (now (counts .exit) ≡ countsWith found (now (versions .entry)) (now (counts .entry)) slot (slot / slotsPerDay head)))
@@ -74,7 +74,7 @@ pub fn file_delivery(
     let old_version = versions[slot];
     let count = counts[day];
     if is_full(head, old_version, count) {
-        return Filed::Refused(11);
+        return Received::Refused(11);
     }
     let old_status = statuses[slot];
     let found = filing::against_slot(

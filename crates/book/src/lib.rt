@@ -15,13 +15,14 @@ use rules::Head;
 use rules::opening;
 ghost use mathlib.Core.Path.{_≡_};
 ghost use Rattle.rules.specs.Lent.{lentSlots, lentAgreed};
-ghost use Rattle.book.specs.Answers.{openedMeant, filedMeant};
+ghost use Rattle.book.specs.Answers.{openedMeant, receivedMeant};
 ghost use Rattle.book.specs.Opening.{openAnswer, openAfter};
-ghost use Rattle.book.specs.Filling.{deliverAnswer, deliverAfter, countsAfter, holidayAnswer, holidayAfter, registerAnswer, registerAfter, agreeAnswer, agreeAfter};
+ghost use Rattle.book.specs.Filling.{deliverAnswer, deliverAfter, countsAfter, holidayAnswer, holidayAfter};
+ghost use Rattle.book.specs.Filling.{registerAnswer, registerAfter, agreeAnswer, agreeAfter};
 ghost use Rattle.book.specs.Lent.{lentReads, lentBook};
 
 // What a filling call answers.
-pub enum Filed {
+pub enum Received {
     Stored,
     Late,
     Repeat,
@@ -43,9 +44,11 @@ pub fn open(
 ) -> Performed
     ensures { λ r. ⌜
         (let book =
-        lentBook (values .entry) (versions .entry) (statuses .entry) (holidays .entry) (readings .entry) («read_versions» .entry) (agreed .entry) («agreed_versions» .entry) (counts .entry) (widths .entry) in
+        lentBook (values .entry) (versions .entry) (statuses .entry) (holidays .entry) (readings .entry) («read_versions» .entry)
+        (agreed .entry) («agreed_versions» .entry) (counts .entry) (widths .entry) in
         (openedMeant r ≡ openAnswer head book)
-        × (lentBook (values .exit) (versions .exit) (statuses .exit) (holidays .exit) (readings .exit) («read_versions» .exit) (agreed .exit) («agreed_versions» .exit) (counts .exit) (widths .exit)
+        × (lentBook (values .exit) (versions .exit) (statuses .exit) (holidays .exit) (readings .exit) («read_versions» .exit)
+        (agreed .exit) («agreed_versions» .exit) (counts .exit) (widths .exit)
         ≡ openAfter head book))
         ⌝ }
 {
@@ -91,17 +94,17 @@ pub fn deliver(
     version: u32,
     value: u32,
     status: u32,
-) -> Filed
+) -> Received
     ensures { λ r. ⌜
         (let slots = lentSlots (values .entry) (versions .entry) (statuses .entry) in
-        (filedMeant r ≡ deliverAnswer head slots (now (counts .entry)) slot version value status)
+        (receivedMeant r ≡ deliverAnswer head slots (now (counts .entry)) slot version value status)
         × (lentSlots (values .exit) (versions .exit) (statuses .exit)
         ≡ deliverAfter head slots (now (counts .entry)) slot version value status)
         × (now (counts .exit) ≡ countsAfter head slots (now (counts .entry)) slot version value status))
         ⌝ }
 {
     if !opening::head_ok(head) {
-        return Filed::Refused(1);
+        return Received::Refused(1);
     }
     if !lengths::delivery_fits(
         head,
@@ -110,17 +113,17 @@ pub fn deliver(
         statuses.len(),
         counts.len(),
     ) {
-        return Filed::Refused(2);
+        return Received::Refused(2);
     }
     let at = slot as usize;
     if opening::slot_count(head) <= at {
-        return Filed::Refused(3);
+        return Received::Refused(3);
     }
     if version == 0 {
-        return Filed::Refused(4);
+        return Received::Refused(4);
     }
     if 7 < status {
-        return Filed::Refused(5);
+        return Received::Refused(5);
     }
     deliveries::file_delivery(
         head,
@@ -135,20 +138,20 @@ pub fn deliver(
     )
 }
 
-pub fn holiday(head: Head, holidays: &mut [u8], day: u32) -> Filed
+pub fn holiday(head: Head, holidays: &mut [u8], day: u32) -> Received
     ensures { λ r. ⌜
-        (filedMeant r ≡ holidayAnswer head (now (holidays .entry)) day)
+        (receivedMeant r ≡ holidayAnswer head (now (holidays .entry)) day)
         × (now (holidays .exit) ≡ holidayAfter head (now (holidays .entry)) day)
         ⌝ }
 {
     if !opening::head_ok(head) {
-        return Filed::Refused(1);
+        return Received::Refused(1);
     }
     if !lengths::days_fit(head, holidays.len()) {
-        return Filed::Refused(2);
+        return Received::Refused(2);
     }
     if head.days <= day {
-        return Filed::Refused(3);
+        return Received::Refused(3);
     }
     let at = day as usize;
     let found = filing::against_day(holidays[at]);
@@ -167,19 +170,19 @@ pub fn register(
     version: u32,
     reading: u32,
     width: u32,
-) -> Filed
+) -> Received
     ensures { λ r. ⌜
         (let reads = lentReads (readings .entry) («read_versions» .entry) (widths .entry) in
-        (filedMeant r ≡ registerAnswer head reads boundary version reading width)
+        (receivedMeant r ≡ registerAnswer head reads boundary version reading width)
         × (lentReads (readings .exit) («read_versions» .exit) (widths .exit)
         ≡ registerAfter head reads boundary version reading width))
         ⌝ }
 {
     if !opening::head_ok(head) {
-        return Filed::Refused(1);
+        return Received::Refused(1);
     }
     if !lengths::reads_fit(head, readings.len(), read_versions.len(), widths.len()) {
-        return Filed::Refused(2);
+        return Received::Refused(2);
     }
     registers::file_register(
         readings,
@@ -199,19 +202,19 @@ pub fn agree(
     slot: u32,
     version: u32,
     value: u32,
-) -> Filed
+) -> Received
     ensures { λ r. ⌜
         (let a = lentAgreed (agreed .entry) («agreed_versions» .entry) in
-        (filedMeant r ≡ agreeAnswer head a slot version value)
+        (receivedMeant r ≡ agreeAnswer head a slot version value)
         × (lentAgreed (agreed .exit) («agreed_versions» .exit)
         ≡ agreeAfter head a slot version value))
         ⌝ }
 {
     if !opening::head_ok(head) {
-        return Filed::Refused(1);
+        return Received::Refused(1);
     }
     if !lengths::agreed_fit(head, agreed.len(), agreed_versions.len()) {
-        return Filed::Refused(2);
+        return Received::Refused(2);
     }
     numbers::file_number(agreed, agreed_versions, slot, version, value)
 }

@@ -1,11 +1,11 @@
 // A register read past its head and its lists' lengths (01, The three calls that fill it; 02, W10).
-use crate::Filed;
+use crate::Received;
 use crate::filing;
 use base::EIGHT_DIGITS;
 use rules::MOST_WIDTH;
 ghost use mathlib.Core.Path.{_≡_};
 ghost use lib.ListN.{length};
-ghost use Rattle.book.specs.Answers.{filedMeant};
+ghost use Rattle.book.specs.Answers.{receivedMeant};
 ghost use Rattle.book.specs.Lent.{lentReads};
 ghost use Rattle.book.specs.Inner.Numbers.{readAnswer, readAfter};
 
@@ -17,27 +17,27 @@ pub fn file_register(
     version: u32,
     reading: u32,
     width: u32,
-) -> Filed
+) -> Received
     requires { ⌜ (length (now versions) ≡ length (now readings)) × (length (now widths) ≡ length (now readings)) ⌝ }
     ensures { λ r. ⌜
         (let lent = lentReads (readings .entry) (versions .entry) (widths .entry) in
-        (filedMeant r ≡ readAnswer lent boundary version reading width)
+        (receivedMeant r ≡ readAnswer lent boundary version reading width)
         × (lentReads (readings .exit) (versions .exit) (widths .exit)
         ≡ readAfter lent boundary version reading width))
         ⌝ }
 {
     let at = boundary as usize;
     if readings.len() <= at {
-        return Filed::Refused(3);
+        return Received::Refused(3);
     }
     if version == 0 {
-        return Filed::Refused(4);
+        return Received::Refused(4);
     }
     if EIGHT_DIGITS < reading {
-        return Filed::Refused(6);
+        return Received::Refused(6);
     }
     if MOST_WIDTH < width {
-        return Filed::Refused(17);
+        return Received::Refused(17);
     }
     let found = filing::against_boundary(
         versions[at],

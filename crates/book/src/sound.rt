@@ -11,12 +11,16 @@ ghost use lib.ListN.{length, getD};
 ghost use Rattle.base.specs.Lists.{sum, any};
 ghost use Rattle.rules.specs.Opening.{headOk, slotCount};
 ghost use Rattle.rules.specs.Lent.{lentSlots, lentAgreed, lentCells};
-ghost use Rattle.book.specs.Cells.{slotFaultAt, dayFaultAt, readFaultAt, agreedFaultAt, countFaultAt, cellsFit, cellsOk, bookFits, bookOk};
+ghost use Rattle.book.specs.Cells.{slotFaultAt, dayFaultAt, readFaultAt, agreedFaultAt, countFaultAt};
+ghost use Rattle.book.specs.Cells.{cellsFit, cellsOk, bookFits, bookOk};
 ghost use Rattle.book.specs.Lent.{lentReads, lentBook};
 
 fn bad_slot(values: &[u32], versions: &[u32], statuses: &[u8]) -> bool
     requires { ⌜ (length (now versions) ≡ length (now values)) × (length (now statuses) ≡ length (now values)) ⌝ }
-    ensures { λ r. ⌜ r ≡ any (slotFaultAt (lentSlots (values .entry) (versions .entry) (statuses .entry))) 0 (length (now (values .entry))) ⌝ }
+    ensures { λ r. ⌜
+        (let s = lentSlots (values .entry) (versions .entry) (statuses .entry) in
+        r ≡ any (slotFaultAt s) 0 (length (s .values)))
+        ⌝ }
 {
     let mut i = 0;
     while i < values.len() {
@@ -43,7 +47,10 @@ fn bad_day(holidays: &[u8]) -> bool
 
 fn bad_read(readings: &[u32], versions: &[u32], widths: &[u16]) -> bool
     requires { ⌜ (length (now versions) ≡ length (now readings)) × (length (now widths) ≡ length (now readings)) ⌝ }
-    ensures { λ r. ⌜ r ≡ any (readFaultAt (lentReads (readings .entry) (versions .entry) (widths .entry))) 0 (length (now (readings .entry))) ⌝ }
+    ensures { λ r. ⌜
+        (let reads = lentReads (readings .entry) (versions .entry) (widths .entry) in
+        r ≡ any (readFaultAt reads) 0 (length (reads .readings)))
+        ⌝ }
 {
     let mut i = 0;
     while i < readings.len() {
@@ -84,7 +91,8 @@ fn cells_ok(
     requires { ⌜ cellsFit head (lentCells values versions statuses holidays readings reads agreed «agreed_versions» widths) ≡ true ⌝ }
     ensures { λ r. ⌜
         r ≡ cellsOk head
-        (lentCells (values .entry) (versions .entry) (statuses .entry) (holidays .entry) (readings .entry) (reads .entry) (agreed .entry) («agreed_versions» .entry) (widths .entry))
+        (lentCells (values .entry) (versions .entry) (statuses .entry) (holidays .entry) (readings .entry) (reads .entry)
+        (agreed .entry) («agreed_versions» .entry) (widths .entry))
         ⌝ }
 {
     if bad_slot(values, versions, statuses) {
@@ -145,10 +153,14 @@ pub fn book_ok(
     counts: &[u16],
     widths: &[u16],
 ) -> bool
-    requires { ⌜ (headOk head ≡ true) × (bookFits head (lentBook values versions statuses holidays readings reads agreed «agreed_versions» counts widths) ≡ true) ⌝ }
+    requires { ⌜
+        (headOk head ≡ true)
+        × (bookFits head (lentBook values versions statuses holidays readings reads agreed «agreed_versions» counts widths) ≡ true)
+        ⌝ }
     ensures { λ r. ⌜
         r ≡ bookOk head
-        (lentBook (values .entry) (versions .entry) (statuses .entry) (holidays .entry) (readings .entry) (reads .entry) (agreed .entry) («agreed_versions» .entry) (counts .entry) (widths .entry))
+        (lentBook (values .entry) (versions .entry) (statuses .entry) (holidays .entry) (readings .entry) (reads .entry)
+        (agreed .entry) («agreed_versions» .entry) (counts .entry) (widths .entry))
         ⌝ }
 {
     if !cells_ok(

@@ -1,19 +1,19 @@
 // The version rule of deliveries, register reads and agreed calls (01, The three calls that fill it; 02, W1).
-use crate::Filed;
+use crate::Received;
 ghost use mathlib.Core.Path.{_≡_};
-ghost use Rattle.book.specs.Answers.{filedMeant, byVersion};
+ghost use Rattle.book.specs.Answers.{receivedMeant, byVersion};
 
-pub fn by_version(before: u32, version: u32, same: bool) -> Filed
-    ensures { λ r. ⌜ filedMeant r ≡ byVersion before version same ⌝ }
+pub fn by_version(before: u32, version: u32, same: bool) -> Received
+    ensures { λ r. ⌜ receivedMeant r ≡ byVersion before version same ⌝ }
 {
     if before < version {
-        return Filed::Stored;
+        return Received::Stored;
     }
     if version < before {
-        return Filed::Late;
+        return Received::Late;
     }
     if same {
-        return Filed::Repeat;
+        return Received::Repeat;
     }
-    Filed::Refused(10)
+    Received::Refused(10)
 }

@@ -1,5 +1,5 @@
 // What the program writes: texts, numbers, and what is published of a slot.
-use book::Filed;
+use book::Received;
 use libc::STDOUT_FILENO;
 
 pub fn text(bytes: &[u8]) {
@@ -53,11 +53,11 @@ pub fn refused(n: u8) {
     field(n as u64);
 }
 
-pub fn answer(filed: Filed) {
+pub fn answer(filed: Received) {
     match filed {
-        Filed::Stored => text(b" stored"),
-        Filed::Late => text(b" late"),
-        Filed::Repeat => text(b" repeat"),
-        Filed::Refused(n) => refused(n),
+        Received::Stored => text(b" stored"),
+        Received::Late => text(b" late"),
+        Received::Repeat => text(b" repeat"),
+        Received::Refused(n) => refused(n),
     }
 }

@@ -6,11 +6,11 @@ mod nem12;
 mod stays;
 mod storage;
 
-use book::Filed;
+use book::Received;
 use rules::Head;
 ghost use mathlib.Core.Path.{_≡_};
 ghost use Rattle.rules.specs.Lent.{lentSlots, lentAgreed};
-ghost use Rattle.book.specs.Answers.{filedMeant, answerCode};
+ghost use Rattle.book.specs.Answers.{receivedMeant, answerCode};
 ghost use Rattle.book.specs.Opening.{openAnswer, openAfter};
 ghost use Rattle.book.specs.Filling.{deliverAnswer, deliverAfter, countsAfter, agreeAnswer, agreeAfter, holidayAnswer, holidayAfter, registerAnswer, registerAfter};
 ghost use Rattle.book.specs.Lent.{lentReads, lentBook};
@@ -39,14 +39,14 @@ pub fn head_of(
 }
 
 // 0 stored, 100 late, 101 repeat, else the refusal's number.
-fn filed_code(filed: Filed) -> u32
-    ensures { λ r. ⌜ r ≡ answerCode (filedMeant filed) ⌝ }
+fn filed_code(filed: Received) -> u32
+    ensures { λ r. ⌜ r ≡ answerCode (receivedMeant filed) ⌝ }
 {
     match filed {
-        Filed::Stored => 0,
-        Filed::Late => 100,
-        Filed::Repeat => 101,
-        Filed::Refused(n) => n as u32,
+        Received::Stored => 0,
+        Received::Late => 100,
+        Received::Repeat => 101,
+        Received::Refused(n) => n as u32,
     }
 }
 

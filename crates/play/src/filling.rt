@@ -1,6 +1,6 @@
 // The lines of a log made on the ten lists, each given them as the line before left them.
 use base::Performed;
-use book::Filed;
+use book::Received;
 use book::calls;
 use log::line::Line;
 use log::lines;
@@ -10,7 +10,7 @@ ghost use mathlib.Core.Path.{_≡_};
 ghost use lib.ListN.{length};
 ghost use Rattle.rules.specs.Opening.{headOk};
 ghost use Rattle.book.specs.Lent.{lentBook};
-ghost use Rattle.book.specs.Answers.{answerCode, filedMeant, openedMeant};
+ghost use Rattle.book.specs.Answers.{answerCode, receivedMeant, openedMeant};
 ghost use Rattle.book.specs.Cells.{bookFits};
 ghost use Rattle.book.specs.Filling.{afterAll};
 ghost use Rattle.log.specs.declared.limits.Limits.{Limits as limitsType};
@@ -27,14 +27,14 @@ pub fn is_done(opened: Performed) -> bool
     }
 }
 
-fn code_of(filed: Filed) -> u8
-    ensures { λ r. ⌜ r ≡ answerCode (filedMeant filed) ⌝ }
+fn code_of(filed: Received) -> u8
+    ensures { λ r. ⌜ r ≡ answerCode (receivedMeant filed) ⌝ }
 {
     match filed {
-        Filed::Stored => 0,
-        Filed::Late => 100,
-        Filed::Repeat => 101,
-        Filed::Refused(n) => n,
+        Received::Stored => 0,
+        Received::Late => 100,
+        Received::Repeat => 101,
+        Received::Refused(n) => n,
     }
 }
 

@@ -1,5 +1,5 @@
 -- A call after a list of calls answers what the plain book answers, and so a stored delivery is found among the kept calls.
-use mathlib.Core.Bool.{true, false, false≢true}
+use mathlib.Core.Bool.{true, false≢true}
 use mathlib.Core.List.{List, [], _∷_, _++_}
 use mathlib.Core.Path.{_≡_, refl, sym, ap, _∙_}
 use Prim.Native.Nat.{ℕ, _+_, _<_}
@@ -12,7 +12,6 @@ use Rattle.rules.specs.Spans.{outcomeAt}
 use Rattle.book.specs.Answers.{Answer, isStored}
 use Rattle.book.specs.Answers.Answer.{done, stored, late, repeat, refused}
 use Rattle.book.specs.Arguments.{Call}
-use Rattle.book.specs.Arguments.Call.{delivery}
 use Rattle.book.specs.Cells.{Book}
 use Rattle.book.specs.Opening.{opened}
 use Rattle.book.specs.Filling.{answer, after as bookAfter, answers, afterAll}

@@ -10,7 +10,7 @@ use Rattle.rules.specs.declared.Head.{Head}
 use Rattle.rules.specs.declared.Span.{Span}
 use Rattle.rules.specs.Opening.{Slots, Cells}
 use Rattle.rules.specs.Spans.{isRead, nextRead, noSpan, spanOf, spanTo, spanFrom, spansFrom, spans}
-use Rattle.reach.proofs.Spans.{withSlots}
+use Rattle.book.specs.Cells.{withSlots}
 
 module _ (h : Head) (b : Cells) (t : Slots) where
   abbrev c : Cells

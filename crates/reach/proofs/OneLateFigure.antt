@@ -26,7 +26,7 @@ use Rattle.publishing.specs.Publishing.{published, publishAnswer, publishAfter}
 use Rattle.claim.specs.Claim.{leftBy, plainOf, plainFile}
 use Rattle.reach.specs.Reach.{SameRecords, Unmoved, Reach}
 use Rattle.reach.proofs.Alike.{SameAt}
-use Rattle.reach.proofs.Spans.{withSlots}
+use Rattle.book.specs.Cells.{withSlots}
 use Rattle.reach.proofs.Boundaries.{same-count, same-boundaries}
 use Rattle.reach.proofs.Outcomes.{outcome-kept, each-span-kept}
 use Rattle.reach.proofs.Records.{slot-record, span-record, slot-in-buffer, span-in-buffer}

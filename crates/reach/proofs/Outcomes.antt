@@ -16,7 +16,8 @@ use Rattle.rules.proofs.Places.Place.{outside, inside}
 use Rattle.reach.specs.Reach.{Met, Reached, Clear}
 use Rattle.reach.proofs.Alike.{SameAt}
 use Rattle.reach.proofs.Fillings.{fills-same}
-use Rattle.reach.proofs.Spans.{withSlots, Kept, span-same, in-span-same}
+use Rattle.book.specs.Cells.{withSlots}
+use Rattle.reach.proofs.Spans.{Kept, span-same, in-span-same}
 use Rattle.reach.proofs.Boundaries.{same-boundaries}
 
 module _ (h : Head) (w : Bounded h) (b : Cells) (t : Slots) (i : ℕ) (in-book : i < slotCount h)

@@ -1,5 +1,5 @@
 -- What shuts a slot out of a clause.
-use mathlib.Core.Bool.{true, false, false≢true}
+use mathlib.Core.Bool.{true, false≢true}
 use mathlib.Core.List.{List}
 use mathlib.Core.Logic.{_⊎_, ⊎-elim}
 use mathlib.Core.Path.{_≡_, sym, _∙_}
@@ -9,7 +9,7 @@ use lib.ListN.{length}
 use Rattle.rules.specs.declared.Head.{Head}
 use Rattle.rules.specs.Opening.{Slots, Cells, slotsPerDay}
 use Rattle.rules.specs.Tests.{goodAt}
-use Rattle.rules.specs.Spans.{between, spans}
+use Rattle.rules.specs.Spans.{spans}
 use Rattle.reach.specs.Reach.{InRunAt, DaysLater, SpanMet}
 
 -- a good slot at j, or between i and j, shuts out a run that holds j and holds or touches i

@@ -6,23 +6,13 @@ use native.Mathlib.Omega.{arith}
 use lib.Dec.{eqb}
 use Rattle.base.specs.Lists.{sum, any}
 use Rattle.base.proofs.Sums.{sum-cong, any-cong}
+use Rattle.book.specs.Cells.{withSlots}
 use Rattle.rules.specs.declared.Head.{Head}
 use Rattle.rules.specs.declared.Outcome.{Outcome}
 use Rattle.rules.specs.declared.Quality.{Quality}
 use Rattle.rules.specs.Opening.{Slots, Cells, slotsPerDay}
 use Rattle.rules.specs.Filling.{filledAt, shapeAt}
 use Rattle.rules.specs.Spans.{isS, isN, actualIn, start, slotsIn, G, range, actualSum, R, stateOf, T, allZero, e, E, C, P, newValue, inSpan, spanOf}
-
--- a book with other slots
-abbrev pub withSlots : Cells → Slots → Cells
-withSlots b t = record {
-  slots = t;
-  holidays = b .holidays;
-  readings = b .readings;
-  readVersions = b .readVersions;
-  agreed = b .agreed;
-  widths = b .widths;
-}
 
 module _ (h : Head) (b : Cells) (t : Slots) where
   abbrev c : Cells

@@ -10,7 +10,7 @@ use borrow.Author.Needs.{needs}
 use Rattle.base.specs.Refusals.{unless}
 use Rattle.rules.specs.Opening.{headOk}
 use Rattle.rules.proofs.opening.head_ok.Reads as head-ok-reads
-use Rattle.book.specs.Answers.{Answer, filedMeant}
+use Rattle.book.specs.Answers.{Answer, receivedMeant}
 use Rattle.book.specs.Answers.Answer.{refused}
 use Rattle.book.specs.Arguments.{argumentRules}
 use Rattle.book.specs.Arguments.Call.{holiday}
@@ -136,7 +136,7 @@ same-length : tie.Need-same-length
 same-length c = search needs
 
 -- what `against_day` found is the answer
-found : (c : lts.After-against-day claims reads.Pre reads.Post) → whole (from3 (c .before .before)) ≡ filedMeant (c .against-day .result)
+found : (c : lts.After-against-day claims reads.Pre reads.Post) → whole (from3 (c .before .before)) ≡ receivedMeant (c .against-day .result)
 unfolding argumentRules
 found c = past-3 (c .before .before) ∙ sym (c .against-day .ensures)
 

@@ -3,15 +3,16 @@ use mathlib.Core.List.{[], _∷_}
 use Prim.Native.Nat.{ℕ}
 use lib.Dec.{leb, ltb, eqb}
 use lib.ListN.{length, getD}
+use Rattle.base.specs.Numbers.{eightDigits}
 use Rattle.base.specs.Refusals.{unless}
 use Rattle.base.specs.Refusals.Rule.{rule}
-use Rattle.base.specs.Numbers.{eightDigits}
 use Rattle.rules.specs.Opening.{Agreed}
 use Rattle.rules.specs.Numbers.{mostWidth}
 use Rattle.book.specs.Answers.{Answer}
 use Rattle.book.specs.Answers.Answer.{refused}
 use Rattle.book.specs.Cells.{Reads}
 use Rattle.book.specs.Filling.{againstBoundary, againstAgreed, storedIn}
+use Rattle.book.specs.Contents.{dialRead, readAt}
 
 unfoldable pub numberAnswer : Agreed → ℕ → ℕ → ℕ → Answer
 numberAnswer a place version number =
@@ -33,7 +34,7 @@ readAnswer r boundary version reading width =
     ∷ rule 6 (ltb eightDigits reading)
     ∷ rule 17 (ltb mostWidth width)
     ∷ [])
-    (againstBoundary (getD (r .readVersions) boundary 0) (getD (r .readings) boundary 0) (getD (r .widths) boundary 0) version reading width)
+    (againstBoundary (getD (r .readVersions) boundary 0) (readAt r boundary) version (dialRead reading width))
 
 unfoldable pub readAfter : Reads → ℕ → ℕ → ℕ → ℕ → Reads
 readAfter r boundary version reading width = record {

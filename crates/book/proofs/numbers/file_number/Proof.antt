@@ -5,7 +5,7 @@ use native.Mathlib.Omega.{arith}
 use lib.ListN.{length}
 use borrow.Author.Tests.{le-leb, lt-leb, lt-ltb, eq-eqb, ne-eqb}
 use borrow.Author.Needs.{needs}
-use Rattle.book.specs.Answers.{Answer, filedMeant}
+use Rattle.book.specs.Answers.{Answer, receivedMeant}
 use Rattle.rules.specs.Lent.{lentAgreed}
 use Rattle.book.specs.Inner.Numbers.{numberAnswer, numberAfter}
 use Rattle.book.proofs.OneNumber.{number-sound}
@@ -79,7 +79,7 @@ same-length-2 : tie.Need-same-length-2
 same-length-2 c = search needs
 
 -- what `against_agreed` found is the answer
-found : (c : lts.After-against-agreed claims reads.Pre reads.Post) → whole (c .before .before .before .before .before .before .before .before) ≡ filedMeant (c .against-agreed .result)
+found : (c : lts.After-against-agreed claims reads.Pre reads.Post) → whole (c .before .before .before .before .before .before .before .before) ≡ receivedMeant (c .against-agreed .result)
 found c =
     let small : c .before .before .before .before .before .before .before .before .args .number ≤ 99_999_999 = omega (arith, c .before .before .before .if3 .left) in
     number-sound _ _ _ _ (inside (c .before .before .before .before .before)) (c .before .before .before .before .if2 .left) small ∙ sym (c .against-agreed .ensures)

@@ -5,7 +5,7 @@ use native.Mathlib.Omega.{arith}
 use lib.ListN.{length}
 use borrow.Author.Tests.{le-leb, lt-leb, lt-ltb, le-ltb, eq-eqb, ne-eqb}
 use borrow.Author.Needs.{needs}
-use Rattle.book.specs.Answers.{Answer, filedMeant}
+use Rattle.book.specs.Answers.{Answer, receivedMeant}
 use Rattle.book.specs.Lent.{lentReads}
 use Rattle.book.specs.Inner.Numbers.{readAnswer, readAfter}
 use Rattle.book.proofs.OneNumber.{read-sound}
@@ -104,7 +104,7 @@ same-length-3 : tie.Need-same-length-3
 same-length-3 c = search needs
 
 -- what `against_boundary` found is the answer
-found : (c : lts.After-against-boundary claims reads.Pre reads.Post) → whole (c .before .before .before .before .before .before .before .before .before .before .before) ≡ filedMeant (c .against-boundary .result)
+found : (c : lts.After-against-boundary claims reads.Pre reads.Post) → whole (c .before .before .before .before .before .before .before .before .before .before .before) ≡ receivedMeant (c .against-boundary .result)
 found c =
     let small : c .before .before .before .before .before .before .before .before .before .before .before .args .reading ≤ 99_999_999 = omega (arith, c .before .before .before .before .before .if3 .left) in
     let narrow : c .before .before .before .before .before .before .before .before .before .before .before .args .width ≤ 9999 = omega (arith, c .before .before .before .before .if4 .left) in
