@@ -8,6 +8,7 @@ use lib.ListN.{length, drop}
 use Rattle.base.specs.Lists.{sum}
 use Rattle.base.specs.Refusals.{Rule, unless}
 use Rattle.base.specs.Refusals.Rule.{rule}
+use Rattle.base.specs.Numbers.{dialModulus}
 use Rattle.rules.specs.declared.Head.{Head}
 use Rattle.rules.specs.Opening.{headOk, slotCount}
 use Rattle.rules.specs.Spans.{stateOf}
@@ -36,7 +37,7 @@ trueTotal h seed loss = sum (valueAt h seed loss) 0 (slotCount h)
 
 -- "The dial is read as 0 at boundary 0 and as the true total modulo 100,000,000 at boundary D, each version 1 and width 0"
 unfoldable pub dialReads : Head → ℕ → List Call
-dialReads h total = register 0 1 0 0 ∷ register (h .days) 1 (total % 100_000_000) 0 ∷ []
+dialReads h total = register 0 1 0 0 ∷ register (h .days) 1 (total % dialModulus) 0 ∷ []
 
 -- the calls of a run
 unfoldable pub callsOf : Head → ℕ → ℕ → List Call

@@ -46,10 +46,14 @@ fn fill(
     counts: &mut [u16],
     widths: &mut [u16],
 ) -> u64
-    requires { ⌜ (headOk head ≡ true) × (bookFits head (lentBook values versions statuses holidays readings reads agreed «agreed_versions» counts widths) ≡ true) ⌝ }
+    requires { ⌜
+        (let book = lentBook values versions statuses holidays readings reads agreed «agreed_versions» counts widths in
+        (headOk head ≡ true) × (bookFits head book ≡ true))
+        ⌝ }
     ensures { λ r. ⌜
         (r ≡ trueTotal head seed loss)
-        × (lentBook (values .exit) (versions .exit) (statuses .exit) (holidays .exit) (readings .exit) (reads .exit) (agreed .exit) («agreed_versions» .exit) (counts .exit) (widths .exit) ≡ leftBy head (callsOf head seed loss))
+        × (lentBook (values .exit) (versions .exit) (statuses .exit) (holidays .exit) (readings .exit) (reads .exit)
+        (agreed .exit) («agreed_versions» .exit) (counts .exit) (widths .exit) ≡ leftBy head (callsOf head seed loss))
         ⌝ }
 {
     book::open(
@@ -94,8 +98,10 @@ fn run(
         ⌝ }
     ensures { λ r. ⌜
         (r ≡ reportOf head seed loss)
-        × (lentBook (values .exit) (versions .exit) (statuses .exit) (holidays .exit) (readings .exit) (reads .exit) (agreed .exit) («agreed_versions» .exit) (counts .exit) (widths .exit) ≡ leftBy head (callsOf head seed loss))
-        × (now (out .exit) ≡ plainFile head (callsOf head seed loss) ++ drop (length (plainFile head (callsOf head seed loss))) (now (out .entry)))
+        × (lentBook (values .exit) (versions .exit) (statuses .exit) (holidays .exit) (readings .exit) (reads .exit)
+        (agreed .exit) («agreed_versions» .exit) (counts .exit) (widths .exit) ≡ leftBy head (callsOf head seed loss))
+        × (now (out .exit)
+        ≡ plainFile head (callsOf head seed loss) ++ drop (length (plainFile head (callsOf head seed loss))) (now (out .entry)))
         ⌝ }
 {
     let total = fill(
@@ -148,9 +154,11 @@ pub fn simulate(
     out: &mut [u8],
 ) -> Simulated
     ensures { λ r. ⌜
-        (let book = lentBook (values .entry) (versions .entry) (statuses .entry) (holidays .entry) (readings .entry) (reads .entry) (agreed .entry) («agreed_versions» .entry) (counts .entry) (widths .entry) in
+        (let book = lentBook (values .entry) (versions .entry) (statuses .entry) (holidays .entry) (readings .entry) (reads .entry)
+        (agreed .entry) («agreed_versions» .entry) (counts .entry) (widths .entry) in
         (r ≡ simulateAnswer head seed loss book (now (out .entry)))
-        × (lentBook (values .exit) (versions .exit) (statuses .exit) (holidays .exit) (readings .exit) (reads .exit) (agreed .exit) («agreed_versions» .exit) (counts .exit) (widths .exit)
+        × (lentBook (values .exit) (versions .exit) (statuses .exit) (holidays .exit) (readings .exit) (reads .exit)
+        (agreed .exit) («agreed_versions» .exit) (counts .exit) (widths .exit)
         ≡ simulateLists head seed loss book (now (out .entry)))
         × (now (out .exit) ≡ simulateBytes head seed loss book (now (out .entry))))
         ⌝ }

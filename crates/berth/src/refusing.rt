@@ -57,7 +57,11 @@ pub fn refusal(
     widths: &[u16],
     out: &[u8],
 ) -> u8
-    ensures { λ r. ⌜ r ≡ firstBroken (runRules head seed loss (bookFits head (lentBook (values .entry) (versions .entry) (statuses .entry) (holidays .entry) (readings .entry) (reads .entry) (agreed .entry) («agreed_versions» .entry) (counts .entry) (widths .entry))) (length (now (out .entry)))) ⌝ }
+    ensures { λ r. ⌜
+        (let book = lentBook (values .entry) (versions .entry) (statuses .entry) (holidays .entry) (readings .entry) (reads .entry)
+        (agreed .entry) («agreed_versions» .entry) (counts .entry) (widths .entry) in
+        r ≡ firstBroken (runRules head seed loss (bookFits head book) (length (now (out .entry)))))
+        ⌝ }
 {
     if !opening::head_ok(head) {
         return 1;

@@ -28,7 +28,11 @@ pub fn report(head: Head, out: &[u8], total: u64) -> Report
         × (num 8 (now out) (6 * slotCount head + 34) ≤ 11_520_000_000_000)
         × (total ≤ 57_600_000_000)
         ⌝ }
-    ensures { λ r. ⌜ r ≡ record { state = num 1 (now (out .entry)) (6 * slotCount head + 12); difference = pos (num 8 (now (out .entry)) (6 * slotCount head + 34)) -ℤ pos total; total = total } ⌝ }
+    ensures { λ r. ⌜
+        (let file = now (out .entry) in
+        let tables = 6 * slotCount head in
+        r ≡ record { state = num 1 file (tables + 12); difference = pos (num 8 file (tables + 34)) -ℤ pos total; total = total })
+        ⌝ }
 {
     let table = 6 * opening::slot_count(head);
     let state = fields::number(out, table + 12, 1) as u8;

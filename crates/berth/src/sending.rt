@@ -5,6 +5,7 @@ use rules::opening;
 ghost use mathlib.Core.Bool.{true};
 ghost use mathlib.Core.Path.{_≡_};
 ghost use Prim.Native.Nat.{_%_};
+ghost use Rattle.base.specs.Numbers.{dialModulus};
 ghost use Rattle.rules.specs.Opening.{headOk, slotCount};
 ghost use Rattle.book.specs.Filling.{registerAfter};
 ghost use Rattle.book.specs.Lent.{lentReads};
@@ -30,7 +31,10 @@ fn send(
     slot: u32,
     berth: Berth,
 )
-    ensures { λ _. ⌜ lentSent (values .exit) (versions .exit) (statuses .exit) (counts .exit) ≡ sentOne head (lentSent (values .entry) (versions .entry) (statuses .entry) (counts .entry)) slot berth ⌝ }
+    ensures { λ _. ⌜
+        (let sent = lentSent (values .entry) (versions .entry) (statuses .entry) (counts .entry) in
+        lentSent (values .exit) (versions .exit) (statuses .exit) (counts .exit) ≡ sentOne head sent slot berth)
+        ⌝ }
 {
     if berth.lost {
         return;
@@ -61,7 +65,8 @@ pub fn send_all(
     requires { ⌜ headOk head ≡ true ⌝ }
     ensures { λ r. ⌜
         (r ≡ trueTotal head seed loss)
-        × (lentSent (values .exit) (versions .exit) (statuses .exit) (counts .exit) ≡ sentFrom head seed loss (lentSent (values .entry) (versions .entry) (statuses .entry) (counts .entry)) (slotCount head))
+        × (lentSent (values .exit) (versions .exit) (statuses .exit) (counts .exit)
+        ≡ sentFrom head seed loss (lentSent (values .entry) (versions .entry) (statuses .entry) (counts .entry)) (slotCount head))
         ⌝ }
 {
     let slots = opening::slot_count(head) as u32;
@@ -88,7 +93,8 @@ pub fn read_dial(
 )
     ensures { λ _. ⌜
         (lentReads (readings .exit) (reads .exit) (widths .exit)
-        ≡ registerAfter head (registerAfter head (lentReads (readings .entry) (reads .entry) (widths .entry)) 0 1 0 0) (head .days) 1 (total % 100_000_000) 0)
+        ≡ registerAfter head (registerAfter head (lentReads (readings .entry) (reads .entry) (widths .entry)) 0 1 0 0)
+        (head .days) 1 (total % dialModulus) 0)
         ⌝ }
 {
     book::register(head, readings, reads, widths, 0, 1, 0, 0);

@@ -12,7 +12,7 @@ use lib.Seq.{ext-getD}
 use borrow.Author.Tests.{not-false}
 use Rattle.base.specs.Lists.{upTo}
 use Rattle.base.proofs.Lists.{getD-upTo, upTo-cong}
-use Rattle.base.proofs.Logic.{and-parts, passed}
+use Rattle.base.proofs.Logic.{passed}
 use Rattle.base.proofs.Refusals.{unless-answered}
 use Rattle.calendar.proofs.Dates.{one-date}
 use Rattle.rules.specs.declared.Head.{Head}
@@ -23,12 +23,11 @@ use Rattle.rules.specs.Spans.{outcomeAt, noSpan, outcomes, spans}
 use Rattle.book.specs.Arguments.{Call}
 use Rattle.book.specs.Answers.{Answer}
 use Rattle.book.specs.Answers.Answer.{done, refused}
-use Rattle.book.specs.Cells.{Book, cellsOk, bookOk}
+use Rattle.book.specs.Cells.{Book}
 use Rattle.book.specs.Opening.{opened, openAnswer, openedIn, openAfter, openRules}
 use Rattle.book.specs.Filling.{answers}
 use Rattle.book.specs.Plain.{plainAnswers, keptOf}
 use Rattle.book.proofs.Agreement.{answers-agree, cells-agree}
-use Rattle.book.proofs.Fits.{fits-of}
 use Rattle.book.proofs.Order.{order-does-not-matter}
 use Rattle.book.proofs.AnyOrder.{any-order}
 use Rattle.book.proofs.Soundness.{book-sound}
@@ -39,6 +38,7 @@ use Rattle.publishing.specs.Publishing.{published, fileLength, bytesAfter, publ
 use Rattle.publishing.specs.Inner.Publishing.{Sound}
 use Rattle.file.proofs.Content.{length-file}
 use Rattle.publishing.proofs.Files.{files-equal}
+use Rattle.publishing.proofs.EveryFile.{sound-book}
 use Rattle.claim.proofs.Last.{answer-last}
 use Rattle.claim.proofs.Accepted.{kept-of, accepted-of}
 use Rattle.claim.specs.Claim.{leftBy, plainOf, plainFile, SameOutcomes, Accepted, NoConflict, SameCalls, Claim, WholeLists}
@@ -120,11 +120,7 @@ module _ (h g : Head) (b c : Cells) where
 
 -- publishing does not refuse the plain book
 pub sound : (h : Head) (cs : List Call) → headOk h ≡ true → Sound h (plainOf h cs)
-unfolding bookOk
-sound h cs good =
-    let fits = fits-of h (leftBy h cs) (book-sound h cs .0) .0 in
-    let clean = and-parts (cellsOk h (leftBy h cs .cells)) _ (book-sound h cs .1) .0 in
-    record { head = good; fit = rw (cells-agree h cs) at fits; cells = rw (cells-agree h cs) at clean }
+sound h cs good = rw (cells-agree h cs) at (sound-book h (leftBy h cs) good (book-sound h cs .0) (book-sound h cs .1))
 
 -- an accepted opening: the head is good, and the lists are the opened ones
 opens : (h : Head) (b : Book) → openAnswer h b ≡ done → (headOk h ≡ true) × (openAfter h b ≡ opened h)

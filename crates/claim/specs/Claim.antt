@@ -81,7 +81,8 @@ abbrev pub WholeLists : Type 0
 WholeLists =
     (h g : Head) (b c : Book) (cs ds : List Call) → openAnswer h b ≡ done → openAnswer g c ≡ done → Claim h g b c cs ds
 
--- the condition of 5 can't be left out: two lists with the same calls after an accepted opening, and two files; proved by `conflict-matters` (proofs/Conflict.antt)
+-- the condition of 5 can't be left out: two lists with the same calls after an accepted opening, and two files; proved by
+-- `conflict-matters` (proofs/Conflict.antt)
 pub record ConflictMatters : Type 0 where
   pub head : Head
   pub lists : Book

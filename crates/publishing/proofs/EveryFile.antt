@@ -9,8 +9,8 @@ use lib.ListN.{length, take, drop}
 use lib.Seq.{take-at}
 use borrow.Author.Tests.{not-false}
 use Rattle.base.proofs.Logic.{and-parts}
-use Rattle.base.proofs.Sums.{sum-cong}
 use Rattle.base.proofs.Refusals.{unless-answered}
+use Rattle.base.proofs.Sums.{sum-cong}
 use Rattle.rules.specs.declared.Head.{Head}
 use Rattle.rules.specs.declared.Outcome.{Outcome}
 use Rattle.rules.specs.declared.Span.{Span}
@@ -33,6 +33,12 @@ use Rattle.publishing.specs.Claim.{SumsToR, EveryFile}
 use Rattle.publishing.specs.Inner.Publishing.{Sound}
 use Rattle.publishing.proofs.Files.{slots-own, slot-own, well-formed, published-accepted}
 
+-- what is published soundly: a good head, lists that fit, and cells that calls could leave
+pub sound-book : (h : Head) (b : Book) → headOk h ≡ true → bookFits h b ≡ true → bookOk h b ≡ true → Sound h (b .cells)
+unfolding bookOk
+sound-book h b good fit ok =
+    record { head = good; fit = fits-of h b fit .0; cells = and-parts (cellsOk h (b .cells)) _ ok .0 }
+
 module _ (h : Head) (b : Book) (out : List ℕ) (n : ℕ) (e : publishAnswer h b out ≡ Length n) where
   answered : (headOk h ≡ true) × (bookFits h b ≡ true) × (bookOk h b ≡ true) × (fileLength h (b .cells) ≡ n)
   unfolding publishAnswer
@@ -42,12 +48,7 @@ module _ (h : Head) (b : Book) (out : List ℕ) (n : ℕ) (e : publishAnswer h b
       (not-false _ (kept 0), not-false _ (kept 1), not-false _ (kept 2), cc)
 
   sound : Sound h (b .cells)
-  unfolding bookOk
-  sound = record {
-    head = answered .0;
-    fit = fits-of h b (answered .1) .0;
-    cells = and-parts (cellsOk h (b .cells)) _ (answered .2) .0;
-  }
+  sound = sound-book h b (answered .0) (answered .1) (answered .2)
 
   file-long : length (fileOf (published h (b .cells))) ≡ n
   unfolding fileLength published

@@ -43,8 +43,15 @@ fn put_file(
     out: &mut [u8],
     spans: usize,
 )
-    requires { ⌜ Roomy head (lentCells values versions statuses holidays readings reads agreed «agreed_versions» widths) (now out) × (spans ≡ length (spansOf head (lentCells values versions statuses holidays readings reads agreed «agreed_versions» widths))) ⌝ }
-    ensures { λ _. ⌜ now (out .exit) ≡ fileOf (published head (lentCells (values .entry) (versions .entry) (statuses .entry) (holidays .entry) (readings .entry) (reads .entry) (agreed .entry) («agreed_versions» .entry) (widths .entry))) ++ drop (fileLength head (lentCells (values .entry) (versions .entry) (statuses .entry) (holidays .entry) (readings .entry) (reads .entry) (agreed .entry) («agreed_versions» .entry) (widths .entry))) (now (out .entry)) ⌝ }
+    requires { ⌜
+        (let b = lentCells values versions statuses holidays readings reads agreed «agreed_versions» widths in
+        Roomy head b (now out) × (spans ≡ length (spansOf head b)))
+        ⌝ }
+    ensures { λ _. ⌜
+        (let b = lentCells (values .entry) (versions .entry) (statuses .entry) (holidays .entry) (readings .entry) (reads .entry)
+        (agreed .entry) («agreed_versions» .entry) (widths .entry) in
+        now (out .exit) ≡ fileOf (published head b) ++ drop (fileLength head b) (now (out .entry)))
+        ⌝ }
 {
     let table = 6 * opening::slot_count(head);
     let found = tables::put_tables(
@@ -98,7 +105,11 @@ fn put_sound(
     out: &mut [u8],
 ) -> Published
     requires { ⌜ Sound head (lentCells values versions statuses holidays readings reads agreed «agreed_versions» widths) ⌝ }
-    ensures { λ r. ⌜ Put head (lentCells (values .entry) (versions .entry) (statuses .entry) (holidays .entry) (readings .entry) (reads .entry) (agreed .entry) («agreed_versions» .entry) (widths .entry)) (now (out .entry)) r (now (out .exit)) ⌝ }
+    ensures { λ r. ⌜
+        (let b = lentCells (values .entry) (versions .entry) (statuses .entry) (holidays .entry) (readings .entry) (reads .entry)
+        (agreed .entry) («agreed_versions» .entry) (widths .entry) in
+        Put head b (now (out .entry)) r (now (out .exit)))
+        ⌝ }
 {
     let spans = readings::span_count(reads);
     let length = length_of(head, spans);
@@ -137,7 +148,11 @@ fn lists_fit(
     widths: &[u16],
 ) -> bool
     requires { ⌜ headOk head ≡ true ⌝ }
-    ensures { λ r. ⌜ r ≡ bookFits head (lentBook (values .entry) (versions .entry) (statuses .entry) (holidays .entry) (readings .entry) (reads .entry) (agreed .entry) («agreed_versions» .entry) (counts .entry) (widths .entry)) ⌝ }
+    ensures { λ r. ⌜
+        (let book = lentBook (values .entry) (versions .entry) (statuses .entry) (holidays .entry) (readings .entry) (reads .entry)
+        (agreed .entry) («agreed_versions» .entry) (counts .entry) (widths .entry) in
+        r ≡ bookFits head book)
+        ⌝ }
 {
     lengths::book_fits(
         head,
@@ -169,8 +184,15 @@ fn put_fitted(
     widths: &[u16],
     out: &mut [u8],
 ) -> Published
-    requires { ⌜ (headOk head ≡ true) × (bookFits head (lentBook values versions statuses holidays readings reads agreed «agreed_versions» counts widths) ≡ true) ⌝ }
-    ensures { λ r. ⌜ Left head (lentBook (values .entry) (versions .entry) (statuses .entry) (holidays .entry) (readings .entry) (reads .entry) (agreed .entry) («agreed_versions» .entry) (counts .entry) (widths .entry)) (now (out .entry)) r (now (out .exit)) ⌝ }
+    requires { ⌜
+        (let book = lentBook values versions statuses holidays readings reads agreed «agreed_versions» counts widths in
+        (headOk head ≡ true) × (bookFits head book ≡ true))
+        ⌝ }
+    ensures { λ r. ⌜
+        (let book = lentBook (values .entry) (versions .entry) (statuses .entry) (holidays .entry) (readings .entry) (reads .entry)
+        (agreed .entry) («agreed_versions» .entry) (counts .entry) (widths .entry) in
+        Left head book (now (out .entry)) r (now (out .exit)))
+        ⌝ }
 {
     if !sound::book_ok(
         head,
@@ -218,8 +240,8 @@ pub fn publish(
     out: &mut [u8],
 ) -> Published
     ensures { λ r. ⌜
-        (let book =
-        lentBook (values .entry) (versions .entry) (statuses .entry) (holidays .entry) (readings .entry) (reads .entry) (agreed .entry) («agreed_versions» .entry) (counts .entry) (widths .entry) in
+        (let book = lentBook (values .entry) (versions .entry) (statuses .entry) (holidays .entry) (readings .entry) (reads .entry)
+        (agreed .entry) («agreed_versions» .entry) (counts .entry) (widths .entry) in
         (r ≡ publishAnswer head book (now (out .entry)))
         × (now (out .exit) ≡ publishAfter head book (now (out .entry))))
         ⌝ }

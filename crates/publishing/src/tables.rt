@@ -55,7 +55,13 @@ fn begin() -> Progress
 }
 
 fn add(totals: Totals, slot: Outcome) -> Totals
-    requires { ⌜ (totals .actual ≤ 115_200) × (totals .substituted ≤ 115_200) × (totals .agreed ≤ 115_200) × (totals .none ≤ 115_200) × (totals .sum ≤ 11_520_000_000_000) ⌝ }
+    requires { ⌜
+        (totals .actual ≤ 115_200)
+        × (totals .substituted ≤ 115_200)
+        × (totals .agreed ≤ 115_200)
+        × (totals .none ≤ 115_200)
+        × (totals .sum ≤ 11_520_000_000_000)
+        ⌝ }
     ensures { λ r. ⌜ r ≡ addedTo totals slot ⌝ }
 {
     let sum = totals.sum + (slot.value as u64);
@@ -95,7 +101,10 @@ fn add(totals: Totals, slot: Outcome) -> Totals
 // Writes the record of the span that begins at a slot, if one does; how many are written then.
 fn put_begun(out: &mut [u8], at: usize, count: usize, begins: Begins) -> usize
     requires { ⌜ at + 14 * count + 14 * length (listOf begins) ≤ length (now out) ⌝ }
-    ensures { λ r. ⌜ (r ≡ count + length (listOf begins)) × (now (out .exit) ≡ written (now (out .entry)) (at + 14 * count) (table (spanRow true) (listOf begins))) ⌝ }
+    ensures { λ r. ⌜
+        (r ≡ count + length (listOf begins))
+        × (now (out .exit) ≡ written (now (out .entry)) (at + 14 * count) (table (spanRow true) (listOf begins)))
+        ⌝ }
 {
     match begins {
         Begins::Span(span) => {
@@ -122,8 +131,15 @@ fn put_next(
     table: usize,
     here: Progress,
 ) -> Progress
-    requires { ⌜ Next head (lentCells values versions statuses holidays readings reads agreed «agreed_versions» widths) (now out) table here ⌝ }
-    ensures { λ r. ⌜ PutNext head (lentCells (values .entry) (versions .entry) (statuses .entry) (holidays .entry) (readings .entry) (reads .entry) (agreed .entry) («agreed_versions» .entry) (widths .entry)) (now (out .entry)) (now (out .exit)) here r ⌝ }
+    requires { ⌜
+        (let b = lentCells values versions statuses holidays readings reads agreed «agreed_versions» widths in
+        Next head b (now out) table here)
+        ⌝ }
+    ensures { λ r. ⌜
+        (let b = lentCells (values .entry) (versions .entry) (statuses .entry) (holidays .entry) (readings .entry) (reads .entry)
+        (agreed .entry) («agreed_versions» .entry) (widths .entry) in
+        PutNext head b (now (out .entry)) (now (out .exit)) here r)
+        ⌝ }
 {
     let pass = here.pass;
     let at = pass.walk.at;
@@ -168,8 +184,15 @@ pub fn put_tables(
     out: &mut [u8],
     table: usize,
 ) -> Totals
-    requires { ⌜ Roomy head (lentCells values versions statuses holidays readings reads agreed «agreed_versions» widths) (now out) × (table ≡ 6 * slotCount head) ⌝ }
-    ensures { λ r. ⌜ (r ≡ totalsOf (outcomes head (lentCells (values .entry) (versions .entry) (statuses .entry) (holidays .entry) (readings .entry) (reads .entry) (agreed .entry) («agreed_versions» .entry) (widths .entry)))) × (now (out .exit) ≡ bufferAt head (lentCells (values .entry) (versions .entry) (statuses .entry) (holidays .entry) (readings .entry) (reads .entry) (agreed .entry) («agreed_versions» .entry) (widths .entry)) (now (out .entry)) (slotCount head)) ⌝ }
+    requires { ⌜
+        (let b = lentCells values versions statuses holidays readings reads agreed «agreed_versions» widths in
+        Roomy head b (now out) × (table ≡ 6 * slotCount head))
+        ⌝ }
+    ensures { λ r. ⌜
+        (let b = lentCells (values .entry) (versions .entry) (statuses .entry) (holidays .entry) (readings .entry) (reads .entry)
+        (agreed .entry) («agreed_versions» .entry) (widths .entry) in
+        (r ≡ totalsOf (outcomes head b)) × (now (out .exit) ≡ bufferAt head b (now (out .entry)) (slotCount head)))
+        ⌝ }
 {
     let n = opening::slot_count(head);
     let mut here = begin();

@@ -1,4 +1,5 @@
--- No clause of how far one late figure reaches can be left out: for each a list of calls and one more delivery, after which a slot moves that no other clause holds.
+-- No clause of how far one late figure reaches can be left out: for each a list of calls and one more delivery, after which a
+-- slot moves that no other clause holds.
 use mathlib.Core.List.{List, [], _∷_, _++_}
 use mathlib.Core.Logic.{_⊎_}
 use mathlib.Core.Path.{_≡_}

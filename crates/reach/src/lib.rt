@@ -1,1 +1,2 @@
-// How far one late figure reaches (02, W14): a theorem of every list of calls, in specs/Reach.antt and specs/Needed.antt. There is nothing to call.
+// How far one late figure reaches (02, W14): a theorem of every list of calls, in specs/Reach.antt and specs/Needed.antt. There
+// is nothing to call.
