@@ -16,4 +16,3 @@ pub mod Fitting
 pub mod Accepted
 pub mod Answers
 pub mod Canonical
-pub mod Whole
