@@ -18,12 +18,12 @@ use Rattle.rules.specs.declared.Quality.the-variants.{A, S, F, N}
 use Rattle.rules.specs.Spans.{isA, isS, isF, isN}
 use Rattle.file.specs.declared.Verdict.the-variants.{Accepted}
 use Rattle.file.specs.Layout.{Content, letter, total, one, row, ranged, spanWidth, trailerRow, figuresOf, tablesOf, fileOf}
-use Rattle.file.specs.Reader.{figures, slotCount, layoutFits, countOf, tablesAt, trailerOk, tablesOk, figuresOk, readFile, partOf, tablesPart}
-use Rattle.file.specs.Contents.{Fitting, WellFormed, slot, noSlot, recordsOf}
+use Rattle.file.specs.Reader.{figures, fileSlots, layoutFits, countOf, tablesAt, trailerOk, tablesOk, figuresOk, readFile, partOf, tablesPart}
+use Rattle.file.specs.Contents.{WellFormed, slot, noSlot, recordsOf}
 use Rattle.file.proofs.Rows.{length-row}
 use Rattle.file.proofs.Lists.{total-sum, total-le}
 use Rattle.file.proofs.Head.{slots-le}
-use Rattle.file.proofs.Fitting.{fitting}
+use Rattle.file.proofs.Fitting.{Fitting, fitting}
 use Rattle.file.proofs.Content.{slot-back, span-back, first-back, days-back, interval-back, layout-back, spans-back, distance-back, trailer-field, length-file}
 use Rattle.file.proofs.Agree.{Agree, count-agree, sum-agree, tables-agree}
 use Rattle.file.proofs.Answers.{accepted-with}
@@ -87,10 +87,10 @@ module _ (f : Content) (w : WellFormed f) where
   fits : Fitting f
   fits = fitting f w
 
-  few : length (f .slots) ≤ 115200
+  few : length (f .slots) ≤ 115_200
   few = rw (w .slots) (slots-le (f .first) (f .days) (f .interval) (w .head))
 
-  count-le : (p : Quality → Bool) → total (one p) (f .slots) ≤ 115200
+  count-le : (p : Quality → Bool) → total (one p) (f .slots) ≤ 115_200
   count-le p = omega (arith, few, total-le (one p) 1 noSlot (f .slots) (λ i l. bit-le (p (slot f i .quality))))
 
   count-lt : (p : Quality → Bool) → total (one p) (f .slots) < 256 ^ 4
@@ -117,7 +117,7 @@ module _ (f : Content) (w : WellFormed f) where
         layout = layout-back f fits k;
       }
 
-  base : 6 * slotCount (figuresOf f) ≡ 6 * length (f .slots)
+  base : 6 * fileSlots (figuresOf f) ≡ 6 * length (f .slots)
   unfolding figuresOf
   base = rw (w .slots)
 

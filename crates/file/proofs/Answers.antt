@@ -9,7 +9,7 @@ use lib.ListN.{length}
 use Rattle.base.proofs.Logic.{passed}
 use Rattle.file.specs.declared.Figures.{Figures}
 use Rattle.file.specs.declared.Verdict.the-variants.{Accepted, Refused}
-use Rattle.file.specs.Reader.{headTests, trailerTests, figures, trailerOk, tablesOk, figuresOk, verdict, readFile}
+use Rattle.file.specs.Reader.{headFieldTests, trailerTests, figures, trailerOk, tablesOk, figuresOk, verdict, readFile}
 use Rattle.file.specs.Inner.Reading.{Ready}
 use Rattle.file.proofs.Head.{slots-ge}
 
@@ -69,10 +69,10 @@ long-enough bs g e =
     omega (arith, r .long)
 
 -- an accepted file's first day is not after 2099-12-31
-pub first-lt : (bs : List ℕ) (g : Figures) → readFile bs ≡ Accepted g → g .first < 36525
+pub first-lt : (bs : List ℕ) (g : Figures) → readFile bs ≡ Accepted g → g .first < 36_525
 first-lt bs g e =
-    let tests = headTests (g .first) (g .days) (g .interval) in
+    let tests = headFieldTests (g .first) (g .days) (g .interval) in
     let ok = ready bs g (tests-passed bs g e .0 .trailer) .head in
     let some : 1 ≤ g .days = leb-true _ _ (passed tests ok 1) in
-    let end : g .first + g .days ≤ 36525 = leb-true _ _ (passed tests ok 3) in
+    let end : g .first + g .days ≤ 36_525 = leb-true _ _ (passed tests ok 3) in
     omega arith

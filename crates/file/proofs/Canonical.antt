@@ -16,14 +16,15 @@ use Rattle.rules.specs.declared.Quality.{Quality}
 use Rattle.rules.specs.declared.Quality.the-variants.{A, S, F, N}
 use Rattle.rules.specs.Spans.{isA, isS, isF, isN, noSpan}
 use Rattle.file.specs.declared.Figures.{Figures}
+use Rattle.file.specs.declared.slots.SlotRecord.{SlotRecord}
 use Rattle.file.specs.declared.Verdict.{Verdict}
 use Rattle.file.specs.declared.Verdict.the-variants.{Accepted}
-use Rattle.file.specs.Layout.{Content, letter, total, one, row, table, slotRow, spanRow, ranged, spanWidth, trailerRow, figuresOf, tablesOf, fileOf}
-use Rattle.file.specs.Reader.{num, byte, slotAt, spanAt, trailerAt, figures, layoutFits, slotCount, tablesAt, countOf, trailerTests, tableTests, figureTests, spanTests, spanOk, trailerOk, tablesOk, figuresOk, readFile, partOf, tablesPart}
-use Rattle.file.specs.Contents.{Bytes, WellFormed, slot, span, noSlot, slotRecord, spanRecord, recordsOf, qualityOf, outcomeOf, spanOf, contentOf}
+use Rattle.file.specs.Layout.{Content, total, one, row, fieldsOf, table, slotWidths, slotRow, spanRow, ranged, spanWidth, spanTableBytes, trailerWidths, trailerRow, figuresOf, tablesOf, fileOf}
+use Rattle.file.specs.Reader.{fieldAt, slotAt, spanAt, trailerAt, trailerField, figures, layoutFits, fileSlots, tablesAt, countOf, trailerTests, tableTests, figureTests, spanTests, spanOk, trailerOk, tablesOk, figuresOk, readFile, partOf, tablesPart}
+use Rattle.file.specs.Contents.{Bytes, WellFormed, slot, span, noSlot, slotRecord, spanRecord, recordsOf, outcomeOf, spanOfRecord, contentOf}
 use Rattle.file.specs.Claim.{FileOf, Exactly, Canonical}
-use Rattle.file.proofs.Numbers.{num-one, num-lt, num-take, byte-take}
-use Rattle.file.proofs.Rows.{reads, row-reads, table-reads}
+use Rattle.file.proofs.Offsets.{value-lt}
+use Rattle.file.proofs.Rows.{row-reads, field-take, table-reads}
 use Rattle.file.proofs.Records.{record-tells}
 use Rattle.file.proofs.SpanRecords.{record-within, from-exact, from-take, span-written}
 use Rattle.file.proofs.Agree.{Agree, count-agree, sum-agree, tables-agree}
@@ -37,7 +38,7 @@ module _ (bs : List ℕ) (b : Bytes bs) (p : Passed bs (figures bs)) where
   g = figures bs
 
   abbrev n : ℕ
-  n = slotCount (figures bs)
+  n = fileSlots (figures bs)
 
   abbrev m : ℕ
   m = figures bs .spans
@@ -69,7 +70,7 @@ module _ (bs : List ℕ) (b : Bytes bs) (p : Passed bs (figures bs)) where
   unfolding tablesOk spanOk
   blank-right j l = eqb-true _ _ (passed (spanTests (tablesAt bs g) j) (all-at _ m (passed (tableTests (tablesAt bs g)) (p .tables) 1) j l) 6)
 
-  span-right : (j : ℕ) → j < m → spanRecord (spanOf (spanAt r bs (6 * n) j)) ≡ spanAt r bs (6 * n) j
+  span-right : (j : ℕ) → j < m → spanRecord (spanOfRecord (spanAt r bs (6 * n) j)) ≡ spanAt r bs (6 * n) j
   span-right j l =
       let s = spanAt r bs (6 * n) j in
       let e = blank-right j l in
@@ -79,9 +80,9 @@ module _ (bs : List ℕ) (b : Bytes bs) (p : Passed bs (figures bs)) where
   unfolding contentOf
   slot-is i l = getD-upTo _ noSlot 0 n i l ∙ ap (λ (x : ℕ). outcomeOf (slotAt bs x)) (zero-add i)
 
-  span-is : (j : ℕ) → j < m → span f j ≡ spanOf (spanAt r bs (6 * n) j)
+  span-is : (j : ℕ) → j < m → span f j ≡ spanOfRecord (spanAt r bs (6 * n) j)
   unfolding contentOf
-  span-is j l = getD-upTo _ noSpan 0 m j l ∙ ap (λ (x : ℕ). spanOf (spanAt r bs (6 * n) x)) (zero-add j)
+  span-is j l = getD-upTo _ noSpan 0 m j l ∙ ap (λ (x : ℕ). spanOfRecord (spanAt r bs (6 * n) x)) (zero-add j)
 
   agree : Agree (recordsOf f) (tablesAt bs g)
   unfolding contentOf
@@ -113,7 +114,7 @@ module _ (bs : List ℕ) (b : Bytes bs) (p : Passed bs (figures bs)) where
         first = g .first;
         days = g .days;
         interval = g .interval;
-        spans = length-upTo (λ j. spanOf (spanAt r bs (6 * n) j)) 0 m k;
+        spans = length-upTo (λ j. spanOfRecord (spanAt r bs (6 * n) j)) 0 m k;
         actual = actual k;
         substituted = substituted k;
         none = none k;
@@ -122,12 +123,12 @@ module _ (bs : List ℕ) (b : Bytes bs) (p : Passed bs (figures bs)) where
       }
 
   -- the three parts of the file
-  slot-row : (i : ℕ) → i < n → slotRow (outcomeOf (slotAt bs i)) ≡ reads (4 ∷ 1 ∷ 1 ∷ []) bs (6 * i)
+  slot-row : (i : ℕ) → i < n → row (slotRow (outcomeOf (slotAt bs i))) ≡ take 6 (drop (6 * i) bs)
   unfolding slotAt
   slot-row i l =
-      let q : letter (qualityOf (byte bs (6 * i + 4))) ≡ num 1 bs (6 * i + 4) = ap (λ r. r .letter) (slot-right i l) ∙ sym (num-one bs (6 * i + 4)) in
-      let h : byte bs (6 * i + 5) ≡ num 1 bs (6 * i + 4 + 1) = sym (num-one bs (6 * i + 5)) ∙ ap (num 1 bs) (omega arith) in
-      λ k. (4, num 4 bs (6 * i)) ∷ (1, q k) ∷ (1, h k) ∷ []
+      let f = fieldAt slotWidths bs (6 * i) in
+      ap (λ (r : SlotRecord). row (fieldsOf slotWidths (f 0 ∷ r .letter ∷ f 2 ∷ []))) (slot-right i l)
+      ∙ row-reads bs b slotWidths (6 * i) (omega (arith, long))
 
   span-in : (j : ℕ) → j < m → 6 * n + w * j + w ≤ t
   span-in j l = omega (arith, long, record-within r j m l)
@@ -135,8 +136,7 @@ module _ (bs : List ℕ) (b : Bytes bs) (p : Passed bs (figures bs)) where
   slots-part : table slotRow (f .slots) ≡ take (6 * n) (drop 0 bs)
   unfolding contentOf
   slots-part =
-      table-reads slotRow 6 _ bs 0 n
-      (λ i l. ap row (slot-row i l) ∙ row-reads bs b (4 ∷ 1 ∷ 1 ∷ []) (6 * i) (omega (arith, long)) ∙ rw zero-add)
+      table-reads slotRow 6 _ bs 0 n (λ i l. slot-row i l ∙ rw zero-add)
 
   spans-part : table (spanRow r) (f .spans) ≡ take (w * m) (drop (6 * n) bs)
   unfolding contentOf
@@ -144,28 +144,20 @@ module _ (bs : List ℕ) (b : Bytes bs) (p : Passed bs (figures bs)) where
       table-reads (spanRow r) w _ bs (6 * n) m
       (λ j l. span-written bs (6 * n + w * j) b r (omega (arith, long, span-in j l)) (blank-right j l))
 
-  trailer-row : trailerRow g ≡ reads (2 ∷ 2 ∷ 1 ∷ 1 ∷ 2 ∷ 4 ∷ 4 ∷ 4 ∷ 8 ∷ 4 ∷ []) bs t
+  trailer-row : row (trailerRow g) ≡ take 32 (drop t bs)
   unfolding figures trailerOk
   trailer-row =
-      let test = passed (trailerTests bs g) (p .trailer) in
-      let p2 : byte bs (t + 4) ≡ num 1 bs (t + 2 + 2) = sym (num-one bs (t + 4)) ∙ ap (num 1 bs) (omega arith) in
-      let p3 : byte bs (t + 5) ≡ num 1 bs (t + 2 + 2 + 1) = sym (num-one bs (t + 5)) ∙ ap (num 1 bs) (omega arith) in
-      let p4 : num 2 bs (t + 6) ≡ num 2 bs (t + 2 + 2 + 1 + 1) = ap (num 2 bs) (omega arith) in
-      let p5 : num 4 bs (t + 8) ≡ num 4 bs (t + 2 + 2 + 1 + 1 + 2) = ap (num 4 bs) (omega arith) in
-      let p6 : num 4 bs (t + 12) ≡ num 4 bs (t + 2 + 2 + 1 + 1 + 2 + 4) = ap (num 4 bs) (omega arith) in
-      let p7 : num 4 bs (t + 16) ≡ num 4 bs (t + 2 + 2 + 1 + 1 + 2 + 4 + 4) = ap (num 4 bs) (omega arith) in
-      let p8 : num 8 bs (t + 20) ≡ num 8 bs (t + 2 + 2 + 1 + 1 + 2 + 4 + 4 + 4) = ap (num 8 bs) (omega arith) in
-      let p9 : spanWidth (ranged (byte bs (t + 5))) * num 2 bs (t + 6) ≡ num 4 bs (t + 2 + 2 + 1 + 1 + 2 + 4 + 4 + 4 + 8) = sym (eqb-true _ _ (test 3)) ∙ ap (num 4 bs) (omega arith) in
-      λ k.
-      (2, num 2 bs t) ∷ (2, num 2 bs (t + 2)) ∷ (1, p2 k) ∷ (1, p3 k) ∷ (2, p4 k) ∷ (4, p5 k) ∷ (4, p6 k) ∷ (4, p7 k) ∷ (8, p8 k) ∷ (4, p9 k) ∷ []
+      let f = trailerField bs in
+      let distance : spanTableBytes g ≡ f 9 = sym (eqb-true _ _ (passed (trailerTests bs g) (p .trailer) 3)) in
+      ap (λ (x : ℕ). row (fieldsOf trailerWidths (f 0 ∷ f 1 ∷ f 2 ∷ f 3 ∷ f 4 ∷ f 5 ∷ f 6 ∷ f 7 ∷ f 8 ∷ x ∷ []))) distance
+      ∙ row-reads bs b trailerWidths t (omega (arith, long))
 
   trailer-part : row (trailerRow (figuresOf f)) ≡ drop (6 * n + w * m) bs
   trailer-part =
       let e : t ≡ 6 * n + w * m = omega (arith, long) in
       let s : length (drop t bs) ≤ 32 = rw length-drop (omega (arith, long)) in
       ap (λ (x : Figures). row (trailerRow x)) figures-right
-      ∙ ap row trailer-row ∙ row-reads bs b (2 ∷ 2 ∷ 1 ∷ 1 ∷ 2 ∷ 4 ∷ 4 ∷ 4 ∷ 8 ∷ 4 ∷ []) t (omega (arith, long))
-      ∙ take-all 32 (drop t bs) s ∙ ap (λ (x : ℕ). drop x bs) e
+      ∙ trailer-row ∙ take-all 32 (drop t bs) s ∙ ap (λ (x : ℕ). drop x bs) e
 
   file-right : fileOf f ≡ bs
   unfolding fileOf tablesOf contentOf
@@ -181,12 +173,12 @@ module _ (bs : List ℕ) (b : Bytes bs) (p : Passed bs (figures bs)) where
     slots = length-upTo _ 0 n;
     values = λ i l.
         let k : i < n = rw (length-upTo (λ x. outcomeOf (slotAt bs x)) 0 n) at l in
-        rw (slot-is i k) (unfold slotAt in num-lt bs b 4 (6 * i));
+        rw (slot-is i k) (value-lt bs b i);
     tables = tables-agree (recordsOf f) (tablesAt bs g) agree (unfold tablesOk in p .tables);
     known = unfold trailerOk in passed (trailerTests bs g) (p .trailer) 2;
     fits = ap (layoutFits (g .layout)) (count-right F isF testsF) ∙ (unfold figuresOk in passed (figureTests (tablesAt bs g) g) (p .figures) 3);
     exact = λ e j l.
-        let k : j < m = rw (length-upTo (λ x. spanOf (spanAt r bs (6 * n) x)) 0 m) at l in
+        let k : j < m = rw (length-upTo (λ x. spanOfRecord (spanAt r bs (6 * n) x)) 0 m) at l in
         rw (span-is j k) (from-exact bs (6 * n + w * j) r e);
   }
 
@@ -194,11 +186,8 @@ module _ (bs : List ℕ) (b : Bytes bs) (p : Passed bs (figures bs)) where
   slot-same : (i : ℕ) → i < n → slotAt (take t bs) i ≡ slotAt bs i
   unfolding slotAt
   slot-same i l =
-      let short : 6 * i + 6 ≤ t = omega (arith, long) in
-      let v = num-take bs t 4 (6 * i) (omega arith) in
-      let q = byte-take bs t (6 * i + 4) (omega arith) in
-      let h = byte-take bs t (6 * i + 5) (omega arith) in
-      λ k. record { value = v k; letter = q k; method = h k }
+      let same = field-take bs t slotWidths (6 * i) (omega (arith, long)) in
+      λ k. record { value = same 0 k; letter = same 1 k; method = same 2 k }
 
   span-same : (j : ℕ) → j < m → spanAt r (take t bs) (6 * n) j ≡ spanAt r bs (6 * n) j
   span-same j l = from-take bs (6 * n + w * j) t r (span-in j l)
@@ -208,8 +197,8 @@ module _ (bs : List ℕ) (b : Bytes bs) (p : Passed bs (figures bs)) where
   part-same =
       let slots : upTo (λ i. outcomeOf (slotAt (take t bs) i)) 0 n ≡ upTo (λ i. outcomeOf (slotAt bs i)) 0 n =
       upTo-cong _ _ 0 n (λ i l. ap outcomeOf (slot-same i (omega arith))) in
-      let spans : upTo (λ j. spanOf (spanAt r (take t bs) (6 * n) j)) 0 m ≡ upTo (λ j. spanOf (spanAt r bs (6 * n) j)) 0 m =
-      upTo-cong _ _ 0 m (λ j l. ap spanOf (span-same j (omega arith))) in
+      let spans : upTo (λ j. spanOfRecord (spanAt r (take t bs) (6 * n) j)) 0 m ≡ upTo (λ j. spanOfRecord (spanAt r bs (6 * n) j)) 0 m =
+      upTo-cong _ _ 0 m (λ j l. ap spanOfRecord (span-same j (omega arith))) in
       λ k. record { layout = g .layout; first = g .first; days = g .days; interval = g .interval; slots = slots k; spans = spans k }
 
 -- a content's tables are those that the reader hands back of its file

@@ -3,7 +3,7 @@ use mathlib.Core.Path.{_≡_, refl, sym, ap, _∙_}
 use mathlib.Core.Bool.{Bool}
 use mathlib.Core.List.{List, [], _++_, append-assoc, append-nil}
 use Prim.Native.Nat.{ℕ, _+_, _*_, _^_, _<_}
-use native.Mathlib.Nat.{add-zero, zero-add, mul-le-mul-right}
+use native.Mathlib.Nat.{zero-add, mul-le-mul-right}
 use native.Mathlib.Omega.{arith}
 use lib.Dec.{lit<}
 use lib.ListN.{length, length-append}
@@ -13,10 +13,11 @@ use Rattle.rules.specs.declared.Quality.{Quality}
 use Rattle.rules.specs.declared.Quality.the-variants.{A, S, F, N}
 use Rattle.rules.specs.Spans.{noSpan}
 use Rattle.file.specs.Layout.{Content, row, table, letter, slotRow, ranged, spanRow, spanWidth, trailerRow, figuresOf, tablesOf, fileOf}
-use Rattle.file.specs.Reader.{num, byte, slotAt, spanAt, trailerAt, figures, distance, slotCount}
-use Rattle.file.specs.Contents.{Bytes, Fitting, slot, span, noSlot, slotRecord, spanRecord, qualityOf, outcomeOf, spanOf, contentOf}
-use Rattle.file.proofs.Numbers.{num-skip, num-one}
+use Rattle.file.specs.Reader.{num, slotAt, spanAt, trailerAt, trailerField, figures, distance, fileSlots}
+use Rattle.file.specs.Contents.{Bytes, slot, span, noSlot, slotRecord, spanRecord, qualityOf, outcomeOf, spanOfRecord, contentOf}
+use Rattle.file.proofs.Numbers.{num-skip}
 use Rattle.file.proofs.Rows.{before, field, field-at, length-row, length-table, table-field, joined-bytes, row-bytes, table-bytes}
+use Rattle.file.proofs.Fitting.{Fitting}
 use Rattle.file.proofs.SpanRecords.{Stands, span-wide, span-read, width-le}
 
 module _ (f : Content) where
@@ -111,12 +112,9 @@ module _ (f : Content) (h : Fitting f) where
   pub slot-back : (i : ℕ) → i < length (f .slots) → slotAt (fileOf f) i ≡ slotRecord (slot f i)
   unfolding slotAt
   slot-back i l =
-      let v : num 4 (fileOf f) (6 * i) ≡ slot f i .value =
-      ap (num 4 (fileOf f)) (sym (add-zero (6 * i))) ∙ slot-field f i 0 l (lit< tt) (h .eachSlot i l .value) in
-      let q : byte (fileOf f) (6 * i + 4) ≡ letter (slot f i .quality) =
-      sym (num-one (fileOf f) (6 * i + 4)) ∙ slot-field f i 1 l (lit< tt) (letter-lt (slot f i .quality)) in
-      let m : byte (fileOf f) (6 * i + 5) ≡ slot f i .method =
-      sym (num-one (fileOf f) (6 * i + 5)) ∙ slot-field f i 2 l (lit< tt) (h .eachSlot i l .method) in
+      let v = slot-field f i 0 l (lit< tt) (h .eachSlot i l .value) in
+      let q = slot-field f i 1 l (lit< tt) (letter-lt (slot f i .quality)) in
+      let m = slot-field f i 2 l (lit< tt) (h .eachSlot i l .method) in
       λ k. record { value = v k; letter = q k; method = m k }
 
   -- the record of span j, whose table begins at byte b
@@ -124,23 +122,23 @@ module _ (f : Content) (h : Fitting f) where
   span-back b e j l = rw e (span-read (span f j) (fileOf f) _ (r f) (h .eachSpan j l) (span-field f j l))
 
   -- the trailer's head fields, layout and distance
-  pub first-back : num 2 (fileOf f) (trailerAt (fileOf f)) ≡ f .first
+  pub first-back : trailerField (fileOf f) 0 ≡ f .first
   unfolding figuresOf
-  first-back = ap (num 2 (fileOf f)) (sym (add-zero (trailerAt (fileOf f)))) ∙ trailer-field f 0 (lit< tt) (h .first)
+  first-back = trailer-field f 0 (lit< tt) (h .first)
 
-  pub days-back : num 2 (fileOf f) (trailerAt (fileOf f) + 2) ≡ f .days
+  pub days-back : trailerField (fileOf f) 1 ≡ f .days
   unfolding figuresOf
   days-back = trailer-field f 1 (lit< tt) (h .days)
 
-  pub interval-back : byte (fileOf f) (trailerAt (fileOf f) + 4) ≡ f .interval
+  pub interval-back : trailerField (fileOf f) 2 ≡ f .interval
   unfolding figuresOf
-  interval-back = sym (num-one (fileOf f) (trailerAt (fileOf f) + 4)) ∙ trailer-field f 2 (lit< tt) (h .interval)
+  interval-back = trailer-field f 2 (lit< tt) (h .interval)
 
-  pub layout-back : byte (fileOf f) (trailerAt (fileOf f) + 5) ≡ f .layout
+  pub layout-back : trailerField (fileOf f) 3 ≡ f .layout
   unfolding figuresOf
-  layout-back = sym (num-one (fileOf f) (trailerAt (fileOf f) + 5)) ∙ trailer-field f 3 (lit< tt) (h .layout)
+  layout-back = trailer-field f 3 (lit< tt) (h .layout)
 
-  pub spans-back : num 2 (fileOf f) (trailerAt (fileOf f) + 6) ≡ length (f .spans)
+  pub spans-back : trailerField (fileOf f) 4 ≡ length (f .spans)
   unfolding figuresOf
   spans-back = trailer-field f 4 (lit< tt) (h .spans)
 
@@ -149,7 +147,7 @@ module _ (f : Content) (h : Fitting f) where
   distance-back = trailer-field f 9 (lit< tt) (omega (arith, h .spans, mul-le-mul-right (length (f .spans)) (width-le (r f))))
 
   -- N
-  slots-back : slotCount (figures (fileOf f)) ≡ length (f .slots)
+  slots-back : fileSlots (figures (fileOf f)) ≡ length (f .slots)
   unfolding figures
   slots-back = rw (interval-back, days-back) (sym (h .slots))
 
@@ -159,9 +157,9 @@ module _ (f : Content) (h : Fitting f) where
       ap (λ (x : ℕ). outcomeOf (slotAt (fileOf f) x)) (zero-add i) ∙ ap outcomeOf (slot-back i l)
       ∙ (λ k. record { value = slot f i .value; quality = quality-back (slot f i .quality) k; method = slot f i .method })))
 
-  spans-list : (q : Bool) (b n : ℕ) → q ≡ r f → b ≡ 6 * length (f .slots) → n ≡ length (f .spans) → upTo (λ j. spanOf (spanAt q (fileOf f) b j)) 0 n ≡ f .spans
+  spans-list : (q : Bool) (b n : ℕ) → q ≡ r f → b ≡ 6 * length (f .slots) → n ≡ length (f .spans) → upTo (λ j. spanOfRecord (spanAt q (fileOf f) b j)) 0 n ≡ f .spans
   spans-list q b n d e m =
-      rw (d, m) (upTo-list (f .spans) noSpan _ 0 (λ j l. ap (λ (x : ℕ). spanOf (spanAt (r f) (fileOf f) b x)) (zero-add j) ∙ ap spanOf (span-back b e j l)))
+      rw (d, m) (upTo-list (f .spans) noSpan _ 0 (λ j l. ap (λ (x : ℕ). spanOfRecord (spanAt (r f) (fileOf f) b x)) (zero-add j) ∙ ap spanOfRecord (span-back b e j l)))
 
   -- the content of the file's figures and bytes is the content
   read-back : contentOf (figures (fileOf f)) (fileOf f) ≡ f

@@ -1,20 +1,50 @@
 -- The numbers of a well-formed content fit their fields.
 use mathlib.Core.Path.{_≡_, refl}
-use mathlib.Core.Bool.{true}
-use Prim.Native.Nat.{ℕ, zero, suc, _+_, _^_, _≤_, _<_}
+use mathlib.Core.Bool.{Bool, true, false}
+use Prim.Native.Nat.{ℕ, zero, suc, _+_, _*_, _/_, _^_, _≤_, _<_}
 use native.Mathlib.Omega.{arith}
 use lib.ListN.{length}
 use borrow.Author.Tests.{leb-true}
 use Rattle.base.specs.Lists.{all}
 use Rattle.base.proofs.Logic.{passed}
 use Rattle.base.proofs.Sums.{all-at}
+use Rattle.rules.specs.declared.Outcome.{Outcome}
+use Rattle.rules.specs.declared.Span.{Span}
 use Rattle.file.specs.Layout.{Content, ranged}
-use Rattle.file.specs.Reader.{Tables, headTests, tableTests, spanTests, spanOk}
-use Rattle.file.specs.Contents.{WellFormed, Fitting, SpanFits, span, recordsOf}
+use Rattle.file.specs.Reader.{Tables, headFieldTests, tableTests, spanTests, spanOk}
+use Rattle.file.specs.Contents.{WellFormed, slot, span, recordsOf}
 use Rattle.file.proofs.Records.{record-tells}
 use Rattle.file.proofs.Layouts.{layout-lt}
 use Rattle.file.proofs.Head.{days-le, interval-is}
 use Rattle.file.proofs.Inside.{ordered, follow}
+
+-- ---- Numbers that fit their fields
+
+pub record SlotFits (o : Outcome) : Type 0 where
+  pub value : o .value < 2 ^ 32
+  pub method : o .method < 2 ^ 8
+
+-- a record that is not ranged has one advance
+pub record SpanFits (r : Bool) (s : Span) : Type 0 where
+  pub first : s .first < 2 ^ 16
+  pub last : s .last < 2 ^ 16
+  pub lowest : s .lowest < 2 ^ 32
+  pub highest : s .highest < 2 ^ 32
+  pub state : s .state < 2 ^ 8
+  pub exact : r ≡ false → s .lowest ≡ s .highest
+
+-- there are N slots
+pub record Fitting (f : Content) : Type 0 where
+  pub layout : f .layout < 2 ^ 8
+  pub first : f .first < 2 ^ 16
+  pub days : f .days < 2 ^ 16
+  pub interval : f .interval < 2 ^ 8
+  pub slots : length (f .slots) ≡ 1440 / f .interval * f .days
+  pub spans : length (f .spans) < 2 ^ 16
+  pub eachSlot : (i : ℕ) → i < length (f .slots) → SlotFits (slot f i)
+  pub eachSpan : (j : ℕ) → j < length (f .spans) → SpanFits (ranged (f .layout)) (span f j)
+
+-- ---- Those of a well-formed content
 
 -- span j ends past boundary j, since each takes a day at least
 past : (t : Tables) → all (spanOk t) 0 (t .spans) ≡ true → (j : ℕ) → j < t .spans → j < t .span j .last
@@ -46,7 +76,7 @@ module _ (f : Content) (w : WellFormed f) where
   unfolding spanOk
   span-fits j l ok =
       let r : span f j .lowest ≤ span f j .highest = leb-true _ _ (passed (spanTests t j) ok 3) in
-      let q : span f j .highest ≤ 99999999 = leb-true _ _ (passed (spanTests t j) ok 4) in
+      let q : span f j .highest ≤ 99_999_999 = leb-true _ _ (passed (spanTests t j) ok 4) in
       let s : span f j .state ≤ 3 = leb-true _ _ (passed (spanTests t j) ok 5) in
       record {
         first = omega (arith, few, ordered t j ok);
@@ -61,7 +91,7 @@ module _ (f : Content) (w : WellFormed f) where
   fitting =
       let spansOk = passed (tableTests t) (w .tables) 1 in
       let recordsOk = passed (tableTests t) (w .tables) 0 in
-      let until : f .first + f .days ≤ 36525 = leb-true _ _ (passed (headTests (f .first) (f .days) (f .interval)) (w .head) 3) in
+      let until : f .first + f .days ≤ 36_525 = leb-true _ _ (passed (headFieldTests (f .first) (f .days) (f .interval)) (w .head) 3) in
       record {
         layout = layout-lt (f .layout) (w .known);
         first = omega arith;

@@ -12,7 +12,7 @@ use Rattle.base.specs.Lists.{all}
 use Rattle.base.proofs.Logic.{passed}
 use Rattle.base.proofs.Sums.{all-at}
 use Rattle.file.specs.declared.Figures.{Figures}
-use Rattle.file.specs.Reader.{Tables, spanTests, spanOk, startOf, slotsOf, slotCount, tablesAt}
+use Rattle.file.specs.Reader.{Tables, spanTests, spanOk, startOf, slotsOf, fileSlots, tablesAt}
 use Rattle.file.specs.Inner.Reading.{Ready}
 use Rattle.file.proofs.Head.{slots-le}
 
@@ -45,18 +45,18 @@ follow t ok j l =
 
 -- the slots of a file that is not refused with 8
 pub record Room (bs : List ℕ) (g : Figures) : Type 0 where
-  pub few : slotCount g ≤ 115200
-  pub long : 6 * slotCount g ≤ length bs
+  pub few : fileSlots g ≤ 115_200
+  pub long : 6 * fileSlots g ≤ length bs
 
 pub room : (bs : List ℕ) (g : Figures) → Ready bs g → Room bs g
 room bs g r = record { few = slots-le (g .first) (g .days) (g .interval) (r .head); long = omega (arith, r .long) }
 
 -- where span j lies, when every span passes its tests
 pub record Inside (bs : List ℕ) (g : Figures) (j : ℕ) : Type 0 where
-  pub few : slotCount g ≤ 115200
-  pub long : 6 * slotCount g ≤ length bs
-  pub start : tablesAt bs g .span j .first * tablesAt bs g .perDay ≤ slotCount g
-  pub end : tablesAt bs g .span j .last * tablesAt bs g .perDay ≤ slotCount g
+  pub few : fileSlots g ≤ 115_200
+  pub long : 6 * fileSlots g ≤ length bs
+  pub start : tablesAt bs g .span j .first * tablesAt bs g .perDay ≤ fileSlots g
+  pub end : tablesAt bs g .span j .last * tablesAt bs g .perDay ≤ fileSlots g
 
 pub inside : (bs : List ℕ) (g : Figures) → Ready bs g → all (spanOk (tablesAt bs g)) 0 (g .spans) ≡ true → (j : ℕ) → j < g .spans → Inside bs g j
 inside bs g r ok j l =

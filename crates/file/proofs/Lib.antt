@@ -1,5 +1,6 @@
 pub mod Lists
 pub mod Numbers
+pub mod Offsets
 pub mod Rows
 pub mod Written
 pub mod Records

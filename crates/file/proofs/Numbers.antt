@@ -8,10 +8,10 @@ use lib.Dec.{lit<}
 use lib.ListN.{length, getD, take, drop}
 use lib.Seq.{getD-append-add, getD-take, drop-cons}
 use Rattle.file.specs.Layout.{bytes}
-use Rattle.file.specs.Reader.{num, byte}
+use Rattle.file.specs.Reader.{num}
 use Rattle.file.specs.Contents.{Bytes}
 
-pub num-one : (bs : List ℕ) (at : ℕ) → num 1 bs at ≡ byte bs at
+pub num-one : (bs : List ℕ) (at : ℕ) → num 1 bs at ≡ getD bs at 0
 unfolding num
 num-one bs at = omega arith
 
@@ -19,9 +19,6 @@ pub length-bytes : (k n : ℕ) → length (bytes k n) ≡ k
 unfolding bytes
 length-bytes zero n = refl
 length-bytes (suc k) n = ap suc (length-bytes k (n / 256))
-
-pub byte-take : (bs : List ℕ) (t at : ℕ) → at < t → byte (take t bs) at ≡ byte bs at
-byte-take bs t at l = getD-take t bs at 0 l
 
 -- what is before a place does not matter
 pub num-skip : (p q : List ℕ) (k o : ℕ) → num k (p ++ q) (length p + o) ≡ num k q o
@@ -41,7 +38,7 @@ pub num-take : (bs : List ℕ) (t k at : ℕ) → at + k ≤ t → num k (take t
 unfolding num
 num-take bs t zero at l = refl
 num-take bs t (suc k) at l =
-    ap₂ (λ (x y : ℕ). x + 256 * y) (byte-take bs t at (omega arith)) (num-take bs t k (suc at) (omega arith))
+    ap₂ (λ (x y : ℕ). x + 256 * y) (getD-take t bs at 0 (omega arith)) (num-take bs t k (suc at) (omega arith))
 
 -- what is written is read
 pub num-bytes : (k n : ℕ) (q : List ℕ) → n < 256 ^ k → num k (bytes k n ++ q) 0 ≡ n

@@ -28,7 +28,7 @@ pub form-N : (r : SlotRecord) → r .letter ≡ 78 → recordOk r ≡ (eqb (r .m
 unfolding recordOk
 form-N r e = rw (e, or-false)
 
-pub form-F : (r : SlotRecord) → r .letter ≡ 70 → recordOk r ≡ (eqb (r .method) 5 && leb (r .value) 99999999)
+pub form-F : (r : SlotRecord) → r .letter ≡ 70 → recordOk r ≡ (eqb (r .method) 5 && leb (r .value) 99_999_999)
 unfolding recordOk
 form-F r e = rw (e, or-false)
 
@@ -75,7 +75,7 @@ module _ (r : SlotRecord) where
                 form-tells S 19 (lit< tt),
                 (
                   valued-tells A 1 (eqb (r .value) 0) (lit< tt),
-                  (valued-tells N 0 (eqb (r .value) 0) (lit< tt), (valued-tells F 5 (leb (r .value) 99999999) (lit< tt), tt)),
+                  (valued-tells N 0 (eqb (r .value) 0) (lit< tt), (valued-tells F 5 (leb (r .value) 99_999_999) (lit< tt), tt)),
                 ),
               ),
             ),

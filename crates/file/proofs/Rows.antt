@@ -8,10 +8,10 @@ use lib.Dec.{lit<}
 use lib.ListN.{length, getD, take, drop, length-append}
 use lib.Seq.{take-add, drop-drop}
 use Rattle.base.specs.Lists.{upTo}
-use Rattle.file.specs.Layout.{bytes, row, table}
-use Rattle.file.specs.Reader.{num}
+use Rattle.file.specs.Layout.{bytes, row, rowWidth, table}
+use Rattle.file.specs.Reader.{num, fieldAt}
 use Rattle.file.specs.Contents.{Bytes}
-use Rattle.file.proofs.Numbers.{length-bytes, num-skip, num-bytes, bytes-num}
+use Rattle.file.proofs.Numbers.{length-bytes, num-skip, num-take, num-bytes, bytes-num}
 
 -- ---- Rows
 
@@ -74,23 +74,38 @@ module _ {A : Type 0} (r : A → List (ℕ × ℕ)) (w : ℕ) (wide : (x : A) �
 
 -- ---- What is read is written: rows and tables
 
--- the fields of these widths that are read from a place on
-abbrev pub reads : List ℕ → List ℕ → ℕ → List (ℕ × ℕ)
-reads [] bs at = []
-reads (k ∷ ks) bs at = (k, num k bs at) ∷ reads ks bs (at + k)
-
-abbrev pub whole : List ℕ → ℕ
-whole [] = 0
-whole (k ∷ ks) = k + whole ks
-
 pub join : (bs : List ℕ) (k m at : ℕ) → take k (drop at bs) ++ take m (drop (at + k) bs) ≡ take (k + m) (drop at bs)
 join bs k m at = rw (take-add, drop-drop)
 
-pub row-reads : (bs : List ℕ) → Bytes bs → (ks : List ℕ) (at : ℕ) → at + whole ks ≤ length bs → row (reads ks bs at) ≡ take (whole ks) (drop at bs)
+-- the fields of these widths with the numbers that f gives
+abbrev pub listed : (ℕ → ℕ) → List ℕ → List (ℕ × ℕ)
+listed f [] = []
+listed f (w ∷ ws) = (w, f 0) ∷ listed (λ k. f (suc k)) ws
+
+row-listed : (bs : List ℕ) → Bytes bs → (ws : List ℕ) (at : ℕ) (f : ℕ → ℕ) → ((k : ℕ) → f k ≡ fieldAt ws bs at k)
+    → at + rowWidth ws ≤ length bs → row (listed f ws) ≡ take (rowWidth ws) (drop at bs)
 unfolding row
-row-reads bs b [] at h = refl
-row-reads bs b (k ∷ ks) at h =
-    ap₂ (λ (x y : List ℕ). x ++ y) (bytes-num bs b k at (omega arith)) (row-reads bs b ks (at + k) (omega arith)) ∙ join bs k (whole ks) at
+row-listed bs b [] at f e h = refl
+row-listed bs b (w ∷ ws) at f e h =
+    let here : f 0 ≡ num w bs at = e 0 ∙ ap (num w bs) (add-zero at) in
+    let rest : (k : ℕ) → f (suc k) ≡ fieldAt ws bs (at + w) k = λ k. e (suc k) ∙ ap (num (getD ws k 0) bs) (omega arith) in
+    ap₂ (λ (x y : List ℕ). x ++ y) (ap (bytes w) here ∙ bytes-num bs b w at (omega arith)) (row-listed bs b ws (at + w) _ rest (omega arith))
+    ∙ join bs w (rowWidth ws) at
+
+-- the fields that are read from a place on
+pub row-reads : (bs : List ℕ) → Bytes bs → (ws : List ℕ) (at : ℕ) → at + rowWidth ws ≤ length bs
+    → row (listed (fieldAt ws bs at) ws) ≡ take (rowWidth ws) (drop at bs)
+row-reads bs b ws at h = row-listed bs b ws at (fieldAt ws bs at) (λ k. refl) h
+
+-- what is after a row does not matter
+field-inside : (ws : List ℕ) (k : ℕ) → rowWidth (take k ws) + getD ws k 0 ≤ rowWidth ws
+field-inside [] zero = omega arith
+field-inside [] (suc k) = omega arith
+field-inside (w ∷ ws) zero = omega arith
+field-inside (w ∷ ws) (suc k) = omega (arith, field-inside ws k)
+
+pub field-take : (bs : List ℕ) (t : ℕ) (ws : List ℕ) (at : ℕ) → at + rowWidth ws ≤ t → (k : ℕ) → fieldAt ws (take t bs) at k ≡ fieldAt ws bs at k
+field-take bs t ws at l k = num-take bs t (getD ws k 0) (at + rowWidth (take k ws)) (omega (arith, field-inside ws k))
 
 module _ {A : Type 0} (r : A → List (ℕ × ℕ)) (w : ℕ) (f : ℕ → A) (bs : List ℕ) (b : ℕ) where
   table-upTo : (a n : ℕ) → ((i : ℕ) → i < a + n → row (r (f i)) ≡ take w (drop (b + w * i) bs)) → table r (upTo f a n) ≡ take (w * n) (drop (b + w * a) bs)

@@ -1,4 +1,4 @@
--- What the theorems on files say of a content: that its numbers fit their fields, that it is well formed, and what two tables and figures hold.
+-- What the theorems on files say of a content: that it is well formed, and what two tables and figures hold.
 use mathlib.Core.Path.{_≡_}
 use mathlib.Core.Bool.{Bool, true, false, cond}
 use mathlib.Core.List.{List}
@@ -14,8 +14,8 @@ use Rattle.rules.specs.Spans.{isF, noSpan}
 use Rattle.file.specs.declared.Figures.{Figures}
 use Rattle.file.specs.declared.slots.SlotRecord.{SlotRecord}
 use Rattle.file.specs.declared.spans.SpanRecord.{SpanRecord}
-use Rattle.file.specs.Layout.{Content, letter, total, one, ranged}
-use Rattle.file.specs.Reader.{Tables, slotAt, spanAt, slotCount, layoutOk, layoutFits, headTests, tableTests}
+use Rattle.file.specs.Layout.{Content, letter, slotWidth, total, one, ranged}
+use Rattle.file.specs.Reader.{Tables, slotAt, spanAt, fileSlots, layoutOk, layoutFits, headFieldTests, tableTests}
 
 -- every element is a byte
 abbrev pub Bytes : List ℕ → Type 0
@@ -30,32 +30,6 @@ slot f i = getD (f .slots) i noSlot
 
 abbrev pub span : Content → ℕ → Span
 span f j = getD (f .spans) j noSpan
-
--- ---- Numbers that fit their fields
-
-pub record SlotFits (o : Outcome) : Type 0 where
-  pub value : o .value < 2 ^ 32
-  pub method : o .method < 2 ^ 8
-
--- a record that is not ranged has one advance
-pub record SpanFits (r : Bool) (s : Span) : Type 0 where
-  pub first : s .first < 2 ^ 16
-  pub last : s .last < 2 ^ 16
-  pub lowest : s .lowest < 2 ^ 32
-  pub highest : s .highest < 2 ^ 32
-  pub state : s .state < 2 ^ 8
-  pub exact : r ≡ false → s .lowest ≡ s .highest
-
--- there are N slots
-pub record Fitting (f : Content) : Type 0 where
-  pub layout : f .layout < 2 ^ 8
-  pub first : f .first < 2 ^ 16
-  pub days : f .days < 2 ^ 16
-  pub interval : f .interval < 2 ^ 8
-  pub slots : length (f .slots) ≡ 1440 / f .interval * f .days
-  pub spans : length (f .spans) < 2 ^ 16
-  pub eachSlot : (i : ℕ) → i < length (f .slots) → SlotFits (slot f i)
-  pub eachSpan : (j : ℕ) → j < length (f .spans) → SpanFits (ranged (f .layout)) (span f j)
 
 -- ---- Well-formed contents
 
@@ -78,7 +52,7 @@ recordsOf f = record {
 -- first day, D and L as under Opening, N slots, and what the reader asks of the records and spans;
 -- a layout that goes with its F slots, and in layouts 1 and 2 spans of one advance R
 pub record WellFormed (f : Content) : Type 0 where
-  pub head : every (headTests (f .first) (f .days) (f .interval)) ≡ true
+  pub head : every (headFieldTests (f .first) (f .days) (f .interval)) ≡ true
   pub slots : length (f .slots) ≡ 1440 / f .interval * f .days
   pub values : (i : ℕ) → i < length (f .slots) → slot f i .value < 2 ^ 32
   pub tables : every (tableTests (recordsOf f)) ≡ true
@@ -94,8 +68,8 @@ qualityOf l = cond (eqb l (letter A)) A (cond (eqb l (letter S)) S (cond (eqb l 
 abbrev pub outcomeOf : SlotRecord → Outcome
 outcomeOf r = record { value = r .value; quality = qualityOf (r .letter); method = r .method }
 
-abbrev pub spanOf : SpanRecord → Span
-spanOf r = record { first = r .first; last = r .last; lowest = r .lowest; highest = r .highest; state = r .state }
+abbrev pub spanOfRecord : SpanRecord → Span
+spanOfRecord r = record { first = r .first; last = r .last; lowest = r .lowest; highest = r .highest; state = r .state }
 
 -- the content of these figures and of these bytes of the two tables
 unfoldable pub contentOf : Figures → List ℕ → Content
@@ -104,6 +78,6 @@ contentOf g bs = record {
   first = g .first;
   days = g .days;
   interval = g .interval;
-  slots = upTo (λ i. outcomeOf (slotAt bs i)) 0 (slotCount g);
-  spans = upTo (λ j. spanOf (spanAt (ranged (g .layout)) bs (6 * slotCount g) j)) 0 (g .spans);
+  slots = upTo (λ i. outcomeOf (slotAt bs i)) 0 (fileSlots g);
+  spans = upTo (λ j. spanOfRecord (spanAt (ranged (g .layout)) bs (slotWidth * fileSlots g) j)) 0 (g .spans);
 }

@@ -21,6 +21,16 @@ unfoldable pub row : List (ℕ × ℕ) → List ℕ
 row [] = []
 row (f ∷ fs) = bytes (f .0) (f .1) ++ row fs
 
+-- the fields of these widths with these numbers, and how wide their row is
+abbrev pub fieldsOf : List ℕ → List ℕ → List (ℕ × ℕ)
+fieldsOf [] ns = []
+fieldsOf (w ∷ ws) [] = []
+fieldsOf (w ∷ ws) (n ∷ ns) = (w, n) ∷ fieldsOf ws ns
+
+abbrev pub rowWidth : List ℕ → ℕ
+rowWidth [] = 0
+rowWidth (w ∷ ws) = w + rowWidth ws
+
 -- a row for each element of a list
 unfoldable pub table : {X : Type 0} → (X → List (ℕ × ℕ)) → List X → List ℕ
 table r [] = []
@@ -34,32 +44,49 @@ letter F = 70
 letter N = 78
 
 -- value (4), quality letter (1), method (1)
+abbrev pub slotWidths : List ℕ
+slotWidths = 4 ∷ 1 ∷ 1 ∷ []
+
+abbrev pub slotWidth : ℕ
+slotWidth = rowWidth slotWidths
+
 abbrev pub slotRow : Outcome → List (ℕ × ℕ)
-slotRow o = (4, o .value) ∷ (1, letter (o .quality)) ∷ (1, o .method) ∷ []
+slotRow o = fieldsOf slotWidths (o .value ∷ letter (o .quality) ∷ o .method ∷ [])
 
 -- the span records of layout 3 hold lowest and highest advance in place of R (02, W10)
 abbrev pub ranged : ℕ → Bool
 ranged layout = eqb layout 3
 
 -- first boundary (2), last boundary (2), R (4), state (1), zero (1); where it is ranged, lowest and highest advance (4 each) in place of R
-abbrev pub spanRow : Bool → Span → List (ℕ × ℕ)
-spanRow false s = (2, s .first) ∷ (2, s .last) ∷ (4, s .lowest) ∷ (1, s .state) ∷ (1, 0) ∷ []
-spanRow true s = (2, s .first) ∷ (2, s .last) ∷ (4, s .lowest) ∷ (4, s .highest) ∷ (1, s .state) ∷ (1, 0) ∷ []
+abbrev pub spanWidths : Bool → List ℕ
+spanWidths false = 2 ∷ 2 ∷ 4 ∷ 1 ∷ 1 ∷ []
+spanWidths true = 2 ∷ 2 ∷ 4 ∷ 4 ∷ 1 ∷ 1 ∷ []
 
--- the bytes of a span record
 abbrev pub spanWidth : Bool → ℕ
-spanWidth false = 10
-spanWidth true = 14
+spanWidth r = rowWidth (spanWidths r)
+
+abbrev pub spanRow : Bool → Span → List (ℕ × ℕ)
+spanRow false s = fieldsOf (spanWidths false) (s .first ∷ s .last ∷ s .lowest ∷ s .state ∷ 0 ∷ [])
+spanRow true s = fieldsOf (spanWidths true) (s .first ∷ s .last ∷ s .lowest ∷ s .highest ∷ s .state ∷ 0 ∷ [])
 
 -- the bytes of the span table: 10 × M or, in layout 3, 14 × M
-abbrev pub spanBytes : Figures → ℕ
-spanBytes g = spanWidth (ranged (g .layout)) * g .spans
+abbrev pub spanTableBytes : Figures → ℕ
+spanTableBytes g = spanWidth (ranged (g .layout)) * g .spans
 
--- first day number (2), D (2), L (1), layout (1), M (2), counts of A, of S and F, and of N slots (4 each), sum of all slot values (8), distance back to the span table (4)
+-- first day number (2), D (2), L (1), layout (1), M (2), counts of A, of S and F, and of N slots (4 each), sum of all slot values (8),
+-- distance back to the span table (4)
+abbrev pub trailerWidths : List ℕ
+trailerWidths = 2 ∷ 2 ∷ 1 ∷ 1 ∷ 2 ∷ 4 ∷ 4 ∷ 4 ∷ 8 ∷ 4 ∷ []
+
+abbrev pub trailerWidth : ℕ
+trailerWidth = rowWidth trailerWidths
+
 abbrev pub trailerRow : Figures → List (ℕ × ℕ)
 trailerRow g =
-    (2, g .first) ∷ (2, g .days) ∷ (1, g .interval) ∷ (1, g .layout) ∷ (2, g .spans)
-    ∷ (4, g .actual) ∷ (4, g .substituted) ∷ (4, g .none) ∷ (8, g .sum) ∷ (4, spanBytes g) ∷ []
+    fieldsOf trailerWidths (
+    g .first ∷ g .days ∷ g .interval ∷ g .layout ∷ g .spans
+    ∷ g .actual ∷ g .substituted ∷ g .none ∷ g .sum ∷ spanTableBytes g ∷ []
+    )
 
 -- what a file holds: its layout, the first day's number, D, L, a slot's outcome and a span's for each in order
 pub record Content : Type 0 where

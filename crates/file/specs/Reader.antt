@@ -14,7 +14,8 @@ use Rattle.file.specs.declared.Verdict.{Verdict}
 use Rattle.file.specs.declared.Verdict.the-variants.{Accepted, Refused}
 use Rattle.file.specs.declared.slots.SlotRecord.{SlotRecord}
 use Rattle.file.specs.declared.spans.SpanRecord.{SpanRecord}
-use Rattle.file.specs.Layout.{letter, ranged, spanWidth, spanBytes}
+use Rattle.file.specs.Layout.{letter, ranged, rowWidth, slotWidths, slotWidth, spanWidths, spanWidth}
+use Rattle.file.specs.Layout.{trailerWidths, trailerWidth, spanTableBytes}
 
 -- ---- What stands in the bytes
 
@@ -23,71 +24,67 @@ unfoldable pub num : ℕ → List ℕ → ℕ → ℕ
 num zero bs at = 0
 num (suc k) bs at = getD bs at 0 + 256 * num k bs (suc at)
 
-abbrev pub byte : List ℕ → ℕ → ℕ
-byte bs at = getD bs at 0
+-- field k of a row of these widths from place at
+abbrev pub fieldAt : List ℕ → List ℕ → ℕ → ℕ → ℕ
+fieldAt ws bs at k = num (getD ws k 0) bs (at + rowWidth (take k ws))
 
 -- record i of the slot table, from byte 0
 unfoldable pub slotAt : List ℕ → ℕ → SlotRecord
-slotAt bs i = record { value = num 4 bs (6 * i); letter = byte bs (6 * i + 4); method = byte bs (6 * i + 5) }
+slotAt bs i =
+    let field = fieldAt slotWidths bs (slotWidth * i) in
+    record { value = field 0; letter = field 1; method = field 2 }
 
 -- the span record from place p; one that is not ranged has R as lowest and highest advance
-unfoldable pub spanFrom : Bool → List ℕ → ℕ → SpanRecord
-spanFrom false bs p = record {
-  first = num 2 bs p;
-  last = num 2 bs (p + 2);
-  lowest = num 4 bs (p + 4);
-  highest = num 4 bs (p + 4);
-  state = byte bs (p + 8);
-  blank = byte bs (p + 9);
-}
-spanFrom true bs p = record {
-  first = num 2 bs p;
-  last = num 2 bs (p + 2);
-  lowest = num 4 bs (p + 4);
-  highest = num 4 bs (p + 8);
-  state = byte bs (p + 12);
-  blank = byte bs (p + 13);
-}
+unfoldable pub readSpan : Bool → List ℕ → ℕ → SpanRecord
+readSpan false bs p =
+    let field = fieldAt (spanWidths false) bs p in
+    record { first = field 0; last = field 1; lowest = field 2; highest = field 2; state = field 3; blank = field 4 }
+readSpan true bs p =
+    let field = fieldAt (spanWidths true) bs p in
+    record { first = field 0; last = field 1; lowest = field 2; highest = field 3; state = field 4; blank = field 5 }
 
 -- record j of a span table from byte b
 abbrev pub spanAt : Bool → List ℕ → ℕ → ℕ → SpanRecord
-spanAt r bs b j = spanFrom r bs (b + spanWidth r * j)
+spanAt r bs b j = readSpan r bs (b + spanWidth r * j)
 
 -- the trailer is the last 32 bytes
 abbrev pub trailerAt : List ℕ → ℕ
-trailerAt bs = length bs - 32
+trailerAt bs = length bs - trailerWidth
+
+abbrev pub trailerField : List ℕ → ℕ → ℕ
+trailerField bs = fieldAt trailerWidths bs (trailerAt bs)
 
 unfoldable pub figures : List ℕ → Figures
 figures bs =
-    let t = trailerAt bs in
+    let field = trailerField bs in
     record {
-      first = num 2 bs t;
-      days = num 2 bs (t + 2);
-      interval = byte bs (t + 4);
-      spans = num 2 bs (t + 6);
-      actual = num 4 bs (t + 8);
-      substituted = num 4 bs (t + 12);
-      none = num 4 bs (t + 16);
-      sum = num 8 bs (t + 20);
-      layout = byte bs (t + 5);
+      first = field 0;
+      days = field 1;
+      interval = field 2;
+      layout = field 3;
+      spans = field 4;
+      actual = field 5;
+      substituted = field 6;
+      none = field 7;
+      sum = field 8;
     }
 
 abbrev pub distance : List ℕ → ℕ
-distance bs = num 4 bs (trailerAt bs + 28)
+distance bs = trailerField bs 9
 
 -- ---- 8: length, distance or a trailer's head field or layout wrong
 
 -- N = n × D
-abbrev pub slotCount : Figures → ℕ
-slotCount g = 1440 / g .interval * g .days
+abbrev pub fileSlots : Figures → ℕ
+fileSlots g = 1440 / g .interval * g .days
 
 -- first day, D and L as under Opening; 2099-12-31 is day 36,524
-abbrev pub headTests : ℕ → ℕ → ℕ → List Bool
-headTests first days interval =
+abbrev pub headFieldTests : ℕ → ℕ → ℕ → List Bool
+headFieldTests first days interval =
     intervalOk interval
     ∷ leb 1 days
     ∷ leb days 400
-    ∷ leb (first + days) 36525
+    ∷ leb (first + days) 36_525
     ∷ []
 
 -- the reader knows layouts 1 and 2 (02, W1) and 3 (02, W10)
@@ -96,11 +93,11 @@ layoutOk layout = eqb layout 1 || (eqb layout 2 || eqb layout 3)
 
 abbrev pub trailerTests : List ℕ → Figures → List Bool
 trailerTests bs g =
-    leb 32 (length bs)
-    ∷ every (headTests (g .first) (g .days) (g .interval))
+    leb (trailerWidth) (length bs)
+    ∷ every (headFieldTests (g .first) (g .days) (g .interval))
     ∷ layoutOk (g .layout)
-    ∷ eqb (distance bs) (spanBytes g)
-    ∷ eqb (length bs) (6 * slotCount g + spanBytes g + 32)
+    ∷ eqb (distance bs) (spanTableBytes g)
+    ∷ eqb (length bs) (slotWidth * fileSlots g + spanTableBytes g + trailerWidth)
     ∷ []
 
 -- ---- 9: anything else broken
@@ -124,7 +121,7 @@ abbrev pub forms : SlotRecord → List Bool
 forms r =
     isForm A 0 r ∷ isForm S 2 r ∷ isForm S 3 r ∷ isForm S 18 r ∷ isForm S 19 r
     ∷ (isForm A 1 r && eqb (r .value) 0) ∷ (isForm N 0 r && eqb (r .value) 0)
-    ∷ (isForm F 5 r && leb (r .value) 99999999) ∷ []
+    ∷ (isForm F 5 r && leb (r .value) 99_999_999) ∷ []
 
 unfoldable pub recordOk : SlotRecord → Bool
 recordOk r = oneOf (forms r)
@@ -141,7 +138,8 @@ unscaled r = ofQuality S r && not (scaled r)
 abbrev pub inRange : ℕ → ℕ → ℕ → Bool
 inRange lowest sum highest = leb lowest sum && leb sum highest
 
--- state 2 exactly when it has an N; 1 exactly when it has a method 18 or 19, and then every S in it is such and its sum lies between lowest and highest, in layouts 1 and 2 both R; in state 0 no S
+-- state 2 exactly when it has an N; 1 exactly when it has a method 18 or 19, and then every S in it is such and its sum lies between
+-- lowest and highest, in layouts 1 and 2 both R; in state 0 no S
 abbrev pub stateRule : ℕ → Bool → Bool → Bool → Bool → Bool → List Bool
 stateRule state hasN hasScaled hasUnscaled hasS sumInRange =
     same (eqb state 2) hasN
@@ -163,7 +161,7 @@ module _ (t : Tables) where
       ∷ leb (t .span j .last) (t .days)
       ∷ implies (ltb 0 j) (eqb (t .span j .first) (t .span (j - 1) .last))
       ∷ leb (t .span j .lowest) (t .span j .highest)
-      ∷ leb (t .span j .highest) 99999999
+      ∷ leb (t .span j .highest) 99_999_999
       ∷ leb (t .span j .state) 3
       ∷ eqb (t .span j .blank) 0
       ∷ []
@@ -228,7 +226,7 @@ tablesAt bs g = record {
   days = g .days;
   spans = g .spans;
   slot = slotAt bs;
-  span = spanAt (ranged (g .layout)) bs (6 * slotCount g);
+  span = spanAt (ranged (g .layout)) bs (slotWidth * fileSlots g);
 }
 
 unfoldable pub trailerOk : List ℕ → Figures → Bool

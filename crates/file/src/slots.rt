@@ -5,11 +5,10 @@ ghost use mathlib.Core.Path.{_≡_};
 ghost use Prim.Native.Nat.{_+_, _*_, _≤_};
 ghost use lib.Dec.{eqb};
 ghost use lib.ListN.{length};
-ghost use Rattle.base.specs.Lists.{sum, any, all};
+ghost use Rattle.base.specs.Lists.{all, any};
 ghost use Rattle.rules.specs.Spans.{isScaled};
 ghost use Rattle.file.specs.Reader.{slotAt, recordOk};
-ghost use Rattle.file.specs.declared.slots.Kind.the-variants.{Substituted, None, Scaled, Unscaled};
-ghost use Rattle.file.specs.Inner.Reading.{isKind, kindAt, Within, countedWith, countedIn};
+ghost use Rattle.file.specs.Inner.Reading.{isKind, kindAt, Tallied, Within, countedWith, countedIn};
 
 // A record of the slot table.
 pub struct SlotRecord {
@@ -132,8 +131,8 @@ fn also(found: bool, kind: Kind, slot: SlotRecord) -> bool
 
 // The tally of the `k` slots from slot `a`.
 pub fn tally_of(file: &[u8], a: usize, k: usize) -> Tally
-    requires { ⌜ (6 * (a + k) ≤ length (now file)) × (k ≤ 115200) ⌝ }
-    ensures { λ r. ⌜ (r .none ≡ any (kindAt (now (file .entry)) None) a k) × (r .scaled ≡ any (kindAt (now (file .entry)) Scaled) a k) × (r .unscaled ≡ any (kindAt (now (file .entry)) Unscaled) a k) × (r .substituted ≡ any (kindAt (now (file .entry)) Substituted) a k) × (r .sum ≡ sum (λ i. slotAt (now (file .entry)) i .value) a k) ⌝ }
+    requires { ⌜ (6 * (a + k) ≤ length (now file)) × (k ≤ 115_200) ⌝ }
+    ensures { λ r. ⌜ Tallied (now (file .entry)) a k r ⌝ }
 {
     let mut none = false;
     let mut scaled = false;
@@ -180,7 +179,7 @@ fn one(slot: SlotRecord, letter: u8) -> usize
 
 // The totals with one slot more, each by a sum and without a branch.
 fn with_slot(found: Counted, slot: SlotRecord) -> Counted
-    requires { ⌜ Within 115200 found ⌝ }
+    requires { ⌜ Within 115_200 found ⌝ }
     ensures { λ r. ⌜ r ≡ countedWith found slot ⌝ }
 {
     let agreed = one(slot, b'F');
@@ -196,7 +195,7 @@ fn with_slot(found: Counted, slot: SlotRecord) -> Counted
 
 // The totals of the first `k` slots.
 pub fn totals(file: &[u8], k: usize) -> Counted
-    requires { ⌜ (6 * k ≤ length (now file)) × (k ≤ 115200) ⌝ }
+    requires { ⌜ (6 * k ≤ length (now file)) × (k ≤ 115_200) ⌝ }
     ensures { λ r. ⌜ r ≡ countedIn (now (file .entry)) k ⌝ }
 {
     let mut found = Counted {

@@ -12,7 +12,7 @@ ghost use lib.Dec.{eqb, leb, ltb};
 ghost use lib.ListN.{length};
 ghost use Rattle.base.specs.Lists.{every, all, implies};
 ghost use Rattle.file.specs.Layout.{ranged};
-ghost use Rattle.file.specs.Reader.{spanFrom, spanAt, slotCount, tablesAt, inRange, stateRule, spanOk, stateOk, outsideOk};
+ghost use Rattle.file.specs.Reader.{readSpan, spanAt, fileSlots, tablesAt, inRange, stateRule, spanOk, stateOk, outsideOk};
 ghost use Rattle.file.specs.Inner.Reading.{Ready};
 
 // A record of the span table; `blank` is its last byte.
@@ -28,7 +28,7 @@ pub struct SpanRecord {
 // The record of layouts 1 and 2 from `p`: R is its lowest and its highest advance.
 fn exact_from(file: &[u8], p: usize) -> SpanRecord
     requires { ⌜ p + 10 ≤ length (now file) ⌝ }
-    ensures { λ r. ⌜ r ≡ spanFrom false (now (file .entry)) p ⌝ }
+    ensures { λ r. ⌜ r ≡ readSpan false (now (file .entry)) p ⌝ }
 {
     let advance = fields::number(file, p + 4, 4) as u32;
     SpanRecord {
@@ -44,7 +44,7 @@ fn exact_from(file: &[u8], p: usize) -> SpanRecord
 // The record of layout 3 from `p`.
 fn ranged_from(file: &[u8], p: usize) -> SpanRecord
     requires { ⌜ p + 14 ≤ length (now file) ⌝ }
-    ensures { λ r. ⌜ r ≡ spanFrom true (now (file .entry)) p ⌝ }
+    ensures { λ r. ⌜ r ≡ readSpan true (now (file .entry)) p ⌝ }
 {
     SpanRecord {
         first: fields::number(file, p, 2) as u32,
@@ -58,7 +58,7 @@ fn ranged_from(file: &[u8], p: usize) -> SpanRecord
 
 fn span_at(file: &[u8], g: Figures, j: usize) -> SpanRecord
     requires { ⌜ Ready (now file) g × (j < g .spans) ⌝ }
-    ensures { λ r. ⌜ r ≡ spanAt (ranged (g .layout)) (now (file .entry)) (6 * slotCount g) j ⌝ }
+    ensures { λ r. ⌜ r ≡ spanAt (ranged (g .layout)) (now (file .entry)) (6 * fileSlots g) j ⌝ }
 {
     let table = 6 * trailer::slot_count(g);
     if g.layout == 3 {
@@ -70,7 +70,7 @@ fn span_at(file: &[u8], g: Figures, j: usize) -> SpanRecord
 // Span `j`, which begins at `first`, is the first one or begins where the one before ended.
 fn follows(file: &[u8], g: Figures, j: usize, first: u32) -> bool
     requires { ⌜ Ready (now file) g × (j < g .spans) ⌝ }
-    ensures { λ r. ⌜ r ≡ implies (ltb 0 j) (eqb first (spanAt (ranged (g .layout)) (now (file .entry)) (6 * slotCount g) (j - 1) .last)) ⌝ }
+    ensures { λ r. ⌜ r ≡ implies (ltb 0 j) (eqb first (spanAt (ranged (g .layout)) (now (file .entry)) (6 * fileSlots g) (j - 1) .last)) ⌝ }
 {
     if j == 0 {
         return true;
@@ -81,7 +81,7 @@ fn follows(file: &[u8], g: Figures, j: usize, first: u32) -> bool
 
 // lowest ≤ highest ≤ 99,999,999, state 0 to 3, last byte zero.
 fn fields_ok(s: SpanRecord) -> bool
-    ensures { λ r. ⌜ r ≡ every (leb (s .lowest) (s .highest) ∷ leb (s .highest) 99999999 ∷ leb (s .state) 3 ∷ eqb (s .blank) 0 ∷ []) ⌝ }
+    ensures { λ r. ⌜ r ≡ every (leb (s .lowest) (s .highest) ∷ leb (s .highest) 99_999_999 ∷ leb (s .state) 3 ∷ eqb (s .blank) 0 ∷ []) ⌝ }
 {
     if s.highest < s.lowest {
         return false;
@@ -207,7 +207,7 @@ pub fn states_ok(file: &[u8], g: Figures) -> bool
 // No method 18 or 19 outside spans. These follow each other, so outside is before the first and after the last.
 pub fn outside_ok(file: &[u8], g: Figures) -> bool
     requires { ⌜ Ready (now file) g × (all (spanOk (tablesAt (now file) g)) 0 (g .spans) ≡ true) ⌝ }
-    ensures { λ r. ⌜ r ≡ all (outsideOk (tablesAt (now (file .entry)) g)) 0 (slotCount g) ⌝ }
+    ensures { λ r. ⌜ r ≡ all (outsideOk (tablesAt (now (file .entry)) g)) 0 (fileSlots g) ⌝ }
 {
     let slots = trailer::slot_count(g);
     let m = g.spans as usize;

@@ -7,12 +7,12 @@ ghost use mathlib.Core.Bool.{true};
 ghost use Prim.Native.Nat.{_*_, _/_, _≤_};
 ghost use lib.ListN.{length};
 ghost use Rattle.base.specs.Lists.{every};
-ghost use Rattle.file.specs.Layout.{spanBytes};
-ghost use Rattle.file.specs.Reader.{figures, headTests, layoutOk, slotCount, trailerOk};
+ghost use Rattle.file.specs.Layout.{spanTableBytes};
+ghost use Rattle.file.specs.Reader.{figures, headFieldTests, layoutOk, fileSlots, trailerOk};
 
 // L, D and the first day are as under Opening.
 fn head_ok(g: Figures) -> bool
-    ensures { λ r. ⌜ r ≡ every (headTests (g .first) (g .days) (g .interval)) ⌝ }
+    ensures { λ r. ⌜ r ≡ every (headFieldTests (g .first) (g .days) (g .interval)) ⌝ }
 {
     if !opening::is_interval(g.interval) {
         return false;
@@ -23,7 +23,7 @@ fn head_ok(g: Figures) -> bool
     if 400 < g.days {
         return false;
     }
-    g.first as u64 + g.days as u64 <= 36525
+    g.first as u64 + g.days as u64 <= 36_525
 }
 
 fn is_layout(layout: u32) -> bool
@@ -37,7 +37,7 @@ fn is_layout(layout: u32) -> bool
 
 // n, the slots of a day.
 pub fn per_day(g: Figures) -> usize
-    requires { ⌜ every (headTests (g .first) (g .days) (g .interval)) ≡ true ⌝ }
+    requires { ⌜ every (headFieldTests (g .first) (g .days) (g .interval)) ≡ true ⌝ }
     ensures { λ r. ⌜ (r ≡ 1440 / g .interval) × (r ≤ 288) ⌝ }
 {
     1440 / g.interval as usize
@@ -45,15 +45,15 @@ pub fn per_day(g: Figures) -> usize
 
 // N, the slots of the book.
 pub fn slot_count(g: Figures) -> usize
-    requires { ⌜ every (headTests (g .first) (g .days) (g .interval)) ≡ true ⌝ }
-    ensures { λ r. ⌜ (r ≡ slotCount g) × (r ≤ 115200) ⌝ }
+    requires { ⌜ every (headFieldTests (g .first) (g .days) (g .interval)) ≡ true ⌝ }
+    ensures { λ r. ⌜ (r ≡ fileSlots g) × (r ≤ 115_200) ⌝ }
 {
     per_day(g) * g.days as usize
 }
 
 // The bytes of the span table: records of 14 bytes in layout 3, of 10 in the others.
 pub fn span_bytes(g: Figures) -> u64
-    ensures { λ r. ⌜ (r ≡ spanBytes g) × (r ≤ 14 * g .spans) ⌝ }
+    ensures { λ r. ⌜ (r ≡ spanTableBytes g) × (r ≤ 14 * g .spans) ⌝ }
 {
     let m = g.spans as u64;
     if g.layout == 3 {

@@ -7,10 +7,9 @@ use rules::Quality;
 use rules::Span;
 ghost use mathlib.Core.Bool.{true};
 ghost use mathlib.Core.Path.{_≡_};
-ghost use mathlib.Core.List.{[], _∷_};
 ghost use Prim.Native.Nat.{_+_, _≤_};
-ghost use lib.ListN.{length};
-ghost use Rattle.file.specs.Layout.{letter, row, slotRow, spanRow, spanBytes, trailerRow};
+ghost use lib.ListN.{length, take, drop};
+ghost use Rattle.file.specs.Layout.{letter, row, slotRow, spanRow, trailerRow};
 ghost use Rattle.file.specs.Inner.Writing.{written};
 
 fn letter_of(quality: Quality) -> u8
@@ -38,7 +37,7 @@ pub fn put_slot(buf: &mut [u8], at: usize, slot: Outcome)
 // Writes a span's boundaries and the ends of its advance at `at`.
 fn put_range(buf: &mut [u8], at: usize, span: Span)
     requires { ⌜ at + 12 ≤ length (now buf) ⌝ }
-    ensures { λ _. ⌜ now (buf .exit) ≡ written (now (buf .entry)) at (row ((2, span .first) ∷ (2, span .last) ∷ (4, span .lowest) ∷ (4, span .highest) ∷ [])) ⌝ }
+    ensures { λ _. ⌜ now (buf .exit) ≡ written (now (buf .entry)) at (row (take 4 (spanRow true span))) ⌝ }
 {
     fields::put(buf, at, 2, span.first as u64);
     fields::put(buf, at + 2, 2, span.last as u64);
@@ -59,7 +58,7 @@ pub fn put_span(buf: &mut [u8], at: usize, span: Span)
 // Writes the trailer's first day, D and L at `at`.
 fn put_days(buf: &mut [u8], at: usize, g: Figures)
     requires { ⌜ at + 5 ≤ length (now buf) ⌝ }
-    ensures { λ _. ⌜ now (buf .exit) ≡ written (now (buf .entry)) at (row ((2, g .first) ∷ (2, g .days) ∷ (1, g .interval) ∷ [])) ⌝ }
+    ensures { λ _. ⌜ now (buf .exit) ≡ written (now (buf .entry)) at (row (take 3 (trailerRow g))) ⌝ }
 {
     fields::put(buf, at, 2, g.first as u64);
     fields::put(buf, at + 2, 2, g.days as u64);
@@ -69,7 +68,7 @@ fn put_days(buf: &mut [u8], at: usize, g: Figures)
 // Writes the trailer's head fields at `at`: first day, D, L, layout, M.
 fn put_head(buf: &mut [u8], at: usize, g: Figures)
     requires { ⌜ at + 8 ≤ length (now buf) ⌝ }
-    ensures { λ _. ⌜ now (buf .exit) ≡ written (now (buf .entry)) at (row ((2, g .first) ∷ (2, g .days) ∷ (1, g .interval) ∷ (1, g .layout) ∷ (2, g .spans) ∷ [])) ⌝ }
+    ensures { λ _. ⌜ now (buf .exit) ≡ written (now (buf .entry)) at (row (take 5 (trailerRow g))) ⌝ }
 {
     put_days(buf, at, g);
     fields::put(buf, at + 5, 1, g.layout as u64);
@@ -79,7 +78,7 @@ fn put_head(buf: &mut [u8], at: usize, g: Figures)
 // Writes the rest of the trailer at `at`: the counts, the sum and the distance.
 fn put_counts(buf: &mut [u8], at: usize, g: Figures)
     requires { ⌜ at + 24 ≤ length (now buf) ⌝ }
-    ensures { λ _. ⌜ now (buf .exit) ≡ written (now (buf .entry)) at (row ((4, g .actual) ∷ (4, g .substituted) ∷ (4, g .none) ∷ (8, g .sum) ∷ (4, spanBytes g) ∷ [])) ⌝ }
+    ensures { λ _. ⌜ now (buf .exit) ≡ written (now (buf .entry)) at (row (drop 5 (trailerRow g))) ⌝ }
 {
     fields::put(buf, at, 4, g.actual as u64);
     fields::put(buf, at + 4, 4, g.substituted as u64);

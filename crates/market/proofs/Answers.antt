@@ -13,7 +13,7 @@ use Rattle.base.proofs.Logic.{either, passed, and-parts}
 use Rattle.file.specs.declared.Figures.{Figures}
 use Rattle.file.specs.declared.Verdict.{Verdict}
 use Rattle.file.specs.declared.Verdict.the-variants as verdict
-use Rattle.file.specs.Reader.{figures, headTests, readFile}
+use Rattle.file.specs.Reader.{figures, headFieldTests, readFile}
 use Rattle.file.proofs.Answers.{ready, tests-passed}
 use Rattle.file.proofs.Head.{interval-is, interval-pos, per-day-le, days-le}
 use Rattle.market.specs.declared.Codes.{Codes}
@@ -83,7 +83,7 @@ module _ (bs : List ℕ) (g : Figures) (e : readFile bs ≡ verdict.Accepted g) 
   pub tabled : Tabled bs (g .first) (1440 / g .interval) (g .days)
   tabled =
       let r = ready bs g (tests-passed bs g e .0 .trailer) in
-      let tests = headTests (g .first) (g .days) (g .interval) in
+      let tests = headFieldTests (g .first) (g .days) (g .interval) in
       record {
         long = omega (arith, r .long);
         some = interval-is (g .first) (g .days) (g .interval) (r .head) (λ x. 1 ≤ 1440 / x) (omega arith) (omega arith) (omega arith);

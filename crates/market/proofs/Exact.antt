@@ -15,10 +15,10 @@ use Rattle.file.specs.declared.Figures.{Figures}
 use Rattle.file.specs.declared.Verdict.the-variants as verdict
 use Rattle.file.specs.declared.slots.SlotRecord.{SlotRecord}
 use Rattle.file.specs.Contents.{Bytes}
-use Rattle.file.specs.Reader.{slotAt, figures, headTests, recordOk, tableTests, tablesAt, tablesOk, readFile}
+use Rattle.file.specs.Reader.{slotAt, figures, headFieldTests, recordOk, tableTests, tablesAt, tablesOk, readFile}
 use Rattle.file.proofs.Answers.{ready, tests-passed}
 use Rattle.file.proofs.Head.{interval-is}
-use Rattle.file.proofs.Numbers.{num-lt}
+use Rattle.file.proofs.Offsets.{value-lt}
 use Rattle.line.specs.Line.{decimal}
 use Rattle.market.specs.declared.Codes.{Codes}
 use Rattle.market.specs.declared.Exported.the-variants.{Length}
@@ -143,7 +143,7 @@ not-v s ok e =
     false≢true (sym no ∙ ok)
 
 sound : (bs : List ℕ) → Bytes bs → (g : Figures) → readFile bs ≡ verdict.Accepted g → (t : Texts) (codes : Codes) → suppliedOk t codes ≡ true → Sound (contentOf codes bs)
-unfolding contentOf suppliedOk slotAt markOf tablesOk
+unfolding contentOf suppliedOk markOf tablesOk
 sound bs b g e t codes ok =
     let all-passed = tests-passed bs g e in
     let head = ready bs g (all-passed .0 .trailer) .head in
@@ -162,10 +162,10 @@ sound bs b g e t codes ok =
       some = table .some;
       few = table .day;
       short = interval-is (g .first) (g .days) (g .interval) head (λ x. x < 2 ^ 32) (omega arith) (omega arith) (omega arith);
-      begun = leb-true _ _ (passed (headTests (g .first) (g .days) (g .interval)) head 1);
+      begun = leb-true _ _ (passed (headFieldTests (g .first) (g .days) (g .interval)) head 1);
       dates = table .dates;
       slots = record {
-        value = λ i. omega (arith, num-lt bs b 4 (6 * i));
+        value = λ i. value-lt bs b i;
         plain = λ i l. plain-mark codes codes-ok (slotAt bs i);
         letter = λ i l. not-v (slotAt bs i) (all-at (λ j. recordOk (slotAt bs j)) (1440 / g .interval * g .days) records i l);
       };

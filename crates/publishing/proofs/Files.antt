@@ -16,13 +16,13 @@ use Rattle.rules.proofs.Bounds.{bounded}
 use Rattle.rules.proofs.Outcomes.{outcome-fits}
 use Rattle.file.specs.declared.Verdict.the-variants.{Accepted}
 use Rattle.file.specs.Layout.{figuresOf, tablesOf, fileOf}
-use Rattle.file.specs.Reader.{headTests as trailerHead, layoutOk, layoutFits, readFile, tablesPart}
-use Rattle.file.specs.Contents.{Fitting, WellFormed, noSlot, slot, slotRecord, recordsOf}
+use Rattle.file.specs.Reader.{headFieldTests, layoutOk, layoutFits, readFile, tablesPart}
+use Rattle.file.specs.Contents.{WellFormed, noSlot, slot, slotRecord, recordsOf}
 use Rattle.publishing.specs.Publishing.{published}
 use Rattle.publishing.specs.Inner.Publishing.{Sound}
 use Rattle.file.proofs.Content.{injective}
 use Rattle.file.proofs.Agree.{Agree, tables-agree}
-use Rattle.file.proofs.Fitting.{fitting}
+use Rattle.file.proofs.Fitting.{Fitting, fitting}
 use Rattle.file.proofs.Accepted.{accepted, tables-back}
 use Rattle.publishing.proofs.Booked.{bookTables, book-ok}
 use Rattle.publishing.proofs.Publishing.{agreed-low, widths-low}
@@ -44,7 +44,7 @@ module _ (h : Head) (b : Cells) where
     ok : headOk h ≡ true
     ok = s .head
 
-    head-own : every (trailerHead (firstDay h) (h .days) (h .interval)) ≡ true
+    head-own : every (headFieldTests (firstDay h) (h .days) (h .interval)) ≡ true
     unfolding headOk
     head-own =
         let days = passed (headTests h) ok 1 in

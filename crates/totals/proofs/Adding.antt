@@ -16,7 +16,7 @@ use Rattle.base.proofs.Sums.{all-at}
 use Rattle.rules.proofs.Summaries.{sum-small}
 use Rattle.file.specs.Reader.{slotAt, figures}
 use Rattle.file.specs.Contents.{Bytes}
-use Rattle.file.proofs.Numbers.{num-lt}
+use Rattle.file.proofs.Offsets.{value-lt}
 use Rattle.totals.specs.Stays.{stayTotal, pairCount, firstOf, endOf, totalsOf, pairOk, pairsOk}
 use Rattle.totals.specs.Inner.Adding.{holds, withDay, Room, least, totalsBefore}
 
@@ -88,11 +88,11 @@ module _ (bs : List ℕ) (n first : ℕ) where
           )
 
   stay-small : Bytes bs → n ≤ 288 → (end : ℕ) → end ≤ 400 → stayTotal bs n first end ≤ 115200 * 2 ^ 32
-  unfolding stayTotal slotAt
+  unfolding stayTotal
   stay-small b few end l =
       let days : end - first ≤ 400 = omega arith in
       let slots : (end - first) * n ≤ 400 * 288 = mul-le-mul days few in
-      omega (arith, sum-small (λ i. slotAt bs i .value) (2 ^ 32) (λ i. omega (arith, num-lt bs b 4 (6 * i))) (first * n) ((end - first) * n))
+      omega (arith, sum-small (λ i. slotAt bs i .value) (2 ^ 32) (λ i. omega (arith, value-lt bs b i)) (first * n) ((end - first) * n))
 
 -- all stays
 module _ (bs : List ℕ) (n : ℕ) (pairs : List ℕ) where

@@ -4,7 +4,7 @@ use mathlib.Core.Bool.{Bool, true, cond}
 use mathlib.Core.List.{List}
 use Prim.Native.Nat.{ℕ, _+_, _*_, _^_, _≤_}
 use lib.ListN.{length}
-use Rattle.base.specs.Lists.{sum, every, count}
+use Rattle.base.specs.Lists.{sum, any, every, count}
 use Rattle.rules.specs.declared.Quality.{Quality}
 use Rattle.rules.specs.declared.Quality.the-variants.{A, S, F, N}
 use Rattle.file.specs.declared.Figures.{Figures}
@@ -12,8 +12,9 @@ use Rattle.file.specs.declared.slots.Counted.{Counted}
 use Rattle.file.specs.declared.slots.Kind.{Kind}
 use Rattle.file.specs.declared.slots.Kind.the-variants.{Substituted, None, Scaled, Unscaled}
 use Rattle.file.specs.declared.slots.SlotRecord.{SlotRecord}
-use Rattle.file.specs.Layout.{spanBytes}
-use Rattle.file.specs.Reader.{slotAt, headTests, slotCount, ofQuality, scaled, unscaled}
+use Rattle.file.specs.declared.slots.Tally.{Tally}
+use Rattle.file.specs.Layout.{slotWidth, spanTableBytes, trailerWidth}
+use Rattle.file.specs.Reader.{slotAt, headFieldTests, fileSlots, ofQuality, scaled, unscaled}
 
 -- a record is of a kind
 abbrev pub isKind : Kind → SlotRecord → Bool
@@ -25,6 +26,14 @@ isKind Unscaled r = unscaled r
 -- slot i is of a kind
 abbrev pub kindAt : List ℕ → Kind → ℕ → Bool
 kindAt bs kind i = isKind kind (slotAt bs i)
+
+-- which kinds of slots the k from a have, and their sum
+pub record Tallied (bs : List ℕ) (a k : ℕ) (t : Tally) : Type 0 where
+  pub none : t .none ≡ any (kindAt bs None) a k
+  pub scaled : t .scaled ≡ any (kindAt bs Scaled) a k
+  pub unscaled : t .unscaled ≡ any (kindAt bs Unscaled) a k
+  pub substituted : t .substituted ≡ any (kindAt bs Substituted) a k
+  pub sum : t .sum ≡ sum (λ i. slotAt bs i .value) a k
 
 -- 1 for a record of a quality
 abbrev pub one : Quality → SlotRecord → ℕ
@@ -64,5 +73,5 @@ pub record Within (k : ℕ) (c : Counted) : Type 0 where
 
 -- a file that is not refused with 8
 pub record Ready (bs : List ℕ) (g : Figures) : Type 0 where
-  pub head : every (headTests (g .first) (g .days) (g .interval)) ≡ true
-  pub long : length bs ≡ 6 * slotCount g + spanBytes g + 32
+  pub head : every (headFieldTests (g .first) (g .days) (g .interval)) ≡ true
+  pub long : length bs ≡ slotWidth * fileSlots g + spanTableBytes g + trailerWidth

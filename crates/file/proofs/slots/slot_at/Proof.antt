@@ -1,6 +1,6 @@
 -- `file::slots::slot_at` meets its contract.
 use borrow.Author.Needs.{needs}
-use Rattle.file.specs.Reader.{slotAt}
+use Rattle.file.proofs.Offsets.{slot-at}
 use Rattle.file.proofs.slots.slot_at.Statement.{statement}
 use Rattle.file.proofs.slots.slot_at.Tie as tie
 
@@ -26,8 +26,7 @@ shared-slice-read-t11 : tie.Need-shared-slice-read-t11
 shared-slice-read-t11 c = search needs
 
 returns : tie.Need-returns
-unfolding slotAt
-returns c = rw (c .before .before .number .ensures .0)
+returns c = rw (slot-at _ _, c .before .before .number .ensures .0)
 
 pub slot-at-spec : {M : Type 1} → statement M
 slot-at-spec =

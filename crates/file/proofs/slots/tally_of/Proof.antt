@@ -73,7 +73,13 @@ loop-again c = let a = c .before .before .before .before .before .before .before
 returns : tie.Need-returns Inv-loop μ-loop
 returns c = let l = c .before .loop in
     let done : l .i ≡ c .before .before .before .args .k = omega arith in
-    (rw done at (l .inv .2), rw done at (l .inv .3), rw done at (l .inv .4), rw done at (l .inv .5), rw done at (l .inv .6))
+    record {
+      none = rw done at (l .inv .2);
+      scaled = rw done at (l .inv .3);
+      unscaled = rw done at (l .inv .4);
+      substituted = rw done at (l .inv .5);
+      sum = rw done at (l .inv .6);
+    }
 
 pub tally-of-spec : {M : Type 1} → statement M
 tally-of-spec =

@@ -21,7 +21,7 @@ slot-at-requires : tie.Need-slot-at-requires Inv-loop μ-loop
 slot-at-requires c κs = search needs
 
 with-slot-requires : tie.Need-with-slot-requires Inv-loop μ-loop
-with-slot-requires c κs = within-more (c .before .before .loop .i) 115200 (c .before .before .loop .found) (c .before .before .loop .inv .1) (omega (arith, c .before .loop-test .taken, c .before .before .before .before .pre .1))
+with-slot-requires c κs = within-more (c .before .before .loop .i) 115_200 (c .before .before .loop .found) (c .before .before .loop .inv .1) (omega (arith, c .before .loop-test .taken, c .before .before .before .before .pre .1))
 
 add-i : tie.Need-add-i Inv-loop μ-loop
 add-i c = search needs

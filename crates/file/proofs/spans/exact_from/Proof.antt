@@ -1,6 +1,6 @@
 -- `file::spans::exact_from` meets its contract.
 use borrow.Author.Needs.{needs}
-use Rattle.file.specs.Reader.{spanFrom}
+use Rattle.file.proofs.Offsets.{exact-at}
 use Rattle.file.proofs.spans.exact_from.Statement.{statement}
 use Rattle.file.proofs.spans.exact_from.Tie as tie
 
@@ -41,8 +41,7 @@ shared-slice-read-t14 : tie.Need-shared-slice-read-t14
 shared-slice-read-t14 c = search needs
 
 returns : tie.Need-returns
-unfolding spanFrom
-returns c = rw (c .before .before .before .before .number .ensures .0, c .before .before .before .number2 .ensures .0, c .before .before .number3 .ensures .0)
+returns c = rw (exact-at _ _, c .before .before .before .before .number .ensures .0, c .before .before .before .number2 .ensures .0, c .before .before .number3 .ensures .0)
 
 pub exact-from-spec : {M : Type 1} → statement M
 exact-from-spec =

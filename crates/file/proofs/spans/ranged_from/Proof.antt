@@ -1,6 +1,6 @@
 -- `file::spans::ranged_from` meets its contract.
 use borrow.Author.Needs.{needs}
-use Rattle.file.specs.Reader.{spanFrom}
+use Rattle.file.proofs.Offsets.{ranged-at}
 use Rattle.file.proofs.spans.ranged_from.Statement.{statement}
 use Rattle.file.proofs.spans.ranged_from.Tie as tie
 
@@ -50,8 +50,7 @@ shared-slice-read-t19 : tie.Need-shared-slice-read-t19
 shared-slice-read-t19 c = search needs
 
 returns : tie.Need-returns
-unfolding spanFrom
-returns c = rw (c .before .before .before .before .before .number .ensures .0, c .before .before .before .before .number2 .ensures .0, c .before .before .before .number3 .ensures .0, c .before .before .number4 .ensures .0)
+returns c = rw (ranged-at _ _, c .before .before .before .before .before .number .ensures .0, c .before .before .before .before .number2 .ensures .0, c .before .before .before .number3 .ensures .0, c .before .before .number4 .ensures .0)
 
 pub ranged-from-spec : {M : Type 1} → statement M
 ranged-from-spec =

@@ -3,7 +3,7 @@ use mathlib.Core.Path.{ap, _∙_}
 use Prim.Native.Nat.{_+_, _≤_}
 use native.Mathlib.Omega.{arith}
 use borrow.Author.Needs.{needs}
-use Rattle.file.specs.Reader.{tablesAt, startOf, slotsOf, slotCount, stateOk}
+use Rattle.file.specs.Reader.{tablesAt, startOf, slotsOf, fileSlots, stateOk}
 use Rattle.file.proofs.States.{rule-same, range-same}
 use Rattle.file.proofs.Inside.{room, Room, ends, ordered}
 use Rattle.file.proofs.spans.state_ok.Statement.{statement}
@@ -11,7 +11,7 @@ use Rattle.file.proofs.spans.state_ok.Tie as tie
 
 -- the span's slots are among the file's
 inside : (s : tie.Start) → Room (s .args .file .now) (s .args .g)
-    × (startOf (tablesAt (s .args .file .now) (s .args .g)) (s .args .j) + slotsOf (tablesAt (s .args .file .now) (s .args .g)) (s .args .j) ≤ slotCount (s .args .g))
+    × (startOf (tablesAt (s .args .file .now) (s .args .g)) (s .args .j) + slotsOf (tablesAt (s .args .file .now) (s .args .g)) (s .args .j) ≤ fileSlots (s .args .g))
 inside s = (room _ _ (s .pre .0), ends (tablesAt (s .args .file .now) (s .args .g)) (s .args .j) (s .pre .2))
 
 span-at-requires : tie.Need-span-at-requires
@@ -51,9 +51,9 @@ returns c = let s = c .before .before .before .before .before .before .span-at .
     let e = c .before .before .tally-of .ensures in
     c .state-rule .ensures
     ∙ rule-same (ap (λ x. x .state) s)
-    (rw (s, n) at (e .0)) (rw (s, n) at (e .1))
-    (rw (s, n) at (e .2)) (rw (s, n) at (e .3))
-    (c .before .is-within .ensures ∙ range-same (ap (λ x. x .lowest) s) (rw (s, n) at (e .4)) (ap (λ x. x .highest) s))
+    (rw (s, n) at (e .none)) (rw (s, n) at (e .scaled))
+    (rw (s, n) at (e .unscaled)) (rw (s, n) at (e .substituted))
+    (c .before .is-within .ensures ∙ range-same (ap (λ x. x .lowest) s) (rw (s, n) at (e .sum)) (ap (λ x. x .highest) s))
 
 pub state-ok-spec : {M : Type 1} → statement M
 state-ok-spec =

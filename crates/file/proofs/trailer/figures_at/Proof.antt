@@ -3,7 +3,7 @@ use Prim.Native.Nat.{_+_, _-_}
 use native.Mathlib.Omega.{arith}
 use borrow.Author.Needs.{needs}
 use lib.ListN.{length}
-use Rattle.file.specs.Reader.{figures}
+use Rattle.file.proofs.Offsets.{figures-at}
 use Rattle.file.proofs.trailer.figures_at.Statement.{statement}
 use Rattle.file.proofs.trailer.figures_at.Tie as tie
 
@@ -86,7 +86,6 @@ cast-t29 : tie.Need-cast-t29
 cast-t29 c = omega (arith, c .shared-slice-known3 .given (length (c .before .before .before .before .before .before .before .before .before .before .args .file .now) - 32 + 5))
 
 returns : tie.Need-returns
-unfolding figures
 returns c =
     let number = c .before .before .before .before .before .before .before .before .number in
     let number2 = c .before .before .before .before .before .before .before .number2 in
@@ -94,6 +93,7 @@ returns c =
     let number4 = c .before .before .before .before .number4 in
     let number5 = c .before .before .before .number5 in
     rw (
+      figures-at _,
       number .ensures .0,
       number2 .ensures .0,
       number3 .ensures .0,

@@ -1,6 +1,6 @@
 -- `file::writer::put_counts` meets its contract.
 use borrow.Author.Needs.{needs}
-use Rattle.file.specs.Layout.{spanBytes}
+use Rattle.file.specs.Layout.{spanTableBytes}
 use Rattle.file.proofs.Written.{row-five}
 use Rattle.file.proofs.writer.put_counts.Statement.{statement}
 use Rattle.file.proofs.writer.put_counts.Tie as tie
@@ -51,7 +51,7 @@ returns : tie.Need-returns
 returns c =
     let s = c .before .before .before .before .before .before .before .before .before .before .before .before .before .before .before .before .before .before .before .before .before .before .before .before .before in
     let a = s .args in
-    row-five (a .buf .now) _ _ _ _ _ (a .at) 4 4 4 8 4 (a .g .actual) (a .g .substituted) (a .g .none) (a .g .sum) (spanBytes (a .g))
+    row-five (a .buf .now) _ _ _ _ _ (a .at) 4 4 4 8 4 (a .g .actual) (a .g .substituted) (a .g .none) (a .g .sum) (spanTableBytes (a .g))
     (c .before .before .before .before .before .before .before .before .before .before .before .before .before .before .before .before .before .before .before .before .before .put .ensures)
     (c .before .before .before .before .before .before .before .before .before .before .before .before .before .before .before .before .put2 .ensures)
     (c .before .before .before .before .before .before .before .before .before .before .before .put3 .ensures)

@@ -1,9 +1,10 @@
 -- `file::writer::put_days` meets its contract.
-use mathlib.Core.List.{List, [], _∷_, _++_}
 use mathlib.Core.Path.{_∙_}
-use Prim.Native.Nat.{ℕ, _+_}
+use Prim.Native.Nat.{_+_}
 use native.Mathlib.Omega.{arith}
+use lib.ListN.{take}
 use borrow.Author.Needs.{needs}
+use Rattle.file.specs.Layout.{trailerRow}
 use Rattle.file.proofs.Written.{row-last, row-next}
 use Rattle.file.proofs.writer.put_days.Statement.{statement}
 use Rattle.file.proofs.writer.put_days.Tie as tie
@@ -41,11 +42,10 @@ returns c =
     let put = c .before .before .before .before .before .before .before .before .before .before .before .before .put in
     let put2 = c .before .before .before .before .before .before .before .put2 in
     let put3 = c .before .before .put3 in
-    let f1 : List (ℕ × ℕ) = (2, a .g .first) ∷ [] in
-    let f2 : List (ℕ × ℕ) = f1 ++ ((2, a .g .days) ∷ []) in
+    let row = trailerRow (a .g) in
     let r1 = put .ensures ∙ row-last (a .buf .now) (a .at) 2 (a .g .first) in
-    let r2 = row-next (a .buf .now) _ _ (a .at) (a .at + 2) 2 (a .g .days) f1 r1 (put2 .ensures) (omega arith) (omega arith) in
-    row-next (a .buf .now) _ _ (a .at) (a .at + 4) 1 (a .g .interval) f2 r2 (put3 .ensures) (omega arith) (omega arith)
+    let r2 = row-next (a .buf .now) _ _ (a .at) (a .at + 2) 2 (a .g .days) (take 1 row) r1 (put2 .ensures) (omega arith) (omega arith) in
+    row-next (a .buf .now) _ _ (a .at) (a .at + 4) 1 (a .g .interval) (take 2 row) r2 (put3 .ensures) (omega arith) (omega arith)
 
 pub put-days-spec : {M : Type 1} → statement M
 put-days-spec =

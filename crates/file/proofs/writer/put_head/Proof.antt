@@ -1,8 +1,9 @@
 -- `file::writer::put_head` meets its contract.
-use mathlib.Core.List.{List, [], _∷_, _++_}
-use Prim.Native.Nat.{ℕ, _+_}
+use Prim.Native.Nat.{_+_}
 use native.Mathlib.Omega.{arith}
+use lib.ListN.{take}
 use borrow.Author.Needs.{needs}
+use Rattle.file.specs.Layout.{trailerRow}
 use Rattle.file.proofs.Written.{row-next}
 use Rattle.file.proofs.writer.put_head.Statement.{statement}
 use Rattle.file.proofs.writer.put_head.Tie as tie
@@ -37,10 +38,9 @@ returns c =
     let put-days = c .before .before .before .before .before .before .before .before .before .before .before .before .put-days in
     let put = c .before .before .before .before .before .before .before .put in
     let put2 = c .before .before .put2 in
-    let f3 : List (ℕ × ℕ) = (2, a .g .first) ∷ (2, a .g .days) ∷ (1, a .g .interval) ∷ [] in
-    let f4 : List (ℕ × ℕ) = f3 ++ ((1, a .g .layout) ∷ []) in
-    let r4 = row-next (a .buf .now) _ _ (a .at) (a .at + 5) 1 (a .g .layout) f3 (put-days .ensures) (put .ensures) (omega arith) (omega arith) in
-    row-next (a .buf .now) _ _ (a .at) (a .at + 6) 2 (a .g .spans) f4 r4 (put2 .ensures) (omega arith) (omega arith)
+    let row = trailerRow (a .g) in
+    let r4 = row-next (a .buf .now) _ _ (a .at) (a .at + 5) 1 (a .g .layout) (take 3 row) (put-days .ensures) (put .ensures) (omega arith) (omega arith) in
+    row-next (a .buf .now) _ _ (a .at) (a .at + 6) 2 (a .g .spans) (take 4 row) r4 (put2 .ensures) (omega arith) (omega arith)
 
 pub put-head-spec : {M : Type 1} → statement M
 put-head-spec =

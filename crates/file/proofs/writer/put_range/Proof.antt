@@ -1,9 +1,11 @@
 -- `file::writer::put_range` meets its contract.
-use mathlib.Core.List.{List, [], _∷_, _++_}
+use mathlib.Core.Bool.{true}
 use mathlib.Core.Path.{_∙_}
-use Prim.Native.Nat.{ℕ, _+_}
+use Prim.Native.Nat.{_+_}
 use native.Mathlib.Omega.{arith}
+use lib.ListN.{take}
 use borrow.Author.Needs.{needs}
+use Rattle.file.specs.Layout.{spanRow}
 use Rattle.file.proofs.Written.{row-last, row-next}
 use Rattle.file.proofs.writer.put_range.Statement.{statement}
 use Rattle.file.proofs.writer.put_range.Tie as tie
@@ -46,13 +48,11 @@ same-length c = search needs
 
 returns : tie.Need-returns
 returns c = let a = c .before .before .before .before .before .before .before .before .before .before .before .before .before .before .before .before .before .before .before .before .before .args in
-    let f1 : List (ℕ × ℕ) = (2, a .span .first) ∷ [] in
-    let f2 : List (ℕ × ℕ) = f1 ++ ((2, a .span .last) ∷ []) in
-    let f3 : List (ℕ × ℕ) = f2 ++ ((4, a .span .lowest) ∷ []) in
+    let row = spanRow true (a .span) in
     let r1 = c .before .before .before .before .before .before .before .before .before .before .before .before .before .before .before .before .before .put .ensures ∙ row-last (a .buf .now) (a .at) 2 (a .span .first) in
-    let r2 = row-next (a .buf .now) _ _ (a .at) (a .at + 2) 2 (a .span .last) f1 r1 (c .before .before .before .before .before .before .before .before .before .before .before .before .put2 .ensures) (omega arith) (omega arith) in
-    let r3 = row-next (a .buf .now) _ _ (a .at) (a .at + 4) 4 (a .span .lowest) f2 r2 (c .before .before .before .before .before .before .before .put3 .ensures) (omega arith) (omega arith) in
-    row-next (a .buf .now) _ _ (a .at) (a .at + 8) 4 (a .span .highest) f3 r3 (c .before .before .put4 .ensures) (omega arith) (omega arith)
+    let r2 = row-next (a .buf .now) _ _ (a .at) (a .at + 2) 2 (a .span .last) (take 1 row) r1 (c .before .before .before .before .before .before .before .before .before .before .before .before .put2 .ensures) (omega arith) (omega arith) in
+    let r3 = row-next (a .buf .now) _ _ (a .at) (a .at + 4) 4 (a .span .lowest) (take 2 row) r2 (c .before .before .before .before .before .before .before .put3 .ensures) (omega arith) (omega arith) in
+    row-next (a .buf .now) _ _ (a .at) (a .at + 8) 4 (a .span .highest) (take 3 row) r3 (c .before .before .put4 .ensures) (omega arith) (omega arith)
 
 pub put-range-spec : {M : Type 1} → statement M
 put-range-spec =

@@ -1,11 +1,11 @@
 -- `file::writer::put_slot` meets its contract.
-use mathlib.Core.List.{List, [], _∷_, _++_}
 use mathlib.Core.Path.{_∙_, ap}
 use Prim.Native.Nat.{ℕ, _+_}
 use native.Mathlib.Omega.{arith}
+use lib.ListN.{take}
 use borrow.Author.Needs.{needs}
 use Rattle.file.specs.Inner.Writing.{written}
-use Rattle.file.specs.Layout.{letter, bytes}
+use Rattle.file.specs.Layout.{letter, bytes, slotRow}
 use Rattle.file.proofs.Written.{row-last, row-next}
 use Rattle.file.proofs.writer.put_slot.Statement.{statement}
 use Rattle.file.proofs.writer.put_slot.Tie as tie
@@ -49,12 +49,11 @@ returns c =
     let put3 = c .before .before .put3 in
     let a = before .args in
     let fits = before .pre in
-    let f1 : List (ℕ × ℕ) = (4, a .slot .value) ∷ [] in
-    let f2 : List (ℕ × ℕ) = f1 ++ ((1, letter (a .slot .quality)) ∷ []) in
+    let row = slotRow (a .slot) in
     let r1 = put .ensures ∙ row-last (a .buf .now) (a .at) 4 (a .slot .value) in
     let second = put2 .ensures ∙ ap (λ (x : ℕ). written (put .last .0) (a .at + 4) (bytes 1 x)) (letter-of .ensures) in
-    let r2 = row-next (a .buf .now) _ _ (a .at) (a .at + 4) 1 (letter (a .slot .quality)) f1 r1 second (omega arith) (omega arith) in
-    row-next (a .buf .now) _ _ (a .at) (a .at + 5) 1 (a .slot .method) f2 r2 (put3 .ensures) (omega arith) (omega arith)
+    let r2 = row-next (a .buf .now) _ _ (a .at) (a .at + 4) 1 (letter (a .slot .quality)) (take 1 row) r1 second (omega arith) (omega arith) in
+    row-next (a .buf .now) _ _ (a .at) (a .at + 5) 1 (a .slot .method) (take 2 row) r2 (put3 .ensures) (omega arith) (omega arith)
 
 pub put-slot-spec : {M : Type 1} → statement M
 put-slot-spec =

@@ -1,8 +1,10 @@
 -- `file::writer::put_span` meets its contract.
-use mathlib.Core.List.{List, [], _∷_, _++_}
-use Prim.Native.Nat.{ℕ, _+_}
+use mathlib.Core.Bool.{true}
+use Prim.Native.Nat.{_+_}
 use native.Mathlib.Omega.{arith}
+use lib.ListN.{take}
 use borrow.Author.Needs.{needs}
+use Rattle.file.specs.Layout.{spanRow}
 use Rattle.file.proofs.Written.{row-next}
 use Rattle.file.proofs.writer.put_span.Statement.{statement}
 use Rattle.file.proofs.writer.put_span.Tie as tie
@@ -30,10 +32,9 @@ same-length c = search needs
 
 returns : tie.Need-returns
 returns c = let a = c .before .before .before .before .before .before .before .before .before .before .before .before .before .before .args in
-    let f4 : List (ℕ × ℕ) = (2, a .span .first) ∷ (2, a .span .last) ∷ (4, a .span .lowest) ∷ (4, a .span .highest) ∷ [] in
-    let f5 : List (ℕ × ℕ) = f4 ++ ((1, a .span .state) ∷ []) in
-    let r5 = row-next (a .buf .now) _ _ (a .at) (a .at + 12) 1 (a .span .state) f4 (c .before .before .before .before .before .before .before .before .before .before .before .put-range .ensures) (c .before .before .before .before .before .before .put .ensures) (omega arith) (omega arith) in
-    row-next (a .buf .now) _ _ (a .at) (a .at + 13) 1 0 f5 r5 (c .before .before .put2 .ensures) (omega arith) (omega arith)
+    let row = spanRow true (a .span) in
+    let r5 = row-next (a .buf .now) _ _ (a .at) (a .at + 12) 1 (a .span .state) (take 4 row) (c .before .before .before .before .before .before .before .before .before .before .before .put-range .ensures) (c .before .before .before .before .before .before .put .ensures) (omega arith) (omega arith) in
+    row-next (a .buf .now) _ _ (a .at) (a .at + 13) 1 0 (take 5 row) r5 (c .before .before .put2 .ensures) (omega arith) (omega arith)
 
 pub put-span-spec : {M : Type 1} → statement M
 put-span-spec =

@@ -1,6 +1,6 @@
 -- `days::put_value` meets its contract.
 use mathlib.Core.Path.{ap}
-use Rattle.file.specs.Reader.{slotAt}
+use Rattle.file.proofs.Offsets.{slot-at}
 use Rattle.market.specs.Fields.{field, kwh}
 use Rattle.market.proofs.Putting.{then, same}
 use borrow.Author.Needs.{needs}
@@ -29,8 +29,8 @@ same-length : tie.Need-same-length
 same-length c = search needs
 
 returns : tie.Need-returns
-unfolding slotAt kwh
-returns c = same (ap (λ v. field (kwh v)) (c .before .before .before .before .before .before .before .before .before .before .before .before .before .number .ensures .0)) (then (c .before .before .before .before .before .before .before .before .before .before .before .put-number .ensures) (then (c .before .before .before .before .before .before .put-text .ensures) (c .before .before .put-digits .ensures)))
+unfolding kwh
+returns c = rw (slot-at _ _) (same (ap (λ v. field (kwh v)) (c .before .before .before .before .before .before .before .before .before .before .before .before .before .number .ensures .0)) (then (c .before .before .before .before .before .before .before .before .before .before .before .put-number .ensures) (then (c .before .before .before .before .before .before .put-text .ensures) (c .before .before .put-digits .ensures))))
 
 pub put-value-spec : {M : Type 1} → statement M
 put-value-spec =

@@ -1,7 +1,7 @@
 -- `marks::mark_at` meets its contract.
 use mathlib.Core.Path.{sym, _∙_}
 use borrow.Author.Tests.{not-true, not-false}
-use Rattle.file.specs.Reader.{slotAt}
+use Rattle.file.proofs.Offsets.{slot-at}
 use Rattle.market.specs.Fields.{markOf}
 use borrow.Author.Needs.{needs}
 use Rattle.market.proofs.marks.mark_at.Statement.{statement}
@@ -29,15 +29,15 @@ has-code-requires : tie.Need-has-code-requires
 has-code-requires c κs = search needs
 
 returns : tie.Need-returns
-unfolding markOf slotAt
-returns c = rw (sym (c .before .has-code .ensures) ∙ not-true _ (c .if1 .taken))
+unfolding markOf
+returns c = rw (slot-at _ _, sym (c .before .has-code .ensures) ∙ not-true _ (c .if1 .taken))
 
 code-for-requires : tie.Need-code-for-requires
 code-for-requires c κs = search needs
 
 returns-2 : tie.Need-returns-2
-unfolding markOf slotAt
-returns-2 c = rw (sym (c .before .before .has-code .ensures) ∙ not-false _ (c .before .if1 .left), c .code-for .ensures)
+unfolding markOf
+returns-2 c = rw (slot-at _ _, sym (c .before .before .has-code .ensures) ∙ not-false _ (c .before .if1 .left), c .code-for .ensures)
 
 pub mark-at-spec : {M : Type 1} → statement M
 mark-at-spec =

@@ -1,7 +1,7 @@
 -- `days::value_at` meets its contract.
 use native.Mathlib.Omega.{arith}
 use borrow.Author.Needs.{needs}
-use Rattle.file.specs.Reader.{slotAt}
+use Rattle.file.proofs.Offsets.{slot-at}
 use Rattle.totals.proofs.days.value_at.Statement.{statement}
 use Rattle.totals.proofs.days.value_at.Tie as tie
 
@@ -12,8 +12,7 @@ number-requires : tie.Need-number-requires
 number-requires c κs = search needs
 
 returns : tie.Need-returns
-unfolding slotAt
-returns c = (c .number .ensures .0, omega (arith, c .number .ensures .1))
+returns c = rw (slot-at _ _) (c .number .ensures .0, omega (arith, c .number .ensures .1))
 
 pub value-at-spec : {M : Type 1} → statement M
 value-at-spec = tie.close (tie.spec mul-number number-requires returns)
