@@ -44,7 +44,8 @@ abbrev pub refers : ℕ → ℕ → Bool
 refers value status =
     isReference (headOn 2024 5 1 1) (record { values = value ∷ []; versions = 1 ∷ []; statuses = status ∷ [] }) (0 ∷ []) 0
 
--- a day that begins with four deliveries of e and a gap between each two, and one of `rest` among zeros; the dial goes from 0 to 110, with widths u and v
+-- a day that begins with four deliveries of e and a gap between each two, and one of `rest` among zeros; the dial goes from 0 to 110,
+-- with widths u and v
 abbrev pub day : ℕ → ℕ → ℕ → ℕ → Cells
 day e rest u v = record {
   slots = record {
@@ -65,7 +66,8 @@ scaled b x y z =
     let value : ℕ → ℕ = λ i. outcomeAt (headOn 2024 5 1 1) b i .value in
     eqb (value 1) x && eqb (value 3) y && eqb (value 5) z
 
--- a day that begins with a delivery of 40 with the outage bit, a gap agreed at 600 and a delivery of 50 agreed at 700; the rest are 0, and the dial goes from 0 to 690 (02, W1)
+-- a day that begins with a delivery of 40 with the outage bit, a gap agreed at 600 and a delivery of 50 agreed at 700; the rest are 0,
+-- and the dial goes from 0 to 690 (02, W1)
 abbrev pub agreedDay : Cells
 agreedDay = record {
   slots = record {
@@ -103,7 +105,8 @@ abbrev pub lineGives : ℕ → ℕ → ℕ → ℕ → ℕ → ℕ → Bool
 lineGives interval l g r j value =
     lineFills interval l g r j && eqb (linearValue (headOf interval 40000) (lineDay l g r) [] j) value
 
--- a book from Sunday 2024-05-05 on of which slot 0 alone has come, with these holiday cells on its first day and on day d: slot 0 is the one reference at position 0 of day d (02, W3)
+-- a book from Sunday 2024-05-05 on of which slot 0 alone has come, with these holiday cells on its first day and on day d: slot 0 is
+-- the one reference at position 0 of day d (02, W3)
 abbrev pub takesSunday : ℕ → ℕ → ℕ → Bool
 takesSunday first last d =
     eqb (sumOf (references (headOn 2024 5 5 400) (record { values = 620 ∷ []; versions = 1 ∷ []; statuses = 0 ∷ [] })
@@ -154,7 +157,8 @@ cases =
     ∷ agreedHas 2 50 isA 0
     ∷ eqb (actualSum (headOn 2024 5 1 1) agreedDay 0 1) 690
     ∷ eqb (stateOf (headOn 2024 5 1 1) agreedDay 0 1) 0
-    ∷ takesSunday 0 1 1 ∷ takesSunday 0 1 2 ∷ takesSunday 0 1 3 ∷ takesSunday 0 1 4 ∷ takesSunday 0 1 5 ∷ takesSunday 0 1 6 ∷ takesSunday 0 1 7
+    ∷ takesSunday 0 1 1 ∷ takesSunday 0 1 2 ∷ takesSunday 0 1 3 ∷ takesSunday 0 1 4
+    ∷ takesSunday 0 1 5 ∷ takesSunday 0 1 6 ∷ takesSunday 0 1 7
     ∷ not (takesSunday 0 0 6) ∷ takesSunday 0 0 7
     ∷ takesSunday 0 1 370 ∷ not (takesSunday 0 1 371)
     ∷ not (takesSunday 1 1 6)
@@ -163,7 +167,8 @@ cases =
     ∷ ranges 25 50 10 0 35 ∷ ranges 25 0 0 25 25 ∷ ranges 100 50 10 50 110
     ∷ ranges 99999990 20 9 99999970 99999999 ∷ ranges 99999990 20 10 0 0 ∷ ranges 99999990 20 15 0 5
     ∷ heldTo 49 50 ∷ heldTo 50 50 ∷ heldTo 51 51 ∷ heldTo 110 110 ∷ heldTo 111 110
-    ∷ rangeState 40 9 3 ∷ rangeState 40 10 0 ∷ rangeState 50 0 0 ∷ rangeState 70 0 0 ∷ rangeState 110 0 0 ∷ rangeState 120 10 0 ∷ rangeState 120 9 3
+    ∷ rangeState 40 9 3 ∷ rangeState 40 10 0 ∷ rangeState 50 0 0 ∷ rangeState 70 0 0
+    ∷ rangeState 110 0 0 ∷ rangeState 120 10 0 ∷ rangeState 120 9 3
     ∷ dayHeldTo 5 20 105 ∷ scaled (day 1 96 5 20) 1 2 2
     ∷ dayHeldTo 15 20 100 ∷ scaled (day 1 96 15 20) 0 0 0
     ∷ []

@@ -1,2 +1,3 @@
 pub mod Cases
 pub mod Whole
+pub mod Nem12

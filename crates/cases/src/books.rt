@@ -121,7 +121,8 @@ fn deliver_row(
     )
 }
 
-// One row of five numbers: 1 first end value status | 2 day 0 0 0 | 3 boundary version reading width | 4 slot version value 0 | 5 slot version value status.
+// One row of five numbers: 1 first end value status | 2 day 0 0 0 | 3 boundary version reading width | 4 slot version value 0
+// | 5 slot version value status.
 fn fill_row(
     head: Head,
     values: &mut [u32],

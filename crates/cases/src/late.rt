@@ -1,4 +1,5 @@
-// How far one late figure reaches (02, W14): a book is published before and after its last row, a delivery that is stored, and the records that moved are told.
+// How far one late figure reaches (02, W14): a book is published before and after its last row, a delivery that is stored, and the
+// records that moved are told.
 use crate::books;
 use crate::say;
 use rules::Head;

@@ -1,4 +1,4 @@
-// 01's section Cases and those of 02 as run code: each case is a small book, filled and published by the public calls, and a line of output.
+// 01's section Cases and those of 02 as run code: each case is a book, filled and published by the public calls, and a line of output.
 mod answers;
 mod books;
 mod draws;

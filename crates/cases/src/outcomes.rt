@@ -108,7 +108,8 @@ pub fn scaled() {
     scaled_case(b"R 110 V 100 e 0 0 0:", 0, 100);
 }
 
-// The last of 29 days has a gap between two deliveries of `line`, a gap at its end with the references `near` and `far`, 0 between, and an advance of 12.
+// The last of 29 days has a gap between two deliveries of `line`, a gap at its end with the references `near` and `far`, 0 between,
+// and an advance of 12.
 fn fitted_case(label: &[u8], line: u32, near: u32, far: u32) {
     let rows = [
         [1, 719, 720, far, 0],
@@ -123,7 +124,8 @@ fn fitted_case(label: &[u8], line: u32, near: u32, far: u32) {
     show(label, books::head_of(29, 30, 1), &rows, &slots);
 }
 
-// T is 10 and E 30, so the first gap gets 10 × 12 / 30, where rounded means of 1 and 1 give 5; then T is 12 and E 6; last T is 12, and each shape counts as 1.
+// T is 10 and E 30, so the first gap gets 10 × 12 / 30, where rounded means of 1 and 1 give 5; then T is 12 and E 6; last T is 12,
+// and each shape counts as 1.
 pub fn fitted() {
     fitted_case(b"shapes 12 and 18, T 10:", 1, 1, 2);
     fitted_case(b"shapes 0 and 6, T 12:", 0, 0, 1);

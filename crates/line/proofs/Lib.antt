@@ -1,3 +1,3 @@
-pub mod Adding
-pub mod Texts
 pub mod Digits
+pub mod Putting
+pub mod Lengths

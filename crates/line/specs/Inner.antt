@@ -1,2 +1,2 @@
 -- What the contracts of inner functions say. No definition of 01's rules stands here.
-pub mod Adding
+pub mod Writing

@@ -5,6 +5,7 @@ use mathlib.Core.Path.{_≡_}
 use Prim.Native.Nat.{ℕ, zero, suc, _+_, _/_, _%_, _≤_}
 use lib.Dec.{leb, ltb}
 use lib.ListN.{length, take, drop}
+use Rattle.base.specs.Text.{ascii}
 use Rattle.calendar.specs.declared.Date.{Date}
 use Rattle.calendar.specs.Calendar.{dateOf}
 use Rattle.file.specs.declared.Figures.{Figures}
@@ -30,28 +31,27 @@ decimal n = digits (places 19 n) n
 
 -- year-month-day
 unfoldable pub dateText : Date → List ℕ
-dateText d = digits 4 (d .year) ++ (45 ∷ digits 2 (d .month)) ++ (45 ∷ digits 2 (d .day))
+dateText d = digits 4 (d .year) ++ ascii "-" ++ digits 2 (d .month) ++ ascii "-" ++ digits 2 (d .day)
 
 -- a space and a number
 unfoldable pub field : ℕ → List ℕ
-field n = 32 ∷ decimal n
+field n = ascii " " ++ decimal n
 
 -- first day, D, L, the three counts, the sum
+abbrev pub headText : Figures → List ℕ
+headText g = dateText (dateOf (g .first)) ++ field (g .days) ++ field (g .interval)
+
+abbrev pub countsText : Figures → List ℕ
+countsText g = field (g .actual) ++ field (g .substituted) ++ field (g .none)
+
 unfoldable pub figuresText : Figures → List ℕ
-figuresText g =
-    dateText (dateOf (g .first)) ++ field (g .days) ++ field (g .interval)
-    ++ field (g .actual) ++ field (g .substituted) ++ field (g .none)
-    ++ field (g .sum)
+figuresText g = headText g ++ countsText g ++ field (g .sum)
 
--- `refused`, `too long` and the line's end
 abbrev pub refused : List ℕ
-refused = 114 ∷ 101 ∷ 102 ∷ 117 ∷ 115 ∷ 101 ∷ 100 ∷ []
-
-abbrev pub tooLong : List ℕ
-tooLong = 116 ∷ 111 ∷ 111 ∷ 32 ∷ 108 ∷ 111 ∷ 110 ∷ 103 ∷ []
+refused = ascii "refused"
 
 abbrev pub newline : List ℕ
-newline = 10 ∷ []
+newline = ascii "\n"
 
 -- each case of the reader's answer: the figures, or the refusal's number
 unfoldable pub answerText : Verdict → List ℕ
@@ -60,7 +60,7 @@ answerText (Refused number) = refused ++ field number
 
 -- a file of at most 65,536 bytes
 unfoldable pub line : List ℕ → List ℕ
-line bs = cond (leb (length bs) 65536) (answerText (readFile bs)) tooLong ++ newline
+line bs = cond (leb (length bs) 65_536) (answerText (readFile bs)) (ascii "too long") ++ newline
 
 -- what a call leaves in a buffer: a text in the first r bytes; the bytes after it stay
 pub record AtStart (before after : List ℕ) (r : ℕ) (text : List ℕ) : Type 0 where

@@ -1,14 +1,18 @@
 // The line that is written of a file (01, The published file: 'A program reads a file'), put into a lent buffer.
+pub mod writing;
+
 use calendar::Date;
 use file::Figures;
 use file::Verdict;
+use writing::put_decimal;
+use writing::put_digits;
+use writing::put_text;
 ghost use mathlib.Core.Path.{_≡_};
 ghost use mathlib.Core.List.{_++_};
-ghost use Prim.Native.Nat.{_+_, _<_, _≤_};
-ghost use lib.ListN.{length};
-ghost use Rattle.calendar.specs.Calendar.{dateOf};
-ghost use Rattle.line.specs.Line.{digits, places as Line·places, dateText, field, figuresText, refused, newline, line as Line·line, AtStart, figuresAnswer, figuresAfter, lineAnswer, lineAfter};
-ghost use Rattle.line.specs.Inner.Adding.{Added};
+ghost use Prim.Native.Nat.{_<_};
+ghost use Rattle.line.specs.Line.{dateText, field, headText, countsText, figuresText, refused, newline, line as Line·line};
+ghost use Rattle.line.specs.Line.{AtStart, figuresAnswer, figuresAfter, lineAnswer, lineAfter};
+ghost use Rattle.line.specs.Inner.Writing.{Added};
 
 // What putting the line of a file into a buffer of any length answers.
 pub enum Lined {
@@ -16,57 +20,12 @@ pub enum Lined {
     Refused(u8),
 }
 
-// Copies `text` to `at` and on, and answers the place after it.
-fn put_text(out: &mut [u8], at: usize, text: &[u8]) -> usize
-    requires { ⌜ at + length (now text) ≤ length (now out) ⌝ }
-    ensures { λ r. ⌜ Added (now (out .entry)) at (now (out .exit)) r (now (text .entry)) ⌝ }
-{
-    let mut i = 0;
-    while i < text.len() {
-        out[at + i] = text[i];
-        i += 1;
-    }
-    at + text.len()
-}
-
-// The digits of `n`.
-pub fn places(n: u64) -> usize
-    ensures { λ r. ⌜ (r ≡ Line·places 19 n) × (r ≤ 20) ⌝ }
-{
-    let mut k = 1;
-    let mut rest = n;
-    while k < 20 {
-        if rest < 10 {
-            return k;
-        }
-        rest /= 10;
-        k += 1;
-    }
-    k
-}
-
-// Writes the last `width` digits of `n` at `at`, and answers the place after them.
-fn put_digits(out: &mut [u8], at: usize, width: usize, n: u64) -> usize
-    requires { ⌜ at + width ≤ length (now out) ⌝ }
-    ensures { λ r. ⌜ Added (now (out .entry)) at (now (out .exit)) r (digits width n) × (r ≡ at + width) ⌝ }
-{
-    let mut rest = n;
-    let mut j = width;
-    while 0 < j {
-        j -= 1;
-        out[at + j] = 48 + (rest % 10) as u8;
-        rest /= 10;
-    }
-    at + width
-}
-
 // A space and a number.
 fn put_field(out: &mut [u8], at: usize, n: u64) -> usize
-    requires { ⌜ at + 21 ≤ length (now out) ⌝ }
-    ensures { λ r. ⌜ Added (now (out .entry)) at (now (out .exit)) r (field n) × (r ≤ at + 21) ⌝ }
+    ensures { λ r. ⌜ Added (now (out .entry)) at (now (out .exit)) r (field n) ⌝ }
 {
     let from = put_text(out, at, b" ");
-    put_digits(out, from, places(n), n)
+    put_decimal(out, from, n)
 }
 
 // Puts a space and `n` at the start of `out`, and answers their length.
@@ -78,8 +37,7 @@ pub fn number(n: u64, out: &mut [u8; 21]) -> usize
 
 // A date, at the start.
 fn put_date(out: &mut [u8], date: Date) -> usize
-    requires { ⌜ 10 ≤ length (now out) ⌝ }
-    ensures { λ r. ⌜ Added (now (out .entry)) 0 (now (out .exit)) r (dateText date) × (r ≡ 10) ⌝ }
+    ensures { λ r. ⌜ Added (now (out .entry)) 0 (now (out .exit)) r (dateText date) ⌝ }
 {
     let year = put_digits(out, 0, 4, date.year as u64);
     let first = put_text(out, year, b"-");
@@ -90,8 +48,8 @@ fn put_date(out: &mut [u8], date: Date) -> usize
 
 // The first day, D and L, at the start.
 fn put_head(out: &mut [u8], g: Figures) -> usize
-    requires { ⌜ (52 ≤ length (now out)) × (g .first < 36525) ⌝ }
-    ensures { λ r. ⌜ Added (now (out .entry)) 0 (now (out .exit)) r (dateText (dateOf (g .first)) ++ field (g .days) ++ field (g .interval)) × (r ≤ 52) ⌝ }
+    requires { ⌜ g .first < 36_525 ⌝ }
+    ensures { λ r. ⌜ Added (now (out .entry)) 0 (now (out .exit)) r (headText g) ⌝ }
 {
     let date = put_date(out, calendar::date_of(g.first));
     let days = put_field(out, date, g.days as u64);
@@ -100,8 +58,7 @@ fn put_head(out: &mut [u8], g: Figures) -> usize
 
 // The counts of A, S and N slots.
 fn put_counts(out: &mut [u8], at: usize, g: Figures) -> usize
-    requires { ⌜ at + 63 ≤ length (now out) ⌝ }
-    ensures { λ r. ⌜ Added (now (out .entry)) at (now (out .exit)) r (field (g .actual) ++ field (g .substituted) ++ field (g .none)) × (r ≤ at + 63) ⌝ }
+    ensures { λ r. ⌜ Added (now (out .entry)) at (now (out .exit)) r (countsText g) ⌝ }
 {
     let actual = put_field(out, at, g.actual as u64);
     let substituted = put_field(out, actual, g.substituted as u64);
@@ -110,8 +67,8 @@ fn put_counts(out: &mut [u8], at: usize, g: Figures) -> usize
 
 // A file's figures, at the start.
 fn put_line(out: &mut [u8], g: Figures) -> usize
-    requires { ⌜ (160 ≤ length (now out)) × (g .first < 36525) ⌝ }
-    ensures { λ r. ⌜ Added (now (out .entry)) 0 (now (out .exit)) r (figuresText g) × (r ≤ 136) ⌝ }
+    requires { ⌜ g .first < 36_525 ⌝ }
+    ensures { λ r. ⌜ Added (now (out .entry)) 0 (now (out .exit)) r (figuresText g) ⌝ }
 {
     let head = put_head(out, g);
     let counts = put_counts(out, head, g);
@@ -120,8 +77,8 @@ fn put_line(out: &mut [u8], g: Figures) -> usize
 
 // The line of a file's figures.
 fn put_figures(out: &mut [u8], g: Figures) -> usize
-    requires { ⌜ (160 ≤ length (now out)) × (g .first < 36525) ⌝ }
-    ensures { λ r. ⌜ Added (now (out .entry)) 0 (now (out .exit)) r (figuresText g ++ newline) × (r ≤ 160) ⌝ }
+    requires { ⌜ g .first < 36_525 ⌝ }
+    ensures { λ r. ⌜ Added (now (out .entry)) 0 (now (out .exit)) r (figuresText g ++ newline) ⌝ }
 {
     let end = put_line(out, g);
     put_text(out, end, b"\n")
@@ -129,8 +86,7 @@ fn put_figures(out: &mut [u8], g: Figures) -> usize
 
 // The line of a refused file.
 fn put_refusal(out: &mut [u8], number: u8) -> usize
-    requires { ⌜ 160 ≤ length (now out) ⌝ }
-    ensures { λ r. ⌜ Added (now (out .entry)) 0 (now (out .exit)) r (refused ++ field number ++ newline) × (r ≤ 160) ⌝ }
+    ensures { λ r. ⌜ Added (now (out .entry)) 0 (now (out .exit)) r (refused ++ field number ++ newline) ⌝ }
 {
     let word = put_text(out, 0, b"refused");
     let end = put_field(out, word, number as u64);
@@ -141,7 +97,7 @@ fn put_refusal(out: &mut [u8], number: u8) -> usize
 pub fn line(bytes: &[u8], out: &mut [u8; 160]) -> usize
     ensures { λ r. ⌜ AtStart (now (out .entry)) (now (out .exit)) r (Line·line (now (bytes .entry))) ⌝ }
 {
-    if 65536 < bytes.len() {
+    if 65_536 < bytes.len() {
         return put_text(out, 0, b"too long\n");
     }
     match file::read(bytes) {
@@ -150,21 +106,20 @@ pub fn line(bytes: &[u8], out: &mut [u8; 160]) -> usize
     }
 }
 
-// The figures of an accepted file, copied where they have room.
-fn copy_line(out: &mut [u8], g: Figures) -> Lined
-    requires { ⌜ g .first < 36525 ⌝ }
+// The figures of an accepted file, where they have room.
+fn fit_line(out: &mut [u8], g: Figures) -> Lined
+    requires { ⌜ g .first < 36_525 ⌝ }
     ensures { λ r. ⌜
         (r ≡ figuresAnswer g (now (out .entry)))
         × (now (out .exit) ≡ figuresAfter g (now (out .entry)))
         ⌝ }
 {
-    let mut text = [0u8; 160];
-    let n = put_line(&mut text, g);
+    let mut aside = [0u8; 1];
+    let n = put_line(&mut aside, g);
     if out.len() < n {
         return Lined::Refused(7);
     }
-    put_text(out, 0, &text[..n]);
-    Lined::Length(n)
+    Lined::Length(put_line(out, g))
 }
 
 // Puts the line of a file of any length, without a line end, at the start of `out`.
@@ -176,7 +131,7 @@ pub fn file_line(bytes: &[u8], out: &mut [u8]) -> Lined
 {
     let verdict = file::read(bytes);
     match verdict {
-        Verdict::Accepted(g) => copy_line(out, g),
+        Verdict::Accepted(g) => fit_line(out, g),
         Verdict::Refused(number) => Lined::Refused(number),
     }
 }

@@ -22,8 +22,9 @@ use Rattle.market.specs.declared.checks.Class.the-variants.{Plain, Digit
 use Rattle.market.specs.Fields.{Texts}
 use Rattle.market.specs.Records.{record900}
 use Rattle.market.specs.Export.{contentOf, bodyOf, exportOf, allOf, identifierOk, timeOk, codesOk, suppliedTests, suppliedOk, answerFor, exportAnswer, exportAfter}
-use Rattle.market.specs.Inner.Writing.{capped, Added, Tabled}
-use Rattle.market.proofs.Putting.{capped-low, capped-high, stored-all}
+use Rattle.line.specs.Inner.Writing.{capped, Added}
+use Rattle.market.specs.Inner.Writing.{Tabled}
+use Rattle.line.proofs.Putting.{capped-low, capped-high, stored-all}
 
 -- ---- What is supplied
 

@@ -24,7 +24,8 @@ use Rattle.market.specs.declared.Codes.{Codes}
 use Rattle.market.specs.declared.Exported.the-variants.{Length}
 use Rattle.market.specs.declared.marks.Mark.{Mark}
 use Rattle.market.specs.Fields.{Texts, field, fields, hasCode, codeFor, markOf}
-use Rattle.market.specs.Records.{code200, record100, record200, record900, daysOf}
+use Rattle.base.specs.Text.{ascii}
+use Rattle.market.specs.Records.{record100, record200, record900, daysOf}
 use Rattle.market.specs.Export.{Content, contentOf, bodyOf, exportOf, codesOk, suppliedTests, suppliedOk, exportAnswer, exportAfter}
 use Rattle.market.specs.Claim.{SameContent, EqualExactly}
 use Rattle.market.proofs.Answers.{figures-are, tabled, answer-is}
@@ -45,12 +46,12 @@ split-200 : (identifier configuration register suffix stream serial nextRead : L
 unfolding record200 fields
 split-200 identifier configuration register suffix stream serial nextRead l m p q r r′ e =
     let unit : List ℕ = field (107 ∷ 87 ∷ 104 ∷ []) in
-    let front : List ℕ = code200 ++ (field identifier ++ (field configuration ++ (field register ++ (field suffix ++ (field stream ++ (field serial ++ unit)))))) in
+    let front : List ℕ = ascii "200" ++ (field identifier ++ (field configuration ++ (field register ++ (field suffix ++ (field stream ++ (field serial ++ unit)))))) in
     let end : List ℕ = nextRead ++ (13 ∷ 10 ∷ []) in
     let parts : (x s : List ℕ)
-    → (code200 ++ (field identifier ++ (field configuration ++ (field register ++ (field suffix ++ (field stream ++ (field serial ++ (unit ++ x)))))))) ++ s
+    → (ascii "200" ++ (field identifier ++ (field configuration ++ (field register ++ (field suffix ++ (field stream ++ (field serial ++ (unit ++ x)))))))) ++ s
     ≡ front ++ (x ++ s) =
-    λ x s. front-parts code200 (field identifier) (field configuration) (field register) (field suffix) (field stream) (field serial) unit x s in
+    λ x s. front-parts (ascii "200") (field identifier) (field configuration) (field register) (field suffix) (field stream) (field serial) unit x s in
     let flat =
     append-cancel-left front _ _
     (sym (parts (field (decimal l) ++ (44 ∷ end)) r) ∙ e ∙ parts (field (decimal m) ++ (44 ∷ end)) r′) in

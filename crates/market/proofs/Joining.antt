@@ -11,8 +11,8 @@ use Rattle.line.specs.Line.{digits}
 use Rattle.market.specs.declared.marks.Mark.{Mark}
 use Rattle.market.specs.Fields.{field, joined, hasCode, marked, oneMark, endsRun, startOf, dayMark}
 use Rattle.market.specs.Records.{record300, record400, runs, dayRecords}
-use Rattle.market.specs.Inner.Writing.{Added}
-use Rattle.market.proofs.Putting.{nothing, then, same}
+use Rattle.line.specs.Inner.Writing.{Added}
+use Rattle.line.proofs.Putting.{nothing, then, same}
 
 -- ---- A list of texts
 

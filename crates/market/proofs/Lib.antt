@@ -1,4 +1,3 @@
-pub mod Putting
 pub mod Joining
 pub mod Answers
 pub mod Numerals
@@ -8,4 +7,3 @@ pub mod RunSplits
 pub mod DaySplits
 pub mod SameText
 pub mod Exact
-pub mod Cases

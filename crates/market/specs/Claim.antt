@@ -29,7 +29,8 @@ abbrev pub EqualExactly : Type 0
 EqualExactly =
     (bs cs : List ℕ) → Bytes bs → Bytes cs → (t : Texts) (codes : Codes) (out other : List ℕ) (m n : ℕ)
     → exportAnswer bs t codes out ≡ Length m → exportAnswer cs t codes other ≡ Length n
-    → ((m ≡ n) × (take m (exportAfter bs t codes out) ≡ take n (exportAfter cs t codes other))) ↔ SameContent (contentOf codes bs) (contentOf codes cs)
+    → ((m ≡ n) × (take m (exportAfter bs t codes out) ≡ take n (exportAfter cs t codes other)))
+    ↔ SameContent (contentOf codes bs) (contentOf codes cs)
 
 -- ---- "a 400 for each longest run alike in both"
 

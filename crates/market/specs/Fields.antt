@@ -2,8 +2,10 @@
 use mathlib.Core.Bool.{Bool, true, false, cond, not, _&&_, _||_}
 use mathlib.Core.List.{List, [], _∷_, _++_}
 use Prim.Native.Nat.{ℕ, zero, suc, _+_, _/_}
+use denote.Ref.{RefT, now}
 use lib.Dec.{eqb}
 use Rattle.base.specs.Lists.{all}
+use Rattle.base.specs.Text.{ascii}
 use Rattle.calendar.specs.Calendar.{dateOf}
 use Rattle.rules.specs.declared.Quality.the-variants.{S, F}
 use Rattle.file.specs.declared.slots.SlotRecord.{SlotRecord}
@@ -41,15 +43,22 @@ texts identifier from to configuration register suffix stream serial nextRead re
   created = created;
 }
 
+-- lent, as the contracts name them
+abbrev pub lentTexts : RefT (List ℕ) → RefT (List ℕ) → RefT (List ℕ) → RefT (List ℕ) → RefT (List ℕ) → RefT (List ℕ) → RefT (List ℕ)
+    → RefT (List ℕ) → RefT (List ℕ) → RefT (List ℕ) → RefT (List ℕ) → Texts
+lentTexts identifier from to configuration register suffix stream serial nextRead reason created =
+    texts (now identifier) (now from) (now to) (now configuration) (now register) (now suffix) (now stream) (now serial) (now nextRead)
+    (now reason) (now created)
+
 -- ---- Fields and records
 
 -- each field behind a record's first is a comma and a text
 abbrev pub field : List ℕ → List ℕ
-field s = 44 ∷ s
+field s = ascii "," ++ s
 
 -- such fields, and the record's end, 0x0D 0x0A
 unfoldable pub fields : List (List ℕ) → List ℕ
-fields [] = 13 ∷ 10 ∷ []
+fields [] = ascii "\r\n"
 fields (s ∷ ss) = field s ++ fields ss
 
 -- what f gives at the k places from a, one behind another
@@ -61,7 +70,7 @@ joined f a (suc k) = joined f a k ++ f (a + k)
 
 -- a value in kWh with three decimals; no leading zero but that of 0.100
 unfoldable pub kwh : ℕ → List ℕ
-kwh v = decimal (v / 1000) ++ (46 ∷ digits 3 v)
+kwh v = decimal (v / 1000) ++ (ascii "." ++ digits 3 v)
 
 -- a day's date: YYYYMMDD
 unfoldable pub dateField : ℕ → List ℕ
@@ -85,7 +94,7 @@ codeFor c method =
 unfoldable pub markOf : Codes → SlotRecord → Mark
 markOf c r = record { letter = r .letter; code = cond (hasCode (r .letter)) (codeFor c (r .method)) 0 }
 
--- V in a 300 says that the quality varies
+-- V (86) in a 300 says that the quality varies
 abbrev pub varies : Mark
 varies = record { letter = 86; code = 0 }
 

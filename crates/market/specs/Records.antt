@@ -3,35 +3,33 @@ use mathlib.Core.Bool.{cond}
 use mathlib.Core.List.{List, [], _∷_, _++_}
 use Prim.Native.Nat.{ℕ, _+_, _*_}
 use lib.ListN.{take}
+use Rattle.base.specs.Text.{ascii}
 use Rattle.line.specs.Line.{decimal}
 use Rattle.market.specs.declared.marks.Mark.{Mark}
 use Rattle.market.specs.Fields.{field, fields, joined, kwh, dateField, marked, oneMark, endsRun, startOf, dayMark}
 
 -- 100, NEM12, the creation time's first 12 digits, FromParticipant, ToParticipant
 unfoldable pub record100 : List ℕ → List ℕ → List ℕ → List ℕ
-record100 created from to = (49 ∷ 48 ∷ 48 ∷ []) ++ fields ((78 ∷ 69 ∷ 77 ∷ 49 ∷ 50 ∷ []) ∷ take 12 created ∷ from ∷ to ∷ [])
-
-abbrev pub code200 : List ℕ
-code200 = 50 ∷ 48 ∷ 48 ∷ []
+record100 created from to = ascii "100" ++ fields (ascii "NEM12" ∷ take 12 created ∷ from ∷ to ∷ [])
 
 -- 200, NMI, NMIConfiguration, RegisterID, NMISuffix, MDMDataStreamIdentifier, MeterSerialNumber, kWh, L, NextScheduledReadDate
 unfoldable pub record200 : List ℕ → List ℕ → List ℕ → List ℕ → List ℕ → List ℕ → ℕ → List ℕ → List ℕ
 record200 identifier configuration register suffix stream serial interval nextRead =
-    code200
-    ++ fields (identifier ∷ configuration ∷ register ∷ suffix ∷ stream ∷ serial ∷ (107 ∷ 87 ∷ 104 ∷ []) ∷ decimal interval ∷ nextRead ∷ [])
+    ascii "200"
+    ++ fields (identifier ∷ configuration ∷ register ∷ suffix ∷ stream ∷ serial ∷ ascii "kWh" ∷ decimal interval ∷ nextRead ∷ [])
 
 -- 300, the date, the values of the n slots from slot a, quality and reason, the creation time whole, an empty field
 unfoldable pub record300 : List ℕ → List ℕ → ℕ → (ℕ → ℕ) → ℕ → ℕ → Mark → List ℕ
 record300 reason created day value a n m =
-    (51 ∷ 48 ∷ 48 ∷ [])
+    ascii "300"
     ++ (field (dateField day) ++ (joined (λ i. field (kwh (value i))) a n ++ (marked m reason ++ fields (created ∷ [] ∷ []))))
 
 -- 400, the run's first and last interval, counted from 1, quality and reason
 unfoldable pub record400 : List ℕ → ℕ → ℕ → Mark → List ℕ
-record400 reason start end m = (52 ∷ 48 ∷ 48 ∷ []) ++ (field (decimal start) ++ (field (decimal end) ++ (marked m reason ++ fields [])))
+record400 reason start end m = ascii "400" ++ (field (decimal start) ++ (field (decimal end) ++ (marked m reason ++ fields [])))
 
 abbrev pub record900 : List ℕ
-record900 = 57 ∷ 48 ∷ 48 ∷ 13 ∷ 10 ∷ []
+record900 = ascii "900\r\n"
 
 -- a 400 for each longest run alike in both
 unfoldable pub runs : List ℕ → (ℕ → Mark) → ℕ → ℕ → List ℕ

@@ -133,7 +133,13 @@ fn are_headers(
     serial: &[u8],
     next_read: &[u8],
 ) -> bool
-    ensures { λ r. ⌜ r ≡ every ((allOf Plain (now (from .entry)) && allOf Plain (now (to .entry))) ∷ (allOf Plain (now (configuration .entry)) && allOf Plain (now (register .entry))) ∷ (allOf Plain (now (suffix .entry)) && allOf Plain (now (stream .entry))) ∷ (allOf Plain (now (serial .entry)) && allOf Plain (now («next_read» .entry))) ∷ []) ⌝ }
+    ensures { λ r. ⌜
+        r ≡ every ((allOf Plain (now (from .entry)) && allOf Plain (now (to .entry)))
+        ∷ (allOf Plain (now (configuration .entry)) && allOf Plain (now (register .entry)))
+        ∷ (allOf Plain (now (suffix .entry)) && allOf Plain (now (stream .entry)))
+        ∷ (allOf Plain (now (serial .entry)) && allOf Plain (now («next_read» .entry)))
+        ∷ [])
+        ⌝ }
 {
     if !are_plain(from, to) {
         return false;
@@ -174,7 +180,12 @@ pub fn are_supplied(
     created: &[u8],
     codes: Codes,
 ) -> bool
-    ensures { λ r. ⌜ r ≡ suppliedOk (texts [] (now (from .entry)) (now (to .entry)) (now (configuration .entry)) (now (register .entry)) (now (suffix .entry)) (now (stream .entry)) (now (serial .entry)) (now («next_read» .entry)) (now (reason .entry)) (now (created .entry))) codes ⌝ }
+    ensures { λ r. ⌜
+        (let given =
+        texts [] (now (from .entry)) (now (to .entry)) (now (configuration .entry)) (now (register .entry)) (now (suffix .entry))
+        (now (stream .entry)) (now (serial .entry)) (now («next_read» .entry)) (now (reason .entry)) (now (created .entry)) in
+        r ≡ suppliedOk given codes)
+        ⌝ }
 {
     if !are_headers(
         from,

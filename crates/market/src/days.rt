@@ -2,20 +2,22 @@
 use crate::Codes;
 use crate::marks;
 use crate::marks::Mark;
-use crate::writing::put_digits;
 use crate::writing::put_field;
 use crate::writing::put_number;
-use crate::writing::put_text;
 use file::fields;
+use line::writing::put_digits;
+use line::writing::put_text;
 ghost use mathlib.Core.Bool.{cond};
 ghost use mathlib.Core.List.{[]};
 ghost use mathlib.Core.Path.{_≡_};
-ghost use Prim.Native.Nat.{_+_, _*_, _≤_, _<_};
+ghost use Prim.Native.Nat.{ℕ, _+_, _*_, _≤_, _<_};
 ghost use lib.ListN.{length};
 ghost use Rattle.file.specs.Reader.{slotAt};
+ghost use Rattle.market.specs.declared.marks.Mark.{Mark};
 ghost use Rattle.market.specs.Fields.{field, joined, kwh, dateField, markOf};
 ghost use Rattle.market.specs.Records.{record300, record400, runs, dayRecords, daysOf};
-ghost use Rattle.market.specs.Inner.Writing.{Added, Tabled};
+ghost use Rattle.line.specs.Inner.Writing.{Added};
+ghost use Rattle.market.specs.Inner.Writing.{Tabled};
 
 // The day `number` has the slots from slot `from` on.
 pub struct Day {
@@ -38,7 +40,10 @@ fn put_value(out: &mut [u8], at: usize, file: &[u8], i: usize) -> usize
 // The values of the `k` slots from slot `a`.
 fn put_values(out: &mut [u8], at: usize, file: &[u8], a: usize, k: usize) -> usize
     requires { ⌜ 6 * (a + k) ≤ length (now file) ⌝ }
-    ensures { λ r. ⌜ Added (now (out .entry)) at (now (out .exit)) r (joined (λ i. field (kwh (slotAt (now (file .entry)) i .value))) a k) ⌝ }
+    ensures { λ r. ⌜
+        (let value : ℕ → ℕ = λ i. slotAt (now (file .entry)) i .value in
+        Added (now (out .entry)) at (now (out .exit)) r (joined (λ i. field (kwh (value i))) a k))
+        ⌝ }
 {
     let mut next = at;
     let mut i = 0;
@@ -50,7 +55,7 @@ fn put_values(out: &mut [u8], at: usize, file: &[u8], a: usize, k: usize) -> usi
 }
 
 fn put_date(out: &mut [u8], at: usize, number: u32) -> usize
-    requires { ⌜ number < 36525 ⌝ }
+    requires { ⌜ number < 36_525 ⌝ }
     ensures { λ r. ⌜ Added (now (out .entry)) at (now (out .exit)) r (dateField number) ⌝ }
 {
     let date = calendar::date_of(number);
@@ -69,8 +74,12 @@ fn put_300(
     reason: &[u8],
     created: &[u8],
 ) -> usize
-    requires { ⌜ (6 * (day .from + day .slots) ≤ length (now file)) × (day .number < 36525) ⌝ }
-    ensures { λ r. ⌜ Added (now (out .entry)) at (now (out .exit)) r (record300 (now (reason .entry)) (now (created .entry)) (day .number) (λ i. slotAt (now (file .entry)) i .value) (day .from) (day .slots) mark) ⌝ }
+    requires { ⌜ (6 * (day .from + day .slots) ≤ length (now file)) × (day .number < 36_525) ⌝ }
+    ensures { λ r. ⌜
+        (let value : ℕ → ℕ = λ i. slotAt (now (file .entry)) i .value in
+        let text = record300 (now (reason .entry)) (now (created .entry)) (day .number) value (day .from) (day .slots) mark in
+        Added (now (out .entry)) at (now (out .exit)) r text)
+        ⌝ }
 {
     let code = put_text(out, at, b"300,");
     let date = put_date(out, code, day.number);
@@ -130,7 +139,10 @@ fn put_runs(
     reason: &[u8],
 ) -> usize
     requires { ⌜ 6 * (a + n) ≤ length (now file) ⌝ }
-    ensures { λ r. ⌜ Added (now (out .entry)) at (now (out .exit)) r (runs (now (reason .entry)) (λ i. markOf codes (slotAt (now (file .entry)) i)) a n) ⌝ }
+    ensures { λ r. ⌜
+        (let marks : ℕ → Mark = λ i. markOf codes (slotAt (now (file .entry)) i) in
+        Added (now (out .entry)) at (now (out .exit)) r (runs (now (reason .entry)) marks a n))
+        ⌝ }
 {
     let mut next = at;
     let mut start = 0;
@@ -155,8 +167,13 @@ fn put_day(
     reason: &[u8],
     created: &[u8],
 ) -> usize
-    requires { ⌜ (6 * (day .from + day .slots) ≤ length (now file)) × (1 ≤ day .slots) × (day .number < 36525) ⌝ }
-    ensures { λ r. ⌜ Added (now (out .entry)) at (now (out .exit)) r (dayRecords (now (reason .entry)) (now (created .entry)) (day .number) (λ i. slotAt (now (file .entry)) i .value) (λ i. markOf codes (slotAt (now (file .entry)) i)) (day .from) (day .slots)) ⌝ }
+    requires { ⌜ (6 * (day .from + day .slots) ≤ length (now file)) × (1 ≤ day .slots) × (day .number < 36_525) ⌝ }
+    ensures { λ r. ⌜
+        (let value : ℕ → ℕ = λ i. slotAt (now (file .entry)) i .value in
+        let marks : ℕ → Mark = λ i. markOf codes (slotAt (now (file .entry)) i) in
+        let text = dayRecords (now (reason .entry)) (now (created .entry)) (day .number) value marks (day .from) (day .slots) in
+        Added (now (out .entry)) at (now (out .exit)) r text)
+        ⌝ }
 {
     let one = marks::is_one(file, codes, day.from, day.slots);
     let mark = marks::day_mark(file, codes, day.from, one);
@@ -180,7 +197,11 @@ pub fn put_days(
     created: &[u8],
 ) -> usize
     requires { ⌜ Tabled (now file) first n days ⌝ }
-    ensures { λ r. ⌜ Added (now (out .entry)) at (now (out .exit)) r (daysOf (now (reason .entry)) (now (created .entry)) first (λ i. slotAt (now (file .entry)) i .value) (λ i. markOf codes (slotAt (now (file .entry)) i)) n days) ⌝ }
+    ensures { λ r. ⌜
+        (let value : ℕ → ℕ = λ i. slotAt (now (file .entry)) i .value in
+        let marks : ℕ → Mark = λ i. markOf codes (slotAt (now (file .entry)) i) in
+        Added (now (out .entry)) at (now (out .exit)) r (daysOf (now (reason .entry)) (now (created .entry)) first value marks n days))
+        ⌝ }
 {
     let mut next = at;
     let mut d: u32 = 0;

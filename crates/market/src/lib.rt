@@ -7,6 +7,7 @@ mod writing;
 
 use file::Figures;
 use file::Verdict;
+use line::writing::put_text;
 ghost use mathlib.Core.Bool.{true};
 ghost use mathlib.Core.Path.{_≡_};
 ghost use Prim.Native.Nat.{_+_, _^_, _<_};
@@ -14,9 +15,9 @@ ghost use lib.Dec.{leb};
 ghost use lib.ListN.{length};
 ghost use Rattle.file.specs.declared.Verdict.the-variants.{Accepted};
 ghost use Rattle.file.specs.Reader.{readFile};
-ghost use Rattle.market.specs.Fields.{texts};
+ghost use Rattle.market.specs.Fields.{lentTexts};
 ghost use Rattle.market.specs.Export.{contentOf, bodyOf, identifierOk, suppliedOk, exportAnswer, exportAfter};
-ghost use Rattle.market.specs.Inner.Writing.{capped, Added};
+ghost use Rattle.line.specs.Inner.Writing.{capped, Added};
 
 // The method codes that the caller gives for the methods 2, 3, 5, 18 and 19.
 pub struct Codes {
@@ -52,7 +53,11 @@ fn put_body(
     codes: Codes,
 ) -> usize
     requires { ⌜ (readFile (now file) ≡ Accepted g) × (length (now created) ≡ 14) ⌝ }
-    ensures { λ r. ⌜ Added (now (out .entry)) 0 (now (out .exit)) r (bodyOf (texts (now (identifier .entry)) (now (from .entry)) (now (to .entry)) (now (configuration .entry)) (now (register .entry)) (now (suffix .entry)) (now (stream .entry)) (now (serial .entry)) (now («next_read» .entry)) (now (reason .entry)) (now (created .entry))) (contentOf codes (now (file .entry)))) ⌝ }
+    ensures { λ r. ⌜
+        (let texts = lentTexts (identifier .entry) (from .entry) (to .entry) (configuration .entry) (register .entry) (suffix .entry)
+        (stream .entry) (serial .entry) («next_read» .entry) (reason .entry) (created .entry) in
+        Added (now (out .entry)) 0 (now (out .exit)) r (bodyOf texts (contentOf codes (now (file .entry)))))
+        ⌝ }
 {
     let head = headers::put_100(out, 0, created, from, to);
     let meter = headers::put_200(
@@ -89,7 +94,11 @@ fn body_length(
     codes: Codes,
 ) -> usize
     requires { ⌜ (readFile (now file) ≡ Accepted g) × (length (now created) ≡ 14) ⌝ }
-    ensures { λ r. ⌜ r ≡ capped (length (bodyOf (texts (now (identifier .entry)) (now (from .entry)) (now (to .entry)) (now (configuration .entry)) (now (register .entry)) (now (suffix .entry)) (now (stream .entry)) (now (serial .entry)) (now («next_read» .entry)) (now (reason .entry)) (now (created .entry))) (contentOf codes (now (file .entry))))) ⌝ }
+    ensures { λ r. ⌜
+        (let texts = lentTexts (identifier .entry) (from .entry) (to .entry) (configuration .entry) (register .entry) (suffix .entry)
+        (stream .entry) (serial .entry) («next_read» .entry) (reason .entry) (created .entry) in
+        r ≡ capped (length (bodyOf texts (contentOf codes (now (file .entry))))))
+        ⌝ }
 {
     let mut aside = [0u8; 1];
     put_body(
@@ -139,8 +148,18 @@ fn export_in(
     codes: Codes,
     out: &mut [u8],
 ) -> Exported
-    requires { ⌜ (readFile (now file) ≡ Accepted g) × (identifierOk (now identifier) ≡ true) × (suppliedOk (texts (now identifier) (now from) (now to) (now configuration) (now register) (now suffix) (now stream) (now serial) (now «next_read») (now reason) (now created)) codes ≡ true) ⌝ }
-    ensures { λ r. ⌜ (r ≡ exportAnswer (now (file .entry)) (texts (now (identifier .entry)) (now (from .entry)) (now (to .entry)) (now (configuration .entry)) (now (register .entry)) (now (suffix .entry)) (now (stream .entry)) (now (serial .entry)) (now («next_read» .entry)) (now (reason .entry)) (now (created .entry))) codes (now (out .entry))) × (now (out .exit) ≡ exportAfter (now (file .entry)) (texts (now (identifier .entry)) (now (from .entry)) (now (to .entry)) (now (configuration .entry)) (now (register .entry)) (now (suffix .entry)) (now (stream .entry)) (now (serial .entry)) (now («next_read» .entry)) (now (reason .entry)) (now (created .entry))) codes (now (out .entry))) ⌝ }
+    requires { ⌜
+        (let texts = lentTexts identifier from to configuration register suffix stream serial «next_read» reason created in
+        (readFile (now file) ≡ Accepted g)
+        × (identifierOk (now identifier) ≡ true)
+        × (suppliedOk texts codes ≡ true))
+        ⌝ }
+    ensures { λ r. ⌜
+        (let texts = lentTexts (identifier .entry) (from .entry) (to .entry) (configuration .entry) (register .entry) (suffix .entry)
+        (stream .entry) (serial .entry) («next_read» .entry) (reason .entry) (created .entry) in
+        (r ≡ exportAnswer (now (file .entry)) texts codes (now (out .entry)))
+        × (now (out .exit) ≡ exportAfter (now (file .entry)) texts codes (now (out .entry))))
+        ⌝ }
 {
     let body = body_length(
         file,
@@ -178,7 +197,7 @@ fn export_in(
         created,
         codes,
     );
-    let length = writing::put_text(out, end, b"900\r\n");
+    let length = put_text(out, end, b"900\r\n");
     Exported::Length(length)
 }
 
@@ -201,7 +220,12 @@ fn export_of(
     out: &mut [u8],
 ) -> Exported
     requires { ⌜ readFile (now file) ≡ Accepted g ⌝ }
-    ensures { λ r. ⌜ (r ≡ exportAnswer (now (file .entry)) (texts (now (identifier .entry)) (now (from .entry)) (now (to .entry)) (now (configuration .entry)) (now (register .entry)) (now (suffix .entry)) (now (stream .entry)) (now (serial .entry)) (now («next_read» .entry)) (now (reason .entry)) (now (created .entry))) codes (now (out .entry))) × (now (out .exit) ≡ exportAfter (now (file .entry)) (texts (now (identifier .entry)) (now (from .entry)) (now (to .entry)) (now (configuration .entry)) (now (register .entry)) (now (suffix .entry)) (now (stream .entry)) (now (serial .entry)) (now («next_read» .entry)) (now (reason .entry)) (now (created .entry))) codes (now (out .entry))) ⌝ }
+    ensures { λ r. ⌜
+        (let texts = lentTexts (identifier .entry) (from .entry) (to .entry) (configuration .entry) (register .entry) (suffix .entry)
+        (stream .entry) (serial .entry) («next_read» .entry) (reason .entry) (created .entry) in
+        (r ≡ exportAnswer (now (file .entry)) texts codes (now (out .entry)))
+        × (now (out .exit) ≡ exportAfter (now (file .entry)) texts codes (now (out .entry))))
+        ⌝ }
 {
     if !checks::is_meter(identifier) {
         return Exported::Refused(14);
@@ -257,7 +281,12 @@ pub fn nem12(
     codes: Codes,
     out: &mut [u8],
 ) -> Exported
-    ensures { λ r. ⌜ (r ≡ exportAnswer (now (file .entry)) (texts (now (identifier .entry)) (now (from .entry)) (now (to .entry)) (now (configuration .entry)) (now (register .entry)) (now (suffix .entry)) (now (stream .entry)) (now (serial .entry)) (now («next_read» .entry)) (now (reason .entry)) (now (created .entry))) codes (now (out .entry))) × (now (out .exit) ≡ exportAfter (now (file .entry)) (texts (now (identifier .entry)) (now (from .entry)) (now (to .entry)) (now (configuration .entry)) (now (register .entry)) (now (suffix .entry)) (now (stream .entry)) (now (serial .entry)) (now («next_read» .entry)) (now (reason .entry)) (now (created .entry))) codes (now (out .entry))) ⌝ }
+    ensures { λ r. ⌜
+        (let texts = lentTexts (identifier .entry) (from .entry) (to .entry) (configuration .entry) (register .entry) (suffix .entry)
+        (stream .entry) (serial .entry) («next_read» .entry) (reason .entry) (created .entry) in
+        (r ≡ exportAnswer (now (file .entry)) texts codes (now (out .entry)))
+        × (now (out .exit) ≡ exportAfter (now (file .entry)) texts codes (now (out .entry))))
+        ⌝ }
 {
     match file::read(file) {
         Verdict::Accepted(g) => export_of(

@@ -1,14 +1,14 @@
 // A slot's written quality and method.
 use crate::Codes;
-use crate::writing::put_digits;
 use crate::writing::put_field;
-use crate::writing::put_text;
+use line::writing::put_digits;
+use line::writing::put_text;
 ghost use mathlib.Core.Path.{_≡_};
 ghost use Prim.Native.Nat.{_+_, _*_, _≤_};
 ghost use lib.ListN.{length};
 ghost use Rattle.file.specs.Reader.{slotAt};
 ghost use Rattle.market.specs.Fields.{hasCode, codeFor, markOf, alike, marked, oneMark, dayMark, endsRun};
-ghost use Rattle.market.specs.Inner.Writing.{Added};
+ghost use Rattle.line.specs.Inner.Writing.{Added};
 
 // The letter, and the method code that is written with it; 0 where none is.
 pub struct Mark {

@@ -1,66 +1,9 @@
-// Bytes put into a lent buffer as far as it reaches. Those behind its end are counted and not stored, so one pass gives the length alone.
-ghost use mathlib.Core.Path.{_≡_};
-ghost use Prim.Native.Nat.{_+_};
-ghost use lib.ListN.{set};
-ghost use Rattle.line.specs.Line.{digits, decimal};
+// Fields behind a record's first. Each function puts one from place `at` on and answers the place behind it.
+use line::writing::put_decimal;
+use line::writing::put_text;
+ghost use Rattle.line.specs.Line.{decimal};
+ghost use Rattle.line.specs.Inner.Writing.{Added};
 ghost use Rattle.market.specs.Fields.{field};
-ghost use Rattle.market.specs.Inner.Writing.{capped, Added};
-
-// The place `k` bytes on, at most the highest number.
-pub fn ahead(at: usize, k: usize) -> usize
-    ensures { λ r. ⌜ r ≡ capped (at + k) ⌝ }
-{
-    if 18446744073709551615 - at < k {
-        return 18446744073709551615;
-    }
-    at + k
-}
-
-// Stores a byte at place `at + j`, where the buffer has it.
-fn put_byte(out: &mut [u8], at: usize, j: usize, byte: u8)
-    ensures { λ _. ⌜ now (out .exit) ≡ set (now (out .entry)) (at + j) byte ⌝ }
-{
-    if out.len() <= at {
-        return;
-    }
-    if out.len() - at <= j {
-        return;
-    }
-    out[at + j] = byte;
-}
-
-// Each function below puts a text from place `at` on and answers the place behind it.
-pub fn put_text(out: &mut [u8], at: usize, text: &[u8]) -> usize
-    ensures { λ r. ⌜ Added (now (out .entry)) at (now (out .exit)) r (now (text .entry)) ⌝ }
-{
-    let mut i = 0;
-    while i < text.len() {
-        put_byte(out, at, i, text[i]);
-        i += 1;
-    }
-    ahead(at, text.len())
-}
-
-// The last `width` digits of `n`.
-pub fn put_digits(out: &mut [u8], at: usize, width: usize, n: u64) -> usize
-    ensures { λ r. ⌜ Added (now (out .entry)) at (now (out .exit)) r (digits width n) ⌝ }
-{
-    let mut rest = n;
-    let mut j = width;
-    while 0 < j {
-        j -= 1;
-        put_byte(out, at, j, 48 + (rest % 10) as u8);
-        rest /= 10;
-    }
-    ahead(at, width)
-}
-
-// A number with no leading zero.
-pub fn put_decimal(out: &mut [u8], at: usize, n: u64) -> usize
-    ensures { λ r. ⌜ Added (now (out .entry)) at (now (out .exit)) r (decimal n) ⌝ }
-{
-    put_digits(out, at, line::places(n), n)
-}
 
 // A comma and a text.
 pub fn put_field(out: &mut [u8], at: usize, text: &[u8]) -> usize

@@ -12,8 +12,8 @@ read-requires c κs = search needs
 enum-known-verdict : tie.Need-enum-known-verdict
 enum-known-verdict c = search needs
 
-copy-line-requires : tie.Need-copy-line-requires
-copy-line-requires c κs =
+fit-line-requires : tie.Need-fit-line-requires
+fit-line-requires c κs =
     first-lt (c .before .before .before .before .before .before .before .args .bytes .now) _ (sym (c .before .before .before .before .read .ensures) ∙ c .before .before .verdict .given .1)
 
 enum-known-verdict-2 : tie.Need-enum-known-verdict-2
@@ -27,7 +27,7 @@ unfolding lineAnswer lineAfter
 returns c =
     let made = c .before .before in
     let known = made .before .before .before in
-    rw (sym (known .before .before .read .ensures) ∙ known .verdict .given .1) (made .copy-line .ensures)
+    rw (sym (known .before .before .read .ensures) ∙ known .verdict .given .1) (made .fit-line .ensures)
 
 returns-2 : tie.Need-returns-2
 unfolding lineAnswer lineAfter
@@ -39,7 +39,7 @@ file-line-spec =
     (tie.spec
     read-requires
     enum-known-verdict
-    copy-line-requires
+    fit-line-requires
     enum-known-verdict-2
     same-length
     returns

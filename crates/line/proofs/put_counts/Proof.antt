@@ -1,7 +1,7 @@
 -- `line::put_counts` meets its contract.
 use native.Mathlib.Omega.{arith}
 use borrow.Author.Needs.{needs}
-use Rattle.line.proofs.Adding.{then}
+use Rattle.line.proofs.Putting.{then}
 use Rattle.line.proofs.put_counts.Statement.{statement}
 use Rattle.line.proofs.put_counts.Tie as tie
 
@@ -30,10 +30,8 @@ returns : tie.Need-returns
 returns c =
     let put-field = c .before .before .before .before .before .before .before .before .before .before .before .before .put-field in
     let put-field2 = c .before .before .before .before .before .before .before .put-field2 in
-    let put-field3 = c .before .before .put-field3 in (
-      then (then (put-field .ensures .0) (put-field2 .ensures .0)) (put-field3 .ensures .0),
-      omega (arith, put-field .ensures .1, put-field2 .ensures .1, put-field3 .ensures .1),
-    )
+    let put-field3 = c .before .before .put-field3 in
+    then (then (put-field .ensures) (put-field2 .ensures)) (put-field3 .ensures)
 
 pub put-counts-spec : {M : Type 1} → statement M
 put-counts-spec =

@@ -2,8 +2,8 @@
 use mathlib.Core.List.{[], _∷_}
 use native.Mathlib.Omega.{arith}
 use borrow.Author.Needs.{needs}
-use Rattle.line.specs.Line.{digits, dateText}
-use Rattle.line.proofs.Adding.{then, same, date-parts}
+use Rattle.line.specs.Line.{dateText}
+use Rattle.line.proofs.Putting.{then}
 use Rattle.line.proofs.put_date.Statement.{statement}
 use Rattle.line.proofs.put_date.Tie as tie
 
@@ -43,18 +43,12 @@ same-length c = search needs
 returns : tie.Need-returns
 unfolding dateText
 returns c =
-    let args = c .before .before .before .before .before .before .before .before .before .before .before .before .before .before .before .before .before .before .before .before .before .before .before .before .before .before .args in
     let put-digits = c .before .before .before .before .before .before .before .before .before .before .before .before .before .before .before .before .before .before .before .before .before .before .put-digits in
     let put-text = c .before .before .before .before .before .before .before .before .before .before .before .before .before .before .before .before .before .put-text in
     let put-digits2 = c .before .before .before .before .before .before .before .before .before .before .before .before .put-digits2 in
     let put-text2 = c .before .before .before .before .before .before .before .put-text2 in
     let put-digits3 = c .before .before .put-digits3 in
-    let d = args .date in (
-      same (date-parts (digits 4 (d .year)) (45 ∷ []) (digits 2 (d .month)) (45 ∷ []) (digits 2 (d .day)))
-          (then (then (then (then (put-digits .ensures .0) (put-text .ensures)) (put-digits2 .ensures .0)) (put-text2 .ensures))
-          (put-digits3 .ensures .0)),
-      omega (arith, put-digits .ensures .1, put-text .ensures .end, put-digits2 .ensures .1, put-text2 .ensures .end, put-digits3 .ensures .1),
-    )
+    then (then (then (then (put-digits .ensures) (put-text .ensures)) (put-digits2 .ensures)) (put-text2 .ensures)) (put-digits3 .ensures)
 
 pub put-date-spec : {M : Type 1} → statement M
 put-date-spec =

@@ -1,10 +1,7 @@
 -- `line::put_field` meets its contract.
-use mathlib.Core.Path.{ap}
-use mathlib.Core.List.{_∷_}
-use native.Mathlib.Omega.{arith}
+use Rattle.line.specs.Line.{field}
+use Rattle.line.proofs.Putting.{then}
 use borrow.Author.Needs.{needs}
-use Rattle.line.specs.Line.{digits, decimal, field}
-use Rattle.line.proofs.Adding.{then, same}
 use Rattle.line.proofs.put_field.Statement.{statement}
 use Rattle.line.proofs.put_field.Tie as tie
 
@@ -14,34 +11,17 @@ slice-aggregate-put-text c = search needs
 put-text-requires : tie.Need-put-text-requires
 put-text-requires c κs = search needs
 
-places-requires : tie.Need-places-requires
-places-requires c κs = search needs
-
-put-digits-requires : tie.Need-put-digits-requires
-put-digits-requires c κs = search needs
+put-decimal-requires : tie.Need-put-decimal-requires
+put-decimal-requires c κs = search needs
 
 same-length : tie.Need-same-length
 same-length c = search needs
 
 returns : tie.Need-returns
-unfolding field decimal
-returns c =
-    let args = c .before .before .before .before .before .before .before .before .before .before .before .args in
-    let put-text = c .before .before .before .before .before .before .before .put-text in
-    let places = c .before .before .before .places in
-    let put-digits = c .before .before .put-digits in
-    let p = places .ensures in (
-      same (ap (λ w. 32 ∷ digits w (args .n)) (p .0)) (then (put-text .ensures) (put-digits .ensures .0)),
-      omega (arith, p .1, put-text .ensures .end, put-digits .ensures .1),
-    )
+unfolding field
+returns c = then (c .before .before .before .before .before .before .put-text .ensures) (c .before .before .put-decimal .ensures)
 
 pub put-field-spec : {M : Type 1} → statement M
 put-field-spec =
     tie.close
-    (tie.spec
-    slice-aggregate-put-text
-    put-text-requires
-    places-requires
-    put-digits-requires
-    same-length
-    returns)
+    (tie.spec slice-aggregate-put-text put-text-requires put-decimal-requires same-length returns)

@@ -1,7 +1,7 @@
 -- `line::put_figures`: the figures, and the line's end.
 use native.Mathlib.Omega.{arith}
 use borrow.Author.Needs.{needs}
-use Rattle.line.proofs.Adding.{then}
+use Rattle.line.proofs.Putting.{then}
 use Rattle.line.proofs.put_figures.Statement.{statement}
 use Rattle.line.proofs.put_figures.Tie as tie
 
@@ -21,7 +21,7 @@ returns : tie.Need-returns
 returns c =
     let end-put = c .before .before in
     let line-put = end-put .before .before .before .before .before .put-line in
-    (then (line-put .ensures .0) (end-put .put-text .ensures), omega (arith, line-put .ensures .1, end-put .put-text .ensures .end))
+    then (line-put .ensures) (end-put .put-text .ensures)
 
 pub put-figures-spec : {M : Type 1} → statement M
 put-figures-spec = tie.close (tie.spec put-line-requires slice-aggregate-put-text put-text-requires same-length returns)

@@ -3,7 +3,7 @@ use mathlib.Core.Path.{ap}
 use native.Mathlib.Omega.{arith}
 use borrow.Author.Needs.{needs}
 use Rattle.line.specs.Line.{dateText}
-use Rattle.line.proofs.Adding.{then, same}
+use Rattle.line.proofs.Putting.{then, same}
 use Rattle.line.proofs.put_head.Statement.{statement}
 use Rattle.line.proofs.put_head.Tie as tie
 
@@ -33,10 +33,8 @@ returns c =
     let date-of = c .before .before .before .before .before .before .before .before .before .before .before .before .before .date-of in
     let put-date = c .before .before .before .before .before .before .before .before .before .before .before .before .put-date in
     let put-field = c .before .before .before .before .before .before .before .put-field in
-    let put-field2 = c .before .before .put-field2 in (
-      then (then (same (ap dateText (date-of .ensures)) (put-date .ensures .0)) (put-field .ensures .0)) (put-field2 .ensures .0),
-      omega (arith, put-date .ensures .1, put-field .ensures .1, put-field2 .ensures .1),
-    )
+    let put-field2 = c .before .before .put-field2 in
+    then (then (same (ap dateText (date-of .ensures)) (put-date .ensures)) (put-field .ensures)) (put-field2 .ensures)
 
 pub put-head-spec : {M : Type 1} → statement M
 put-head-spec =

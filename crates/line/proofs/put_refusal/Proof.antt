@@ -1,7 +1,7 @@
 -- `line::put_refusal` meets its contract.
 use native.Mathlib.Omega.{arith}
 use borrow.Author.Needs.{needs}
-use Rattle.line.proofs.Adding.{then}
+use Rattle.line.proofs.Putting.{then}
 use Rattle.line.proofs.put_refusal.Statement.{statement}
 use Rattle.line.proofs.put_refusal.Tie as tie
 
@@ -27,10 +27,8 @@ returns : tie.Need-returns
 returns c =
     let put-text = c .before .before .before .before .before .before .before .before .before .before .before .put-text in
     let put-field = c .before .before .before .before .before .before .before .put-field in
-    let put-text2 = c .before .before .put-text2 in (
-      then (then (put-text .ensures) (put-field .ensures .0)) (put-text2 .ensures),
-      omega (arith, put-text .ensures .end, put-field .ensures .1, put-text2 .ensures .end),
-    )
+    let put-text2 = c .before .before .put-text2 in
+    then (then (put-text .ensures) (put-field .ensures)) (put-text2 .ensures)
 
 pub put-refusal-spec : {M : Type 1} → statement M
 put-refusal-spec =

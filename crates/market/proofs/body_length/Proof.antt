@@ -1,7 +1,7 @@
 -- `body_length` meets its contract.
 use mathlib.Core.Path.{ap, _∙_}
 use native.Mathlib.Nat.{zero-add}
-use Rattle.market.specs.Inner.Writing.{capped}
+use Rattle.line.specs.Inner.Writing.{capped}
 use borrow.Author.Needs.{needs}
 use Rattle.market.proofs.body_length.Statement.{statement}
 use Rattle.market.proofs.body_length.Tie as tie

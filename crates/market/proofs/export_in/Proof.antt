@@ -6,7 +6,7 @@ use lib.Dec.{leb}
 use lib.ListN.{length}
 use Rattle.market.specs.Fields.{texts}
 use Rattle.market.specs.Export.{contentOf, bodyOf, exportOf}
-use Rattle.market.proofs.Putting.{then}
+use Rattle.line.proofs.Putting.{then}
 use Rattle.market.proofs.Answers.{time-long, room-for, refused-7, exported}
 use borrow.Author.Needs.{needs}
 use Rattle.market.proofs.export_in.Statement.{statement}

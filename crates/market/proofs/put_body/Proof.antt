@@ -8,7 +8,7 @@ use Rattle.file.specs.Reader.{slotAt}
 use Rattle.market.specs.Fields.{markOf}
 use Rattle.market.specs.Records.{record100, record200, daysOf}
 use Rattle.market.specs.Export.{contentOf, bodyOf}
-use Rattle.market.proofs.Putting.{then, same}
+use Rattle.line.proofs.Putting.{then, same}
 use Rattle.market.proofs.Answers.{figures-are, some-interval, tabled}
 use borrow.Author.Needs.{needs}
 use Rattle.market.proofs.put_body.Statement.{statement}

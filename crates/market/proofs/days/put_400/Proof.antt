@@ -1,7 +1,7 @@
 -- `days::put_400` meets its contract.
 use Rattle.market.specs.Fields.{fields}
 use Rattle.market.specs.Records.{record400}
-use Rattle.market.proofs.Putting.{then}
+use Rattle.line.proofs.Putting.{then}
 use borrow.Author.Needs.{needs}
 use Rattle.market.proofs.days.put_400.Statement.{statement}
 use Rattle.market.proofs.days.put_400.Tie as tie

@@ -4,7 +4,7 @@ use mathlib.Core.List.{_++_}
 use Rattle.line.specs.Line.{digits}
 use Rattle.calendar.specs.declared.Date.{Date}
 use Rattle.market.specs.Fields.{dateField}
-use Rattle.market.proofs.Putting.{then, same}
+use Rattle.line.proofs.Putting.{then, same}
 use borrow.Author.Needs.{needs}
 use Rattle.market.proofs.days.put_date.Statement.{statement}
 use Rattle.market.proofs.days.put_date.Tie as tie

@@ -1,7 +1,7 @@
 -- `days::put_day` meets its contract.
 use Rattle.file.specs.Reader.{slotAt}
 use Rattle.market.specs.Fields.{markOf}
-use Rattle.market.proofs.Putting.{then, same}
+use Rattle.line.proofs.Putting.{then, same}
 use Rattle.market.proofs.Joining.{day-alike, day-varies}
 use borrow.Author.Needs.{needs}
 use Rattle.market.proofs.days.put_day.Statement.{statement}

@@ -8,8 +8,8 @@ use lib.ListN.{length}
 use Rattle.file.specs.Reader.{slotAt}
 use Rattle.market.specs.Fields.{joined, markOf}
 use Rattle.market.specs.Records.{dayRecords, daysOf}
-use Rattle.market.specs.Inner.Writing.{Added}
-use Rattle.market.proofs.Putting.{length-stored}
+use Rattle.line.specs.Inner.Writing.{Added}
+use Rattle.line.proofs.Putting.{length-stored}
 use Rattle.market.proofs.Joining.{joined-none, joined-next-0, day-within}
 use Rattle.market.proofs.days.put_days.Statement.{statement}
 use Rattle.market.proofs.days.put_days.Tie as tie

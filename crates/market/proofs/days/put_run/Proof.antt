@@ -1,6 +1,6 @@
 -- `days::put_run` meets its contract.
 use borrow.Author.Tests.{not-true, not-false}
-use Rattle.market.proofs.Putting.{nothing}
+use Rattle.line.proofs.Putting.{nothing}
 use borrow.Author.Needs.{needs}
 use Rattle.market.proofs.days.put_run.Statement.{statement}
 use Rattle.market.proofs.days.put_run.Tie as tie

@@ -9,8 +9,8 @@ use lib.ListN.{length}
 use Rattle.file.specs.Reader.{slotAt}
 use Rattle.market.specs.Fields.{joined, markOf, endsRun, startOf}
 use Rattle.market.specs.Records.{record400, runs}
-use Rattle.market.specs.Inner.Writing.{Added}
-use Rattle.market.proofs.Putting.{length-stored, same}
+use Rattle.line.specs.Inner.Writing.{Added}
+use Rattle.line.proofs.Putting.{length-stored, same}
 use Rattle.market.proofs.Joining.{joined-none, joined-next-0, start-none, start-next, start-le, run-piece}
 use Rattle.market.proofs.days.put_runs.Statement.{statement}
 use Rattle.market.proofs.days.put_runs.Tie as tie

@@ -2,7 +2,7 @@
 use mathlib.Core.Path.{ap}
 use Rattle.file.proofs.Offsets.{slot-at}
 use Rattle.market.specs.Fields.{field, kwh}
-use Rattle.market.proofs.Putting.{then, same}
+use Rattle.line.proofs.Putting.{then, same}
 use borrow.Author.Needs.{needs}
 use Rattle.market.proofs.days.put_value.Statement.{statement}
 use Rattle.market.proofs.days.put_value.Tie as tie

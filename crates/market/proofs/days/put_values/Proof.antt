@@ -6,8 +6,8 @@ use native.Mathlib.Omega.{arith}
 use lib.ListN.{length}
 use Rattle.file.specs.Reader.{slotAt}
 use Rattle.market.specs.Fields.{field, kwh, joined}
-use Rattle.market.specs.Inner.Writing.{Added}
-use Rattle.market.proofs.Putting.{length-stored}
+use Rattle.line.specs.Inner.Writing.{Added}
+use Rattle.line.proofs.Putting.{length-stored}
 use Rattle.market.proofs.Joining.{joined-none, joined-next}
 use Rattle.market.proofs.days.put_values.Statement.{statement}
 use Rattle.market.proofs.days.put_values.Tie as tie

@@ -3,7 +3,7 @@ use native.Mathlib.Omega.{arith}
 use lib.ListN.{length-take}
 use Rattle.market.specs.Fields.{fields}
 use Rattle.market.specs.Records.{record100}
-use Rattle.market.proofs.Putting.{then}
+use Rattle.line.proofs.Putting.{then}
 use borrow.Author.Needs.{needs}
 use Rattle.market.proofs.headers.put_100.Statement.{statement}
 use Rattle.market.proofs.headers.put_100.Tie as tie

@@ -1,7 +1,8 @@
 -- `headers::put_200` meets its contract.
 use Rattle.market.specs.Fields.{field, fields}
-use Rattle.market.specs.Records.{code200, record200}
-use Rattle.market.proofs.Putting.{then, same}
+use Rattle.base.specs.Text.{ascii}
+use Rattle.market.specs.Records.{record200}
+use Rattle.line.proofs.Putting.{then, same}
 use Rattle.market.proofs.Joining.{meter-parts}
 use borrow.Author.Needs.{needs}
 use Rattle.market.proofs.headers.put_200.Statement.{statement}
@@ -40,7 +41,7 @@ same-length c = search needs
 returns : tie.Need-returns
 unfolding record200 fields
 returns c = let a = c .before .before .before .before .before .before .before .before .before .before .before .before .before .before .before .before .before .before .before .before .before .before .before .before .before .before .before .before .before .before .before .before .before .before .before .before .before .before .args in
-    same (meter-parts code200 (field (a .identifier .now)) (field (a .configuration .now)) (field (a .register .now)) (field (a .suffix .now)) _)
+    same (meter-parts (ascii "200") (field (a .identifier .now)) (field (a .configuration .now)) (field (a .register .now)) (field (a .suffix .now)) _)
     (then (c .before .before .before .before .before .before .before .before .before .before .before .before .before .before .before .before .before .before .before .before .before .before .before .before .before .before .before .before .put-meter .ensures) (then (c .before .before .before .before .before .before .before .before .before .before .before .before .before .before .before .before .before .before .before .before .before .before .before .before .put-field .ensures) (then (c .before .before .before .before .before .before .before .before .before .before .before .before .before .before .before .before .before .before .before .before .put-field2 .ensures) (then (c .before .before .before .before .before .before .before .before .before .before .before .before .before .before .before .put-text .ensures) (then (c .before .before .before .before .before .before .before .before .before .before .before .put-number .ensures) (then (c .before .before .before .before .before .before .before .put-field3 .ensures) (c .before .before .put-text2 .ensures)))))))
 
 pub put-200-spec : {M : Type 1} → statement M

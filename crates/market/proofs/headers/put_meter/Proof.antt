@@ -1,5 +1,5 @@
 -- `headers::put_meter` meets its contract.
-use Rattle.market.proofs.Putting.{then}
+use Rattle.line.proofs.Putting.{then}
 use borrow.Author.Needs.{needs}
 use Rattle.market.proofs.headers.put_meter.Statement.{statement}
 use Rattle.market.proofs.headers.put_meter.Tie as tie

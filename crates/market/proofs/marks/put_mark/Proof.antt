@@ -1,7 +1,7 @@
 -- `marks::put_mark` meets its contract.
 use mathlib.Core.Path.{sym, _∙_}
 use borrow.Author.Tests.{not-true, not-false}
-use Rattle.market.proofs.Putting.{then, same}
+use Rattle.line.proofs.Putting.{then, same}
 use Rattle.market.proofs.Joining.{without-code, with-code}
 use borrow.Author.Needs.{needs}
 use Rattle.market.proofs.marks.put_mark.Statement.{statement}

@@ -1,5 +1,5 @@
 -- `writing::put_number` meets its contract.
-use Rattle.market.proofs.Putting.{then}
+use Rattle.line.proofs.Putting.{then}
 use borrow.Author.Needs.{needs}
 use Rattle.market.proofs.writing.put_number.Statement.{statement}
 use Rattle.market.proofs.writing.put_number.Tie as tie

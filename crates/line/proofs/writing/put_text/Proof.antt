@@ -5,10 +5,10 @@ use Prim.Native.Nat.{_≤_, _-_}
 use native.Mathlib.Omega.{arith}
 use lib.ListN.{length, take}
 use lib.Seq.{take-length}
-use Rattle.market.specs.Inner.Writing.{stored}
-use Rattle.market.proofs.Putting.{length-stored, text-none, text-more}
-use Rattle.market.proofs.writing.put_text.Statement.{statement}
-use Rattle.market.proofs.writing.put_text.Tie as tie
+use Rattle.line.specs.Inner.Writing.{stored}
+use Rattle.line.proofs.Putting.{length-stored, text-none, text-more}
+use Rattle.line.proofs.writing.put_text.Statement.{statement}
+use Rattle.line.proofs.writing.put_text.Tie as tie
 
 abbrev Inv-loop : tie.InvT-loop
 Inv-loop out₀ at text i₀ out i = (i ≤ length text) × (out ≡ stored out₀ at (take i text))

@@ -1,10 +1,10 @@
 -- `writing::put_decimal` meets its contract.
 use mathlib.Core.Path.{ap}
 use Rattle.line.specs.Line.{digits, decimal}
-use Rattle.market.proofs.Putting.{same}
+use Rattle.line.proofs.Putting.{same}
 use borrow.Author.Needs.{needs}
-use Rattle.market.proofs.writing.put_decimal.Statement.{statement}
-use Rattle.market.proofs.writing.put_decimal.Tie as tie
+use Rattle.line.proofs.writing.put_decimal.Statement.{statement}
+use Rattle.line.proofs.writing.put_decimal.Tie as tie
 
 places-requires : tie.Need-places-requires
 places-requires c κs = search needs
@@ -17,7 +17,7 @@ same-length c = search needs
 
 returns : tie.Need-returns
 unfolding decimal
-returns c = same (ap (λ w. digits w (c .before .before .before .before .before .before .args .n)) (c .before .before .before .places .ensures .0)) (c .before .before .put-digits .ensures)
+returns c = same (ap (λ w. digits w (c .before .before .before .before .before .before .args .n)) (c .before .before .before .places .ensures)) (c .before .before .put-digits .ensures)
 
 pub put-decimal-spec : {M : Type 1} → statement M
 put-decimal-spec = tie.close (tie.spec places-requires put-digits-requires same-length returns)

@@ -4,12 +4,12 @@ use mathlib.Core.Path.{_≡_, refl, sym, ap, _∙_}
 use Prim.Native.Nat.{_≤_, _+_}
 use native.Mathlib.Omega.{arith}
 use lib.ListN.{length}
 use Rattle.line.specs.Line.{digits}
 use Rattle.line.proofs.Digits.{length-digits}
-use Rattle.market.specs.Inner.Writing.{capped, stored}
-use Rattle.market.proofs.Putting.{length-stored, digits-less, digits-none}
-use Rattle.market.proofs.writing.put_digits.Statement.{statement}
-use Rattle.market.proofs.writing.put_digits.Tie as tie
+use Rattle.line.specs.Inner.Writing.{capped, stored}
+use Rattle.line.proofs.Putting.{length-stored, digits-less, digits-none}
+use Rattle.line.proofs.writing.put_digits.Statement.{statement}
+use Rattle.line.proofs.writing.put_digits.Tie as tie
 
 abbrev Inv-loop : tie.InvT-loop
 Inv-loop out₀ at width n rest₀ j₀ out rest j = (j ≤ width) × (stored out at (digits j rest) ≡ stored out₀ at (digits width n))

@@ -1,12 +1,12 @@
--- `line::places` meets its contract.
+-- `writing::places` meets its contract.
 use mathlib.Core.Path.{_≡_}
 use Prim.Native.Nat.{_≤_, _-_, _+_}
 use native.Mathlib.Omega.{arith}
 use borrow.Author.Needs.{needs}
 use Rattle.line.specs.Line.{places}
 use Rattle.line.proofs.Digits.{places-small, places-more, places-last}
-use Rattle.line.proofs.places.Statement.{statement}
-use Rattle.line.proofs.places.Tie as tie
+use Rattle.line.proofs.writing.places.Statement.{statement}
+use Rattle.line.proofs.writing.places.Tie as tie
 
 abbrev Inv-loop : tie.InvT-loop
 Inv-loop n k₀ rest₀ k rest = (1 ≤ k) × (k ≤ 20) × (places 19 n + 1 ≡ k + places (20 - k) rest)
@@ -18,7 +18,7 @@ loop-holds : tie.Need-loop-holds Inv-loop μ-loop
 loop-holds c = (search needs, search needs, omega arith)
 
 returns : tie.Need-returns Inv-loop μ-loop
-returns c = let l = c .before .before .loop in (omega (arith, l .inv .2, places-small (20 - l .k) (l .rest) (search needs)), search needs)
+returns c = let l = c .before .before .loop in omega (arith, l .inv .2, places-small (20 - l .k) (l .rest) (search needs))
 
 add-k : tie.Need-add-k Inv-loop μ-loop
 add-k c = search needs
@@ -35,7 +35,7 @@ returns-2 : tie.Need-returns-2 Inv-loop μ-loop
 returns-2 c = let l = c .before .loop in
     let done : 20 - l .k ≡ 0 = omega arith in
     let all : places 19 (c .before .before .args .n) + 1 ≡ l .k + places 0 (l .rest) = rw done at (l .inv .2) in
-    (omega (arith, places-last (l .rest)), search needs)
+    omega (arith, places-last (l .rest))
 
 pub places-spec : {M : Type 1} → statement M
 places-spec =

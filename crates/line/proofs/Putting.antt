@@ -11,13 +11,13 @@ use lib.Dec.{ltb}
 use lib.ListN.{length, take, drop, getD, set, length-append}
 use lib.Seq.{take-suc, length-take-le, set-comm, set-out, sets-eq, length-sets}
 use Rattle.base.proofs.Logic.{either}
 use Rattle.line.specs.Line.{digits}
 use Rattle.line.proofs.Digits.{length-digits}
-use Rattle.market.specs.Inner.Writing.{capped, stored, Added}
+use Rattle.line.specs.Inner.Writing.{capped, stored, Added}
 
 -- the highest number
 abbrev top : ℕ
-top = 18446744073709551615
+top = 18_446_744_073_709_551_615
 
 -- ---- Places
 

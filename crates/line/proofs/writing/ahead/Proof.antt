@@ -2,10 +2,10 @@
 use native.Mathlib.Omega.{arith}
 use mathlib.Core.Path.{sym}
 use Prim.Native.Nat.{_+_, _<_, _^_}
-use Rattle.market.proofs.Putting.{capped-low, capped-high}
+use Rattle.line.proofs.Putting.{capped-low, capped-high}
 use borrow.Author.Needs.{needs}
-use Rattle.market.proofs.writing.ahead.Statement.{statement}
-use Rattle.market.proofs.writing.ahead.Tie as tie
+use Rattle.line.proofs.writing.ahead.Statement.{statement}
+use Rattle.line.proofs.writing.ahead.Tie as tie
 
 sub-if1 : tie.Need-sub-if1
 sub-if1 c = search needs

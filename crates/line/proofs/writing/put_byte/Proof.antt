@@ -3,8 +3,8 @@ use mathlib.Core.Path.{sym}
 use native.Mathlib.Omega.{arith}
 use lib.Seq.{set-out}
 use borrow.Author.Needs.{needs}
-use Rattle.market.proofs.writing.put_byte.Statement.{statement}
-use Rattle.market.proofs.writing.put_byte.Tie as tie
+use Rattle.line.proofs.writing.put_byte.Statement.{statement}
+use Rattle.line.proofs.writing.put_byte.Tie as tie
 
 returns : tie.Need-returns
 returns c = sym (set-out _ _ _ (omega arith))
