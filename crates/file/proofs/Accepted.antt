@@ -23,6 +23,7 @@ use Rattle.file.specs.Contents.{WellFormed, slot, noSlot, recordsOf}
 use Rattle.file.proofs.Rows.{length-row}
 use Rattle.file.proofs.Lists.{total-sum, total-le}
 use Rattle.file.proofs.Head.{slots-le}
+use Rattle.file.proofs.Records.{each}
 use Rattle.file.proofs.Fitting.{Fitting, fitting}
 use Rattle.file.proofs.Content.{slot-back, span-back, first-back, days-back, interval-back, layout-back, spans-back, distance-back, trailer-field, length-file}
 use Rattle.file.proofs.Agree.{Agree, count-agree, sum-agree, tables-agree}
@@ -38,40 +39,16 @@ pub record Tests (q : Quality) (p : Quality → Bool) : Type 0 where
   pub same : (r : Quality) → eqb (letter r) (letter q) ≡ p r
 
 pub testsA : Tests A isA
-testsA = record { same = go }
-  where
-    go : (r : Quality) → eqb (letter r) 65 ≡ isA r
-    go A = refl
-    go S = refl
-    go F = refl
-    go N = refl
+testsA = record { same = each (λ r. eqb (letter r) (letter A) ≡ isA r) refl refl refl refl }
 
 pub testsS : Tests S isS
-testsS = record { same = go }
-  where
-    go : (r : Quality) → eqb (letter r) 83 ≡ isS r
-    go A = refl
-    go S = refl
-    go F = refl
-    go N = refl
+testsS = record { same = each (λ r. eqb (letter r) (letter S) ≡ isS r) refl refl refl refl }
 
 pub testsF : Tests F isF
-testsF = record { same = go }
-  where
-    go : (r : Quality) → eqb (letter r) 70 ≡ isF r
-    go A = refl
-    go S = refl
-    go F = refl
-    go N = refl
+testsF = record { same = each (λ r. eqb (letter r) (letter F) ≡ isF r) refl refl refl refl }
 
 pub testsN : Tests N isN
-testsN = record { same = go }
-  where
-    go : (r : Quality) → eqb (letter r) 78 ≡ isN r
-    go A = refl
-    go S = refl
-    go F = refl
-    go N = refl
+testsN = record { same = each (λ r. eqb (letter r) (letter N) ≡ isN r) refl refl refl refl }
 
 -- the counts and the sum of a content's own records
 pub count-own : (f : Content) → length (f .slots) ≡ 1440 / f .interval * f .days → (q : Quality) (p : Quality → Bool) → Tests q p

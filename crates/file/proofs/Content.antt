@@ -9,15 +9,14 @@ use lib.Dec.{lit<}
 use lib.ListN.{length, length-append}
 use Rattle.base.specs.Lists.{upTo}
 use Rattle.base.proofs.Lists.{upTo-list}
-use Rattle.rules.specs.declared.Quality.{Quality}
-use Rattle.rules.specs.declared.Quality.the-variants.{A, S, F, N}
 use Rattle.rules.specs.Spans.{noSpan}
-use Rattle.file.specs.Layout.{Content, row, table, letter, slotRow, ranged, spanRow, spanWidth, trailerRow, figuresOf, tablesOf, fileOf}
+use Rattle.file.specs.Layout.{Content, row, table, slotRow, ranged, spanRow, spanWidth, trailerRow, figuresOf, tablesOf, fileOf}
 use Rattle.file.specs.Reader.{num, slotAt, spanAt, trailerAt, trailerField, figures, distance, fileSlots}
-use Rattle.file.specs.Contents.{Bytes, slot, span, noSlot, slotRecord, spanRecord, qualityOf, outcomeOf, spanOfRecord, contentOf}
+use Rattle.file.specs.Contents.{Bytes, slot, span, noSlot, slotRecord, spanRecord, outcomeOf, spanOfRecord, contentOf}
 use Rattle.file.proofs.Numbers.{num-skip}
 use Rattle.file.proofs.Rows.{before, field, field-at, length-row, length-table, table-field, joined-bytes, row-bytes, table-bytes}
 use Rattle.file.proofs.Fitting.{Fitting}
+use Rattle.file.proofs.Records.{quality-back, letter-lt}
 use Rattle.file.proofs.SpanRecords.{Stands, span-wide, span-read, width-le}
 
 module _ (f : Content) where
@@ -93,19 +92,6 @@ module _ (f : Content) where
       ∙ field-at trailer [] j l fit)
 
 -- ---- The content read back
-
-quality-back : (q : Quality) → qualityOf (letter q) ≡ q
-quality-back A = refl
-quality-back S = refl
-quality-back F = refl
-quality-back N = refl
-
--- a letter is a byte
-letter-lt : (q : Quality) → letter q < 256
-letter-lt A = lit< tt
-letter-lt S = lit< tt
-letter-lt F = lit< tt
-letter-lt N = lit< tt
 
 module _ (f : Content) (h : Fitting f) where
   -- the record of slot i

@@ -14,6 +14,22 @@ use Rattle.file.specs.Layout.{letter}
 use Rattle.file.specs.Reader.{ofQuality, isForm, forms, recordOk}
 use Rattle.file.specs.Contents.{qualityOf}
 
+-- ---- Qualities and their letters
+
+-- what holds of each quality
+pub each : (P : Quality → Type 0) → P A → P S → P F → P N → (q : Quality) → P q
+each P a s f n A = a
+each P a s f n S = s
+each P a s f n F = f
+each P a s f n N = n
+
+pub quality-back : (q : Quality) → qualityOf (letter q) ≡ q
+quality-back = each (λ q. qualityOf (letter q) ≡ q) refl refl refl refl
+
+-- a letter is a byte
+pub letter-lt : (q : Quality) → letter q < 256
+letter-lt = each (λ q. letter q < 256) (lit< tt) (lit< tt) (lit< tt) (lit< tt)
+
 -- ---- What the code tests
 
 pub form-A : (r : SlotRecord) → r .letter ≡ 65 → recordOk r ≡ (eqb (r .method) 0 || (eqb (r .method) 1 && eqb (r .value) 0))
@@ -43,18 +59,12 @@ module _ (r : SlotRecord) where
   abbrev Told : Type 0
   Told = (letter (qualityOf (r .letter)) ≡ r .letter) × (r .method < 256)
 
-  quality-back : (q : Quality) → letter (qualityOf (letter q)) ≡ letter q
-  quality-back A = refl
-  quality-back S = refl
-  quality-back F = refl
-  quality-back N = refl
-
   form-tells : (q : Quality) (m : ℕ) → m < 256 → isForm q m r ≡ true → Told
   form-tells q m l e =
       let p = and-parts (ofQuality q r) (eqb (r .method) m) e in
       let is : r .letter ≡ letter q = eqb-true _ _ (p .0) in
       let so : r .method ≡ m = eqb-true _ _ (p .1) in
-      (ap (λ (x : ℕ). letter (qualityOf x)) is ∙ quality-back q ∙ sym is, omega arith)
+      (ap (λ (x : ℕ). letter (qualityOf x)) is ∙ ap letter (quality-back q) ∙ sym is, omega arith)
 
   -- a form whose value is tested
   valued-tells : (q : Quality) (m : ℕ) (test : Bool) → m < 256 → (isForm q m r && test) ≡ true → Told
