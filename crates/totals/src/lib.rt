@@ -13,7 +13,10 @@ ghost use Rattle.totals.specs.Stays.{staysAnswer, staysAfter};
 // The totals of stays in an accepted file.
 fn stays_in(file: &[u8], g: Figures, pairs: &[u32], totals: &mut [u64]) -> Performed
     requires { ⌜ readFile (now file) ≡ Accepted g ⌝ }
-    ensures { λ r. ⌜ (r ≡ staysAnswer (now (file .entry)) (now (pairs .entry)) (now (totals .entry))) × (now (totals .exit) ≡ staysAfter (now (file .entry)) (now (pairs .entry)) (now (totals .entry))) ⌝ }
+    ensures { λ r. ⌜
+        (r ≡ staysAnswer (now (file .entry)) (now (pairs .entry)) (now (totals .entry)))
+        × (now (totals .exit) ≡ staysAfter (now (file .entry)) (now (pairs .entry)) (now (totals .entry)))
+        ⌝ }
 {
     if !pairs::lists_fit(pairs, totals.len()) {
         return Performed::Refused(18);
@@ -29,7 +32,10 @@ fn stays_in(file: &[u8], g: Figures, pairs: &[u32], totals: &mut [u64]) -> Perfo
 
 // Totals the stays: `pairs` holds a first day and the day after the last for each, and `totals` takes the sums of their slots.
 pub fn stays(file: &[u8], pairs: &[u32], totals: &mut [u64]) -> Performed
-    ensures { λ r. ⌜ (r ≡ staysAnswer (now (file .entry)) (now (pairs .entry)) (now (totals .entry))) × (now (totals .exit) ≡ staysAfter (now (file .entry)) (now (pairs .entry)) (now (totals .entry))) ⌝ }
+    ensures { λ r. ⌜
+        (r ≡ staysAnswer (now (file .entry)) (now (pairs .entry)) (now (totals .entry)))
+        × (now (totals .exit) ≡ staysAfter (now (file .entry)) (now (pairs .entry)) (now (totals .entry)))
+        ⌝ }
 {
     match file::read(file) {
         Verdict::Accepted(g) => stays_in(file, g, pairs, totals),
