@@ -24,7 +24,7 @@ pub earlier-cong : (n : ℕ) (v w : ℕ → ℕ) (i : ℕ) → (n ≤ i → v (i
 unfolding dayEarlier
 earlier-cong n v w i h = ⊎-elim (λ e. rw e) (λ e. rw (e, h (ltb-false i n e))) (either (ltb i n))
 
-pub earlier-lt : (n : ℕ) (v : ℕ → ℕ) (i : ℕ) → ((j : ℕ) → v j < 4294967296) → dayEarlier n v i < 4294967296
+pub earlier-lt : (n : ℕ) (v : ℕ → ℕ) (i : ℕ) → ((j : ℕ) → v j < 4_294_967_296) → dayEarlier n v i < 4_294_967_296
 unfolding dayEarlier
 earlier-lt n v i h = ⊎-elim (λ e. rw e (lit< tt)) (λ e. rw e (h (i - n))) (either (ltb i n))
 
@@ -48,19 +48,19 @@ module _ (n : ℕ) (positive : 0 < n) (g : ℕ → ℕ) where
 
 -- slot i's difference added to the value a day earlier
 pub restored-next : (n : ℕ) → 0 < n → (strips : List ℕ) (i : ℕ)
-    → (dayEarlier n (restoredValue n strips) i + differenceIn strips i) % 4294967296 ≡ restoredValue n strips i
+    → (dayEarlier n (restoredValue n strips) i + differenceIn strips i) % 4_294_967_296 ≡ restoredValue n strips i
 unfolding restoredValue
 restored-next n z strips i =
     let g : ℕ → ℕ = differenceIn strips in
     ⊎-elim
     (λ e. let l : i < n = ltb-true i n e in
-    ap (λ (x : ℕ). (x + g i) % 4294967296) (earlier-first n (restoredValue n strips) i l)
-    ∙ ap (λ (x : ℕ). x % 4294967296) (zero-add (g i) ∙ sym (running-first n z g i l)))
+    ap (λ (x : ℕ). (x + g i) % 4_294_967_296) (earlier-first n (restoredValue n strips) i l)
+    ∙ ap (λ (x : ℕ). x % 4_294_967_296) (zero-add (g i) ∙ sym (running-first n z g i l)))
     (λ e. let l : n ≤ i = ltb-false i n e in
-    ap (λ (x : ℕ). (x + g i) % 4294967296) (earlier-later n (restoredValue n strips) i l)
-    ∙ mod-add-mod (running n z g (i - n)) 4294967296 (g i) ∙ ap (λ (x : ℕ). x % 4294967296) (sym (running-later n z g i l)))
+    ap (λ (x : ℕ). (x + g i) % 4_294_967_296) (earlier-later n (restoredValue n strips) i l)
+    ∙ mod-add-mod (running n z g (i - n)) 4_294_967_296 (g i) ∙ ap (λ (x : ℕ). x % 4_294_967_296) (sym (running-later n z g i l)))
     (either (ltb i n))
 
-pub restored-lt : (n : ℕ) (strips : List ℕ) (i : ℕ) → restoredValue n strips i < 4294967296
+pub restored-lt : (n : ℕ) (strips : List ℕ) (i : ℕ) → restoredValue n strips i < 4_294_967_296
 unfolding restoredValue
 restored-lt n strips i = mod-lt _ (lit< tt)

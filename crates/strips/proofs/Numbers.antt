@@ -18,7 +18,7 @@ number-cong a b h = rw (h 0 (lit< tt), h 1 (lit< tt), h 2 (lit< tt), h 3 (lit< t
 
 -- the four bytes of a record that are read
 pub number-spaced : (s : List ℕ) (at step : ℕ)
-    → getD s at 0 + 256 * getD s (at + step) 0 + 65536 * getD s (at + 2 * step) 0 + 16777216 * getD s (at + 3 * step) 0 ≡ number (spaced s at step)
+    → getD s at 0 + 256 * getD s (at + step) 0 + 65_536 * getD s (at + 2 * step) 0 + 16_777_216 * getD s (at + 3 * step) 0 ≡ number (spaced s at step)
 unfolding number
 number-spaced s at step = simp (zero-mul, add-zero, one-mul)
 
@@ -26,13 +26,13 @@ pub table-value : (table : List ℕ) (i : ℕ) → number (spaced table (6 * i) 
 table-value table i =
     number-cong (spaced table (6 * i) 1) (inTable table i) (λ k l. ap (λ (x : ℕ). getD table (6 * i + x) 0) (mul-one k))
 
-pub number-lt : (b : ℕ → ℕ) → ((k : ℕ) → b k < 256) → number b < 4294967296
+pub number-lt : (b : ℕ → ℕ) → ((k : ℕ) → b k < 256) → number b < 4_294_967_296
 unfolding number
 number-lt b h = omega (arith, h 0, h 1, h 2, h 3)
 
 -- a number by its quotients
-four : (v a b c : ℕ) → v < 4294967296 → a ≡ v / 256 → b ≡ a / 256 → c ≡ b / 256
-    → v % 256 + 256 * (a % 256) + 65536 * (b % 256) + 16777216 * (c % 256) ≡ v
+four : (v a b c : ℕ) → v < 4_294_967_296 → a ≡ v / 256 → b ≡ a / 256 → c ≡ b / 256
+    → v % 256 + 256 * (a % 256) + 65_536 * (b % 256) + 16_777_216 * (c % 256) ≡ v
 four v a b c l x y z =
     let s : c < 256 = omega arith in
     let e : b ≡ 256 * c + b % 256 = omega arith in
@@ -41,10 +41,10 @@ four v a b c l x y z =
     rw (mod-eq-of-lt s) (omega arith)
 
 -- what is written is read
-number-bytes : (v : ℕ) → v < 4294967296 → number (byteOf v) ≡ v
+number-bytes : (v : ℕ) → v < 4_294_967_296 → number (byteOf v) ≡ v
 unfolding number byteOf
 number-bytes v l =
-    rw (div-one v, ← div-div-eq-div-mul v 65536 256, ← div-div-eq-div-mul v 256 256)
+    rw (div-one v, ← div-div-eq-div-mul v 65_536 256, ← div-div-eq-div-mul v 256 256)
     (four v (v / 256) (v / 256 / 256) (v / 256 / 256 / 256) l refl refl refl)
 
 -- what is read is written
@@ -60,7 +60,7 @@ record-value : (v : ℕ) (old : ℕ → ℕ) (k : ℕ) → k < 4 → recordByte 
 unfolding recordByte
 record-value v old k l = rw (lt-ltb k 4 l)
 
-pub number-record : (v : ℕ) (old : ℕ → ℕ) → v < 4294967296 → number (recordByte v old) ≡ v
+pub number-record : (v : ℕ) (old : ℕ → ℕ) → v < 4_294_967_296 → number (recordByte v old) ≡ v
 number-record v old l = number-cong (recordByte v old) (byteOf v) (record-value v old) ∙ number-bytes v l
 
 pub record-number : (b : ℕ → ℕ) → ((k : ℕ) → b k < 256) → (k : ℕ) → recordByte (number b) b k ≡ b k
@@ -85,10 +85,10 @@ record-at v old (suc (suc (suc (suc (suc zero))))) l = refl
 record-at v old (suc (suc (suc (suc (suc (suc k)))))) l = absurd (omega arith)
 
 -- a difference and its sum, and the other way
-pub add-difference : (earlier value : ℕ) → earlier < 4294967296 → value < 4294967296
-    → (earlier + (value + 4294967296 - earlier) % 4294967296) % 4294967296 ≡ value
+pub add-difference : (earlier value : ℕ) → earlier < 4_294_967_296 → value < 4_294_967_296
+    → (earlier + (value + 4_294_967_296 - earlier) % 4_294_967_296) % 4_294_967_296 ≡ value
 add-difference earlier value l m = omega arith
 
-pub difference-added : (earlier difference : ℕ) → earlier < 4294967296 → difference < 4294967296
-    → ((earlier + difference) % 4294967296 + 4294967296 - earlier) % 4294967296 ≡ difference
+pub difference-added : (earlier difference : ℕ) → earlier < 4_294_967_296 → difference < 4_294_967_296
+    → ((earlier + difference) % 4_294_967_296 + 4_294_967_296 - earlier) % 4_294_967_296 ≡ difference
 difference-added earlier difference l m = omega arith

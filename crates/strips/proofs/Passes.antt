@@ -5,23 +5,25 @@ use Prim.Native.Nat.{ℕ, _+_, _-_, _*_, _/_, _%_, _<_}
 use native.Mathlib.Omega.{arith}
 use lib.Dec.{lit<}
 use lib.ListN.{length, getD}
+use Rattle.strips.specs.declared.Way.{Way}
+use Rattle.strips.specs.declared.Way.the-variants.{ToStrips, FromStrips}
 use Rattle.strips.specs.Strips.{slotsOf, inTable, inStrips, storedAt, stripsOf, valueAt, dayEarlier, differenceAt, differenceIn, restoredValue, restoredAt, tableOf}
-use Rattle.strips.specs.Inner.Laying.{recordOf, storedIn, restoredIn, Sized}
+use Rattle.strips.specs.Inner.Laying.{recordOf, storedIn, restoredIn, slotIn, laidOf, Sized}
 use Rattle.strips.proofs.Numbers.{number-cong, number-record, record-at}
-use Rattle.strips.proofs.Places.{strip-place, place-strip, filledTo, filled-before, filled-all, filled-next}
+use Rattle.strips.proofs.Places.{strip-place, place-strip, filledTo, length-filled, filled-none, filled-before, filled-all, filled-next}
 use Rattle.strips.proofs.Days.{earlier-cong, restored-next, restored-lt}
 
 -- strips d with the first i slots of a table
-abbrev pub stripsTo : ℕ → List ℕ → List ℕ → ℕ → List ℕ
+abbrev stripsTo : ℕ → List ℕ → List ℕ → ℕ → List ℕ
 stripsTo n table d i =
     filledTo (λ p. p % slotsOf table) (λ p. storedAt n table (p % slotsOf table) (p / slotsOf table)) d i
 
 -- a table d with the first i slots of strips
-abbrev pub tableTo : ℕ → List ℕ → List ℕ → ℕ → List ℕ
+abbrev tableTo : ℕ → List ℕ → List ℕ → ℕ → List ℕ
 tableTo n strips d i = filledTo (λ p. p / 6) (λ p. restoredAt n strips (p / 6) (p % 6)) d i
 
 module _ (n : ℕ) (given d : List ℕ) (sized : Sized n given d) where
-  pub strips-next : (i : ℕ) → i < slotsOf given → storedIn n given (stripsTo n given d i) i ≡ stripsTo n given d (i + 1)
+  strips-next : (i : ℕ) → i < slotsOf given → storedIn n given (stripsTo n given d i) i ≡ stripsTo n given d (i + 1)
   unfolding storedIn
   strips-next i l =
       let count : ℕ = slotsOf given in
@@ -42,7 +44,7 @@ module _ (n : ℕ) (given d : List ℕ) (sized : Sized n given d) where
             record-at (differenceAt n given i) (inTable given i) (p / slotsOf given) byte ∙ ap (λ (s : ℕ). storedAt n given s (p / slotsOf given)) (sym e),
           )
 
-  pub strips-all : (i : ℕ) → i ≡ slotsOf given → stripsTo n given d i ≡ stripsOf n given
+  strips-all : (i : ℕ) → i ≡ slotsOf given → stripsTo n given d i ≡ stripsOf n given
   unfolding stripsOf
   strips-all i e =
       filled-all (λ p. p % slotsOf given) (λ p. storedAt n given (p % slotsOf given) (p / slotsOf given)) d i
@@ -64,11 +66,11 @@ module _ (n : ℕ) (given d : List ℕ) (sized : Sized n given d) where
           filled-before (λ p. p / 6) (λ p. restoredAt n given (p / 6) (p % 6)) d i (6 * j + k) (omega arith) (omega arith)
           ∙ ap₂ (restoredAt n given) place byte
 
-  pub table-next : (i : ℕ) → i < slotsOf given → restoredIn n given (tableTo n given d i) i ≡ tableTo n given d (i + 1)
+  table-next : (i : ℕ) → i < slotsOf given → restoredIn n given (tableTo n given d i) i ≡ tableTo n given d (i + 1)
   unfolding restoredIn
   table-next i l =
-      let value : (dayEarlier n (valueAt (tableTo n given d i)) i + differenceIn given i) % 4294967296 ≡ restoredValue n given i =
-      ap (λ (x : ℕ). (x + differenceIn given i) % 4294967296) (earlier-written i l) ∙ restored-next n (sized .positive) given i in
+      let value : (dayEarlier n (valueAt (tableTo n given d i)) i + differenceIn given i) % 4_294_967_296 ≡ restoredValue n given i =
+      ap (λ (x : ℕ). (x + differenceIn given i) % 4_294_967_296) (earlier-written i l) ∙ restored-next n (sized .positive) given i in
       rw value (filled-next (λ p. p / 6) (λ p. restoredAt n given (p / 6) (p % 6)) d i (6 * i) 1
       (recordOf (restoredValue n given i) (inStrips given i 4) (inStrips given i 5)) (lit< tt) (λ p. p % 6)
       (λ k m. (omega arith, omega arith))
@@ -78,8 +80,31 @@ module _ (n : ℕ) (given d : List ℕ) (sized : Sized n given d) where
         record-at (restoredValue n given i) (inStrips given i) (p % 6) b ∙ ap (λ (s : ℕ). restoredAt n given s (p % 6)) (sym e),
       )))
 
-  pub table-all : (i : ℕ) → i ≡ slotsOf given → tableTo n given d i ≡ tableOf n given
+  table-all : (i : ℕ) → i ≡ slotsOf given → tableTo n given d i ≡ tableOf n given
   unfolding tableOf
   table-all i e =
       filled-all (λ p. p / 6) (λ p. restoredAt n given (p / 6) (p % 6)) d i (λ p m. omega arith)
       ∙ (rw (sized .room))
+
+-- ---- Either way
+
+abbrev pub laidTo : Way → ℕ → List ℕ → List ℕ → ℕ → List ℕ
+laidTo ToStrips n given d i = stripsTo n given d i
+laidTo FromStrips n given d i = tableTo n given d i
+
+pub laid-none : (way : Way) (n : ℕ) (given d : List ℕ) → d ≡ laidTo way n given d 0
+laid-none ToStrips n given d = filled-none _ _ d
+laid-none FromStrips n given d = filled-none _ _ d
+
+pub length-laid : (way : Way) (n : ℕ) (given d : List ℕ) (i : ℕ) → length (laidTo way n given d i) ≡ length d
+length-laid ToStrips n given d i = length-filled _ _ d i
+length-laid FromStrips n given d i = length-filled _ _ d i
+
+module _ (n : ℕ) (given d : List ℕ) (sized : Sized n given d) where
+  pub laid-next : (way : Way) (i : ℕ) → i < slotsOf given → slotIn way n given (laidTo way n given d i) i ≡ laidTo way n given d (i + 1)
+  laid-next ToStrips i l = strips-next n given d sized i l
+  laid-next FromStrips i l = table-next n given d sized i l
+
+  pub laid-all : (way : Way) (i : ℕ) → i ≡ slotsOf given → laidTo way n given d i ≡ laidOf way n given
+  laid-all ToStrips i e = strips-all n given d sized i e
+  laid-all FromStrips i e = table-all n given d sized i e

@@ -53,9 +53,9 @@ module _ (n : ℕ) (positive : 0 < n) (given : List ℕ) (whole : length given �
   unfolding differenceAt
   value-restored zero i l inside = absurd (not-suc-le-zero l)
   value-restored (suc m) i l inside =
-      let low : (j : ℕ) → valueAt given j < 4294967296 = λ j. number-lt (inTable given j) (λ k. bytes (6 * j + k)) in
+      let low : (j : ℕ) → valueAt given j < 4_294_967_296 = λ j. number-lt (inTable given j) (λ k. bytes (6 * j + k)) in
       sym (restored-next n positive (stripsOf n given) i)
-      ∙ ap₂ (λ (x y : ℕ). (x + y) % 4294967296)
+      ∙ ap₂ (λ (x y : ℕ). (x + y) % 4_294_967_296)
       (earlier-cong n (restoredValue n (stripsOf n given)) (valueAt given) i (λ le. value-restored m (i - n) (omega arith) (omega arith)))
       (stored-difference i inside)
       ∙ add-difference (dayEarlier n (valueAt given) i) (valueAt given i) (earlier-lt n (valueAt given) i low) (low i)
@@ -85,7 +85,7 @@ module _ (n : ℕ) (positive : 0 < n) (given : List ℕ) (whole : length given �
   difference-held : (i : ℕ) → i < slotsOf given → differenceAt n (tableOf n given) i ≡ differenceIn given i
   unfolding differenceAt
   difference-held i l =
-      ap₂ (λ (x y : ℕ). (x + 4294967296 - y) % 4294967296) (value-held i l ∙ sym (restored-next n positive given i))
+      ap₂ (λ (x y : ℕ). (x + 4_294_967_296 - y) % 4_294_967_296) (value-held i l ∙ sym (restored-next n positive given i))
       (earlier-cong n (valueAt (tableOf n given)) (restoredValue n given) i (λ le. value-held (i - n) (omega arith)))
       ∙ difference-added (dayEarlier n (restoredValue n given) i) (differenceIn given i) (earlier-lt n (restoredValue n given) i (restored-lt n given))
       (number-lt (inStrips given i) (λ k. bytes (i + k * slotsOf given)))

@@ -23,7 +23,7 @@ byteOf v k = v / 256 ^ k % 256
 
 -- the number of four bytes, low byte first
 unfoldable pub number : (ℕ → ℕ) → ℕ
-number b = b 0 + 256 * b 1 + 65536 * b 2 + 16777216 * b 3
+number b = b 0 + 256 * b 1 + 65_536 * b 2 + 16_777_216 * b 3
 
 -- byte k of a record: four of its value, then the quality letter and the method of an old record
 unfoldable pub recordByte : ℕ → (ℕ → ℕ) → ℕ → ℕ
@@ -47,7 +47,7 @@ dayEarlier n value i = cond (ltb i n) 0 (value (i - n))
 
 -- "each slot value becomes its difference, modulo 4,294,967,296"
 unfoldable pub differenceAt : ℕ → List ℕ → ℕ → ℕ
-differenceAt n table i = (valueAt table i + 4294967296 - dayEarlier n (valueAt table) i) % 4294967296
+differenceAt n table i = (valueAt table i + 4_294_967_296 - dayEarlier n (valueAt table) i) % 4_294_967_296
 
 -- byte k of what is stored of slot i
 abbrev pub storedAt : ℕ → List ℕ → ℕ → ℕ → ℕ
@@ -63,7 +63,7 @@ differenceIn strips i = number (inStrips strips i)
 
 -- slot i's value: the sum, modulo 4,294,967,296, of the differences at its position on the first day and each later one up to its own
 unfoldable pub restoredValue : ℕ → List ℕ → ℕ → ℕ
-restoredValue n strips i = sum (λ day. differenceIn strips (day * n + i % n)) 0 (suc (i / n)) % 4294967296
+restoredValue n strips i = sum (λ day. differenceIn strips (day * n + i % n)) 0 (suc (i / n)) % 4_294_967_296
 
 -- byte k of slot i's record
 abbrev pub restoredAt : ℕ → List ℕ → ℕ → ℕ → ℕ

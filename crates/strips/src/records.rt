@@ -14,19 +14,19 @@ fn wide(x: u8) -> u64
 // The value of the record at `at`.
 pub fn value(bytes: &[u8], at: usize, step: usize) -> u64
     requires { ⌜ at + 3 * step < length (now bytes) ⌝ }
-    ensures { λ r. ⌜ (r ≡ number (spaced (now (bytes .entry)) at step)) × (r < 4294967296) ⌝ }
+    ensures { λ r. ⌜ (r ≡ number (spaced (now (bytes .entry)) at step)) × (r < 4_294_967_296) ⌝ }
 {
     let first = wide(bytes[at]);
     let second = wide(bytes[at + step]);
     let third = wide(bytes[at + 2 * step]);
     let fourth = wide(bytes[at + 3 * step]);
-    first + 256 * second + 65536 * third + 16777216 * fourth
+    first + 256 * second + 65_536 * third + 16_777_216 * fourth
 }
 
 // The value of the same position a day earlier, 0 on the first day.
 pub fn day_earlier(table: &[u8], n: usize, i: usize) -> u64
     requires { ⌜ (6 * i ≤ length (now table)) × (0 < n) ⌝ }
-    ensures { λ r. ⌜ (r ≡ dayEarlier n (valueAt (now (table .entry))) i) × (r < 4294967296) ⌝ }
+    ensures { λ r. ⌜ (r ≡ dayEarlier n (valueAt (now (table .entry))) i) × (r < 4_294_967_296) ⌝ }
 {
     if i < n {
         return 0;
@@ -45,8 +45,8 @@ pub fn put(out: &mut [u8], at: usize, step: usize, value: u64, letter: u8, metho
     let fifth = fourth + step;
     out[at] = (value % 256) as u8;
     out[second] = (value / 256 % 256) as u8;
-    out[third] = (value / 65536 % 256) as u8;
-    out[fourth] = (value / 16777216 % 256) as u8;
+    out[third] = (value / 65_536 % 256) as u8;
+    out[fourth] = (value / 16_777_216 % 256) as u8;
     out[fifth] = letter;
     out[fifth + step] = method;
 }

@@ -1,10 +1,10 @@
--- `to_strips`: 1, then 22, then the strips.
+-- `convert`: 1, then 22, then what is laid.
 use native.Mathlib.Omega.{arith}
 use borrow.Author.Needs.{needs}
 use Rattle.rules.proofs.Bounds.{interval-bounds}
 use Rattle.strips.proofs.Answers.{passes, fails, refuses-interval, refuses-lengths, accepts, sized}
-use Rattle.strips.proofs.to_strips.Statement.{statement}
-use Rattle.strips.proofs.to_strips.Tie as tie
+use Rattle.strips.proofs.convert.Statement.{statement}
+use Rattle.strips.proofs.convert.Tie as tie
 
 is-interval-requires : tie.Need-is-interval-requires
 is-interval-requires c κs = search needs
@@ -12,7 +12,7 @@ is-interval-requires c κs = search needs
 returns : tie.Need-returns
 returns c =
     let a = c .before .before .before .before .args in
-    refuses-interval (a .interval) (a .table .now) (a .out .now) _ (fails (c .before .is-interval .ensures) (c .if1 .taken))
+    refuses-interval (a .interval) (a .given .now) (a .out .now) _ (fails (c .before .is-interval .ensures) (c .if1 .taken))
 
 div-n : tie.Need-div-n
 div-n c = omega (arith, interval-bounds _ (passes (c .before .is-interval .ensures) (c .if1 .left)))
@@ -26,13 +26,13 @@ fit-requires c κs = omega (arith, interval-bounds _ (passes (c .before .is-inte
 returns-2 : tie.Need-returns-2
 returns-2 c =
     let a = c .before .before .before .before .before .before .args in
-    refuses-lengths (a .interval) (a .table .now) (a .out .now) _ (passes (c .before .before .before .is-interval .ensures) (c .before .before .if1 .left))
+    refuses-lengths (a .interval) (a .given .now) (a .out .now) _ (passes (c .before .before .before .is-interval .ensures) (c .before .before .if1 .left))
     (fails (c .before .fit .ensures) (c .if2 .taken))
 
-lay-requires : tie.Need-lay-requires
-lay-requires c κs =
+write-requires : tie.Need-write-requires
+write-requires c κs =
     let a = c .before .before .before .before .before .before .before .args in
-    sized (a .interval) (a .table .now) (a .out .now) (passes (c .before .before .before .before .is-interval .ensures) (c .before .before .before .if1 .left))
+    sized (a .interval) (a .given .now) (a .out .now) (passes (c .before .before .before .before .is-interval .ensures) (c .before .before .before .if1 .left))
     (passes (c .before .before .fit .ensures) (c .before .if2 .left))
 
 same-length : tie.Need-same-length
@@ -41,11 +41,11 @@ same-length c = search needs
 returns-3 : tie.Need-returns-3
 returns-3 c =
     let a = c .before .before .before .before .before .before .before .before .before .before .args in
-    accepts (a .interval) (a .table .now) (a .out .now) _ _ (passes (c .before .before .before .before .before .before .before .is-interval .ensures) (c .before .before .before .before .before .before .if1 .left))
-    (passes (c .before .before .before .before .before .fit .ensures) (c .before .before .before .before .if2 .left)) (c .before .before .lay .ensures)
+    accepts (a .interval) (a .given .now) (a .out .now) _ _ (passes (c .before .before .before .before .before .before .before .is-interval .ensures) (c .before .before .before .before .before .before .if1 .left))
+    (passes (c .before .before .before .before .before .fit .ensures) (c .before .before .before .before .if2 .left)) (c .before .before .write .ensures)
 
-pub to-strips-spec : {M : Type 1} → statement M
-to-strips-spec =
+pub convert-spec : {M : Type 1} → statement M
+convert-spec =
     tie.close
     (tie.spec
     is-interval-requires
@@ -54,6 +54,6 @@ to-strips-spec =
     cast-n
     fit-requires
     returns-2
-    lay-requires
+    write-requires
     same-length
     returns-3)

@@ -3,7 +3,9 @@ use mathlib.Core.Path.{_≡_}
 use mathlib.Core.List.{List, [], _∷_}
 use Prim.Native.Nat.{ℕ, _+_, _*_, _%_, _<_}
 use lib.ListN.{length, getD, set}
-use Rattle.strips.specs.Strips.{slotsOf, byteOf, inTable, inStrips, valueAt, dayEarlier, differenceAt, differenceIn}
+use Rattle.strips.specs.declared.Way.{Way}
+use Rattle.strips.specs.declared.Way.the-variants.{ToStrips, FromStrips}
+use Rattle.strips.specs.Strips.{slotsOf, byteOf, inTable, inStrips, valueAt, dayEarlier, differenceAt, stripsOf, differenceIn, tableOf}
 
 -- byte k of the record at place at, whose bytes stand step apart
 abbrev pub spaced : List ℕ → ℕ → ℕ → ℕ → ℕ
@@ -27,7 +29,16 @@ storedIn n table d i =
 unfoldable pub restoredIn : ℕ → List ℕ → List ℕ → ℕ → List ℕ
 restoredIn n strips d i =
     strewn d (6 * i) 1
-    (recordOf ((dayEarlier n (valueAt d) i + differenceIn strips i) % 4294967296) (inStrips strips i 4) (inStrips strips i 5))
+    (recordOf ((dayEarlier n (valueAt d) i + differenceIn strips i) % 4_294_967_296) (inStrips strips i 4) (inStrips strips i 5))
+
+-- by the way: what is written of slot i, and what is laid in all
+abbrev pub slotIn : Way → ℕ → List ℕ → List ℕ → ℕ → List ℕ
+slotIn ToStrips n given d i = storedIn n given d i
+slotIn FromStrips n given d i = restoredIn n given d i
+
+abbrev pub laidOf : Way → ℕ → List ℕ → List ℕ
+laidOf ToStrips n given = stripsOf n given
+laidOf FromStrips n given = tableOf n given
 
 -- whole records, and an output of the same length
 pub record Sized (n : ℕ) (given out : List ℕ) : Type 0 where
