@@ -6,7 +6,6 @@ use lib.ListN.{replicate}
 use Rattle.rules.specs.declared.Outcome.{Outcome}
 use Rattle.rules.specs.declared.Quality.the-variants.{A, S, F}
 use Rattle.rules.specs.declared.Span.{Span}
-use Rattle.file.specs.declared.Figures.{Figures}
 use Rattle.file.specs.declared.Verdict.{Verdict}
 use Rattle.file.specs.declared.Verdict.the-variants.{Accepted, Refused}
 use Rattle.file.specs.Layout.{Content, row, trailerRow, figuresOf, fileOf}

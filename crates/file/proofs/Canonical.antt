@@ -22,7 +22,7 @@ use Rattle.file.specs.declared.Verdict.the-variants.{Accepted}
 use Rattle.file.specs.Layout.{Content, total, one, row, fieldsOf, table, slotWidths, slotRow, spanRow, ranged, spanWidth, spanTableBytes, trailerWidths, trailerRow, figuresOf, tablesOf, fileOf}
 use Rattle.file.specs.Reader.{fieldAt, slotAt, spanAt, trailerAt, trailerField, figures, layoutFits, fileSlots, tablesAt, countOf, trailerTests, tableTests, figureTests, spanTests, spanOk, trailerOk, tablesOk, figuresOk, readFile, partOf, tablesPart}
 use Rattle.file.specs.Contents.{Bytes, WellFormed, slot, span, noSlot, slotRecord, spanRecord, recordsOf, outcomeOf, spanOfRecord, contentOf}
-use Rattle.file.specs.Claim.{FileOf, Exactly, Canonical}
+use Rattle.file.specs.Claim.{Exactly, Canonical}
 use Rattle.file.proofs.Offsets.{value-lt}
 use Rattle.file.proofs.Rows.{row-reads, field-take, table-reads}
 use Rattle.file.proofs.Records.{record-tells}

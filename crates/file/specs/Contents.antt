@@ -1,10 +1,11 @@
 -- What the theorems on files say of a content: that it is well formed, and what two tables and figures hold.
 use mathlib.Core.Path.{_≡_}
-use mathlib.Core.Bool.{Bool, true, false, cond}
+use mathlib.Core.Bool.{true, false, cond}
 use mathlib.Core.List.{List}
 use Prim.Native.Nat.{ℕ, _*_, _/_, _^_, _<_}
 use lib.Dec.{eqb}
 use lib.ListN.{length, getD}
+use Rattle.rules.specs.Numbers.{dayMinutes}
 use Rattle.base.specs.Lists.{every, upTo}
 use Rattle.rules.specs.declared.Outcome.{Outcome}
 use Rattle.rules.specs.declared.Quality.{Quality}
@@ -42,7 +43,7 @@ spanRecord s = record { first = s .first; last = s .last; lowest = s .lowest; hi
 
 abbrev pub recordsOf : Content → Tables
 recordsOf f = record {
-  perDay = 1440 / f .interval;
+  perDay = dayMinutes / f .interval;
   days = f .days;
   spans = length (f .spans);
   slot = λ i. slotRecord (slot f i);
@@ -53,7 +54,7 @@ recordsOf f = record {
 -- a layout that goes with its F slots, and in layouts 1 and 2 spans of one advance R
 pub record WellFormed (f : Content) : Type 0 where
   pub head : every (headFieldTests (f .first) (f .days) (f .interval)) ≡ true
-  pub slots : length (f .slots) ≡ 1440 / f .interval * f .days
+  pub slots : length (f .slots) ≡ dayMinutes / f .interval * f .days
   pub values : (i : ℕ) → i < length (f .slots) → slot f i .value < 2 ^ 32
   pub tables : every (tableTests (recordsOf f)) ≡ true
   pub known : layoutOk (f .layout) ≡ true

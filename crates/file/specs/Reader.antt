@@ -4,6 +4,9 @@ use mathlib.Core.List.{List, [], _∷_}
 use Prim.Native.Nat.{ℕ, zero, suc, _+_, _-_, _*_, _/_}
 use lib.Dec.{leb, ltb, eqb}
 use lib.ListN.{length, getD, take}
+use Rattle.base.specs.Numbers.{eightDigits}
+use Rattle.calendar.specs.Calendar.{dayCount}
+use Rattle.rules.specs.Numbers.{dayMinutes, mostDays}
 use Rattle.base.specs.Lists.{sum, any, every, all, count, oneOf, same, implies}
 use Rattle.rules.specs.declared.Quality.{Quality}
 use Rattle.rules.specs.declared.Quality.the-variants.{A, S, F, N}
@@ -76,15 +79,15 @@ distance bs = trailerField bs 9
 
 -- N = n × D
 abbrev pub fileSlots : Figures → ℕ
-fileSlots g = 1440 / g .interval * g .days
+fileSlots g = dayMinutes / g .interval * g .days
 
 -- first day, D and L as under Opening; 2099-12-31 is day 36,524
 abbrev pub headFieldTests : ℕ → ℕ → ℕ → List Bool
 headFieldTests first days interval =
     intervalOk interval
     ∷ leb 1 days
-    ∷ leb days 400
-    ∷ leb (first + days) 36_525
+    ∷ leb days mostDays
+    ∷ leb (first + days) dayCount
     ∷ []
 
 -- the reader knows layouts 1 and 2 (02, W1) and 3 (02, W10)
@@ -121,7 +124,7 @@ abbrev pub forms : SlotRecord → List Bool
 forms r =
     isForm A 0 r ∷ isForm S 2 r ∷ isForm S 3 r ∷ isForm S 18 r ∷ isForm S 19 r
     ∷ (isForm A 1 r && eqb (r .value) 0) ∷ (isForm N 0 r && eqb (r .value) 0)
-    ∷ (isForm F 5 r && leb (r .value) 99_999_999) ∷ []
+    ∷ (isForm F 5 r && leb (r .value) eightDigits) ∷ []
 
 unfoldable pub recordOk : SlotRecord → Bool
 recordOk r = oneOf (forms r)
@@ -161,7 +164,7 @@ module _ (t : Tables) where
       ∷ leb (t .span j .last) (t .days)
       ∷ implies (ltb 0 j) (eqb (t .span j .first) (t .span (j - 1) .last))
       ∷ leb (t .span j .lowest) (t .span j .highest)
-      ∷ leb (t .span j .highest) 99_999_999
+      ∷ leb (t .span j .highest) eightDigits
       ∷ leb (t .span j .state) 3
       ∷ eqb (t .span j .blank) 0
       ∷ []
@@ -222,7 +225,7 @@ module _ (t : Tables) where
 
 abbrev pub tablesAt : List ℕ → Figures → Tables
 tablesAt bs g = record {
-  perDay = 1440 / g .interval;
+  perDay = dayMinutes / g .interval;
   days = g .days;
   spans = g .spans;
   slot = slotAt bs;

@@ -64,7 +64,7 @@ fn record_ok(slot: SlotRecord) -> bool
         return method == 0 && slot.value == 0;
     }
     if slot.letter == b'F' {
-        return method == 5 && slot.value <= 99_999_999;
+        return method == 5 && slot.value <= base::EIGHT_DIGITS;
     }
     false
 }

@@ -10,6 +10,7 @@ ghost use mathlib.Core.List.{[], _∷_};
 ghost use Prim.Native.Nat.{_+_, _-_, _*_, _<_, _≤_};
 ghost use lib.Dec.{eqb, leb, ltb};
 ghost use lib.ListN.{length};
+ghost use Rattle.base.specs.Numbers.{eightDigits};
 ghost use Rattle.base.specs.Lists.{every, all, implies};
 ghost use Rattle.file.specs.Layout.{ranged};
 ghost use Rattle.file.specs.Reader.{readSpan, spanAt, fileSlots, tablesAt, inRange, stateRule, spanOk, stateOk, outsideOk};
@@ -81,12 +82,12 @@ fn follows(file: &[u8], g: Figures, j: usize, first: u32) -> bool
 
 // lowest ≤ highest ≤ 99,999,999, state 0 to 3, last byte zero.
 fn fields_ok(s: SpanRecord) -> bool
-    ensures { λ r. ⌜ r ≡ every (leb (s .lowest) (s .highest) ∷ leb (s .highest) 99_999_999 ∷ leb (s .state) 3 ∷ eqb (s .blank) 0 ∷ []) ⌝ }
+    ensures { λ r. ⌜ r ≡ every (leb (s .lowest) (s .highest) ∷ leb (s .highest) eightDigits ∷ leb (s .state) 3 ∷ eqb (s .blank) 0 ∷ []) ⌝ }
 {
     if s.highest < s.lowest {
         return false;
     }
-    if 99_999_999 < s.highest {
+    if base::EIGHT_DIGITS < s.highest {
         return false;
     }
     if 3 < s.state {

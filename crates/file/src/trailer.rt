@@ -6,6 +6,7 @@ ghost use mathlib.Core.Path.{_≡_};
 ghost use mathlib.Core.Bool.{true};
 ghost use Prim.Native.Nat.{_*_, _/_, _≤_};
 ghost use lib.ListN.{length};
+ghost use Rattle.rules.specs.Numbers.{dayMinutes};
 ghost use Rattle.base.specs.Lists.{every};
 ghost use Rattle.file.specs.Layout.{spanTableBytes};
 ghost use Rattle.file.specs.Reader.{figures, headFieldTests, layoutOk, fileSlots, trailerOk};
@@ -20,10 +21,10 @@ fn head_ok(g: Figures) -> bool
     if g.days < 1 {
         return false;
     }
-    if 400 < g.days {
+    if rules::MOST_DAYS < g.days {
         return false;
     }
-    g.first as u64 + g.days as u64 <= 36_525
+    g.first as u64 + g.days as u64 <= calendar::DAY_COUNT as u64
 }
 
 fn is_layout(layout: u32) -> bool
@@ -38,9 +39,9 @@ fn is_layout(layout: u32) -> bool
 // n, the slots of a day.
 pub fn per_day(g: Figures) -> usize
     requires { ⌜ every (headFieldTests (g .first) (g .days) (g .interval)) ≡ true ⌝ }
-    ensures { λ r. ⌜ (r ≡ 1440 / g .interval) × (r ≤ 288) ⌝ }
+    ensures { λ r. ⌜ (r ≡ dayMinutes / g .interval) × (r ≤ 288) ⌝ }
 {
-    1440 / g.interval as usize
+    (rules::DAY_MINUTES / g.interval) as usize
 }
 
 // N, the slots of the book.

@@ -1,18 +1,18 @@
 -- How long the line is, and what it leaves in a buffer.
-use mathlib.Core.List.{List, [], _∷_, _++_}
+use mathlib.Core.List.{List, _++_}
 use mathlib.Core.Path.{_≡_, refl, ap, _∙_}
 use Prim.Native.Nat.{ℕ, _+_, _^_, _≤_, _<_}
 use native.Mathlib.Nat.{zero-add}
 use native.Mathlib.Omega.{arith}
 use borrow.Author.Tests.{lt-ltb, le-ltb}
-use lib.ListN.{length, take, drop, length-append}
+use lib.ListN.{length, drop, length-append}
 use lib.Seq.{take-at, drop-append-seam}
 use Rattle.base.specs.Text.{ascii}
 use Rattle.calendar.specs.declared.Date.{Date}
 use Rattle.calendar.specs.Calendar.{dateOf}
 use Rattle.file.specs.declared.Figures.{Figures}
 use Rattle.line.specs.declared.Lined.the-variants as lined
-use Rattle.line.specs.Line.{digits, places, decimal, dateText, field, headText, countsText, figuresText, refused, newline, AtStart, figuresAnswer, figuresAfter}
+use Rattle.line.specs.Line.{places, decimal, dateText, field, figuresText, refused, newline, AtStart, figuresAnswer, figuresAfter}
 use Rattle.line.specs.Inner.Writing.{Added}
 use Rattle.line.proofs.Digits.{length-digits, places-le}
 use Rattle.line.proofs.Putting.{capped-low, stored-all}

@@ -10,6 +10,7 @@ use writing::put_text;
 ghost use mathlib.Core.Path.{_≡_};
 ghost use mathlib.Core.List.{_++_};
 ghost use Prim.Native.Nat.{_<_};
+ghost use Rattle.calendar.specs.Calendar.{dayCount};
 ghost use Rattle.line.specs.Line.{dateText, field, headText, countsText, figuresText, refused, newline, line as Line·line};
 ghost use Rattle.line.specs.Line.{AtStart, figuresAnswer, figuresAfter, lineAnswer, lineAfter};
 ghost use Rattle.line.specs.Inner.Writing.{Added};
@@ -48,7 +49,7 @@ fn put_date(out: &mut [u8], date: Date) -> usize
 
 // The first day, D and L, at the start.
 fn put_head(out: &mut [u8], g: Figures) -> usize
-    requires { ⌜ g .first < 36_525 ⌝ }
+    requires { ⌜ g .first < dayCount ⌝ }
     ensures { λ r. ⌜ Added (now (out .entry)) 0 (now (out .exit)) r (headText g) ⌝ }
 {
     let date = put_date(out, calendar::date_of(g.first));
@@ -67,7 +68,7 @@ fn put_counts(out: &mut [u8], at: usize, g: Figures) -> usize
 
 // A file's figures, at the start.
 fn put_line(out: &mut [u8], g: Figures) -> usize
-    requires { ⌜ g .first < 36_525 ⌝ }
+    requires { ⌜ g .first < dayCount ⌝ }
     ensures { λ r. ⌜ Added (now (out .entry)) 0 (now (out .exit)) r (figuresText g) ⌝ }
 {
     let head = put_head(out, g);
@@ -77,7 +78,7 @@ fn put_line(out: &mut [u8], g: Figures) -> usize
 
 // The line of a file's figures.
 fn put_figures(out: &mut [u8], g: Figures) -> usize
-    requires { ⌜ g .first < 36_525 ⌝ }
+    requires { ⌜ g .first < dayCount ⌝ }
     ensures { λ r. ⌜ Added (now (out .entry)) 0 (now (out .exit)) r (figuresText g ++ newline) ⌝ }
 {
     let end = put_line(out, g);
@@ -108,7 +109,7 @@ pub fn line(bytes: &[u8], out: &mut [u8; 160]) -> usize
 
 // The figures of an accepted file, where they have room.
 fn fit_line(out: &mut [u8], g: Figures) -> Lined
-    requires { ⌜ g .first < 36_525 ⌝ }
+    requires { ⌜ g .first < dayCount ⌝ }
     ensures { λ r. ⌜
         (r ≡ figuresAnswer g (now (out .entry)))
         × (now (out .exit) ≡ figuresAfter g (now (out .entry)))

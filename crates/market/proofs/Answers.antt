@@ -3,7 +3,7 @@ use mathlib.Core.Bool.{Bool, true, false, _&&_, and-true, and-assoc}
 use mathlib.Core.List.{List, [], _∷_}
 use mathlib.Core.Logic.{⊎-elim}
 use mathlib.Core.Path.{_≡_, refl, sym, ap, _∙_}
-use Prim.Native.Nat.{ℕ, _+_, _-_, _/_, _^_, _≤_, _<_}
+use Prim.Native.Nat.{ℕ, _+_, _-_, _^_, _≤_, _<_}
 use native.Mathlib.Omega.{arith}
 use borrow.Author.Tests.{leb-true, leb-false, eqb-true, le-leb, lt-leb, ltb-true, ltb-false}
 use lib.Dec.{leb, ltb}
@@ -13,9 +13,7 @@ use Rattle.base.proofs.Logic.{either, passed, and-parts}
 use Rattle.file.specs.declared.Figures.{Figures}
 use Rattle.file.specs.declared.Verdict.{Verdict}
 use Rattle.file.specs.declared.Verdict.the-variants as verdict
-use Rattle.file.specs.Reader.{figures, headFieldTests, readFile}
-use Rattle.file.proofs.Answers.{ready, tests-passed}
-use Rattle.file.proofs.Head.{interval-is, interval-pos, per-day-le, days-le}
+use Rattle.file.specs.Reader.{figures, readFile}
 use Rattle.market.specs.declared.Codes.{Codes}
 use Rattle.market.specs.declared.Exported.the-variants.{Length, Refused}
 use Rattle.market.specs.declared.checks.Class.the-variants.{Plain, Digit}
@@ -23,7 +21,6 @@ use Rattle.market.specs.Fields.{Texts}
 use Rattle.market.specs.Records.{record900}
 use Rattle.market.specs.Export.{contentOf, bodyOf, exportOf, allOf, identifierOk, timeOk, codesOk, suppliedTests, suppliedOk, answerFor, exportAnswer, exportAfter}
 use Rattle.line.specs.Inner.Writing.{capped, Added}
-use Rattle.market.specs.Inner.Writing.{Tabled}
 use Rattle.line.proofs.Putting.{capped-low, capped-high, stored-all}
 
 -- ---- What is supplied
@@ -64,35 +61,17 @@ less-five n room l =
 -- a count that stopped is beyond every buffer
 pub room-for : (n room : ℕ) → room < 2 ^ 64 → leb (capped n + 5) room ≡ leb (n + 5) room
 room-for n room l =
-    ⊎-elim (λ e. ap (λ (x : ℕ). leb (x + 5) room) (capped-low n (omega (arith, ltb-true n 18446744073709551615 e))))
+    ⊎-elim (λ e. ap (λ (x : ℕ). leb (x + 5) room) (capped-low n (omega (arith, ltb-true n 18_446_744_073_709_551_615 e))))
     (λ e.
-    let h : 18446744073709551615 ≤ n = ltb-false n 18446744073709551615 e in
+    let h : 18_446_744_073_709_551_615 ≤ n = ltb-false n 18_446_744_073_709_551_615 e in
     let far : room < n + 5 = omega arith in
-    let near : room < 18446744073709551615 + 5 = omega arith in
-    ap (λ (x : ℕ). leb (x + 5) room) (capped-high n h) ∙ lt-leb (18446744073709551615 + 5) room near ∙ sym (lt-leb (n + 5) room far))
-    (either (ltb n 18446744073709551615))
+    let near : room < 18_446_744_073_709_551_615 + 5 = omega arith in
+    ap (λ (x : ℕ). leb (x + 5) room) (capped-high n h) ∙ lt-leb (18_446_744_073_709_551_615 + 5) room near ∙ sym (lt-leb (n + 5) room far))
+    (either (ltb n 18_446_744_073_709_551_615))
 
 -- ---- An accepted file
 
 module _ (bs : List ℕ) (g : Figures) (e : readFile bs ≡ verdict.Accepted g) where
-  pub figures-are : figures bs ≡ g
-  figures-are = tests-passed bs g e .1
-
-  pub some-interval : 0 < g .interval
-  some-interval = interval-pos (g .first) (g .days) (g .interval) (ready bs g (tests-passed bs g e .0 .trailer) .head)
-
-  pub tabled : Tabled bs (g .first) (1440 / g .interval) (g .days)
-  tabled =
-      let r = ready bs g (tests-passed bs g e .0 .trailer) in
-      let tests = headFieldTests (g .first) (g .days) (g .interval) in
-      record {
-        long = omega (arith, r .long);
-        some = interval-is (g .first) (g .days) (g .interval) (r .head) (λ x. 1 ≤ 1440 / x) (omega arith) (omega arith) (omega arith);
-        day = per-day-le (g .first) (g .days) (g .interval) (r .head);
-        few = days-le (g .first) (g .days) (g .interval) (r .head);
-        dates = leb-true _ _ (passed tests (r .head) 3);
-      }
-
   module _ (t : Texts) (codes : Codes) (out : List ℕ) where
     pub refused-14 : identifierOk (t .identifier) ≡ false → (Refused 14 ≡ exportAnswer bs t codes out) × (out ≡ exportAfter bs t codes out)
     unfolding exportAfter exportAnswer

@@ -28,7 +28,8 @@ use Rattle.base.specs.Text.{ascii}
 use Rattle.market.specs.Records.{record100, record200, record900, daysOf}
 use Rattle.market.specs.Export.{Content, contentOf, bodyOf, exportOf, codesOk, suppliedTests, suppliedOk, exportAnswer, exportAfter}
 use Rattle.market.specs.Claim.{SameContent, EqualExactly}
-use Rattle.market.proofs.Answers.{figures-are, tabled, answer-is}
+use Rattle.file.proofs.Answers.{figures-are, tabled, dates-le}
+use Rattle.market.proofs.Answers.{answer-is}
 use Rattle.market.proofs.Numerals.{decimal-split}
 use Rattle.market.proofs.Splits.{Plainly}
 use Rattle.market.proofs.DaySplits.{Slots, Told, days-split}
@@ -164,7 +165,7 @@ sound bs b g e t codes ok =
       few = table .day;
       short = interval-is (g .first) (g .days) (g .interval) head (λ x. x < 2 ^ 32) (omega arith) (omega arith) (omega arith);
       begun = leb-true _ _ (passed (headFieldTests (g .first) (g .days) (g .interval)) head 1);
-      dates = table .dates;
+      dates = dates-le bs g e;
       slots = record {
         value = λ i. value-lt bs b i;
         plain = λ i l. plain-mark codes codes-ok (slotAt bs i);

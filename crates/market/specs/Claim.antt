@@ -5,6 +5,7 @@ use mathlib.Core.Logic.{_↔_}
 use mathlib.Core.Path.{_≡_}
 use Prim.Native.Nat.{ℕ, _+_, _*_, _/_, _≤_, _<_}
 use lib.ListN.{take}
+use Rattle.rules.specs.Numbers.{dayMinutes}
 use Rattle.file.specs.Contents.{Bytes}
 use Rattle.market.specs.declared.Codes.{Codes}
 use Rattle.market.specs.declared.Exported.the-variants.{Length}
@@ -20,9 +21,9 @@ pub record SameContent (c d : Content) : Type 0 where
   pub first : c .first ≡ d .first
   pub days : c .days ≡ d .days
   pub interval : c .interval ≡ d .interval
-  pub values : (i : ℕ) → i < 1440 / c .interval * c .days → c .value i ≡ d .value i
-  pub qualities : (i : ℕ) → i < 1440 / c .interval * c .days → c .mark i .letter ≡ d .mark i .letter
-  pub methods : (i : ℕ) → i < 1440 / c .interval * c .days → c .mark i .code ≡ d .mark i .code
+  pub values : (i : ℕ) → i < dayMinutes / c .interval * c .days → c .value i ≡ d .value i
+  pub qualities : (i : ℕ) → i < dayMinutes / c .interval * c .days → c .mark i .letter ≡ d .mark i .letter
+  pub methods : (i : ℕ) → i < dayMinutes / c .interval * c .days → c .mark i .code ≡ d .mark i .code
 
 -- two calls that answer a length leave equal lengths and equal bytes up to it exactly when this is so; proved by `equal-exactly`
 abbrev pub EqualExactly : Type 0

@@ -4,6 +4,7 @@ use mathlib.Core.List.{List, [], _∷_, _++_}
 use Prim.Native.Nat.{ℕ, _/_}
 use lib.Dec.{leb, eqb}
 use lib.ListN.{length, getD, drop}
+use Rattle.rules.specs.Numbers.{dayMinutes}
 use Rattle.base.specs.Lists.{every, all}
 use Rattle.file.specs.declared.Verdict.{Verdict}
 use Rattle.file.specs.declared.Verdict.the-variants as verdict
@@ -42,7 +43,7 @@ unfoldable pub bodyOf : Texts → Content → List ℕ
 bodyOf t c =
     record100 (t .created) (t .from) (t .to)
     ++ (record200 (t .identifier) (t .configuration) (t .register) (t .suffix) (t .stream) (t .serial) (c .interval) (t .nextRead)
-    ++ daysOf (t .reason) (t .created) (c .first) (c .value) (c .mark) (1440 / c .interval) (c .days))
+    ++ daysOf (t .reason) (t .created) (c .first) (c .value) (c .mark) (dayMinutes / c .interval) (c .days))
 
 unfoldable pub exportOf : Texts → Content → List ℕ
 exportOf t c = bodyOf t c ++ record900

@@ -2,4 +2,3 @@ pub mod Fields
 pub mod Records
 pub mod Export
 pub mod Claim
-pub mod Inner

@@ -12,12 +12,13 @@ ghost use mathlib.Core.List.{[]};
 ghost use mathlib.Core.Path.{_≡_};
 ghost use Prim.Native.Nat.{ℕ, _+_, _*_, _≤_, _<_};
 ghost use lib.ListN.{length};
+ghost use Rattle.calendar.specs.Calendar.{dayCount};
 ghost use Rattle.file.specs.Reader.{slotAt};
 ghost use Rattle.market.specs.declared.marks.Mark.{Mark};
 ghost use Rattle.market.specs.Fields.{field, joined, kwh, dateField, markOf};
 ghost use Rattle.market.specs.Records.{record300, record400, runs, dayRecords, daysOf};
+ghost use Rattle.file.specs.Inner.Reading.{Tabled};
 ghost use Rattle.line.specs.Inner.Writing.{Added};
-ghost use Rattle.market.specs.Inner.Writing.{Tabled};
 
 // The day `number` has the slots from slot `from` on.
 pub struct Day {
@@ -55,7 +56,7 @@ fn put_values(out: &mut [u8], at: usize, file: &[u8], a: usize, k: usize) -> usi
 }
 
 fn put_date(out: &mut [u8], at: usize, number: u32) -> usize
-    requires { ⌜ number < 36_525 ⌝ }
+    requires { ⌜ number < dayCount ⌝ }
     ensures { λ r. ⌜ Added (now (out .entry)) at (now (out .exit)) r (dateField number) ⌝ }
 {
     let date = calendar::date_of(number);
@@ -74,7 +75,7 @@ fn put_300(
     reason: &[u8],
     created: &[u8],
 ) -> usize
-    requires { ⌜ (6 * (day .from + day .slots) ≤ length (now file)) × (day .number < 36_525) ⌝ }
+    requires { ⌜ (6 * (day .from + day .slots) ≤ length (now file)) × (day .number < dayCount) ⌝ }
     ensures { λ r. ⌜
         (let value : ℕ → ℕ = λ i. slotAt (now (file .entry)) i .value in
         let text = record300 (now (reason .entry)) (now (created .entry)) (day .number) value (day .from) (day .slots) mark in
@@ -167,7 +168,7 @@ fn put_day(
     reason: &[u8],
     created: &[u8],
 ) -> usize
-    requires { ⌜ (6 * (day .from + day .slots) ≤ length (now file)) × (1 ≤ day .slots) × (day .number < 36_525) ⌝ }
+    requires { ⌜ (6 * (day .from + day .slots) ≤ length (now file)) × (1 ≤ day .slots) × (day .number < dayCount) ⌝ }
     ensures { λ r. ⌜
         (let value : ℕ → ℕ = λ i. slotAt (now (file .entry)) i .value in
         let marks : ℕ → Mark = λ i. markOf codes (slotAt (now (file .entry)) i) in
@@ -196,7 +197,7 @@ pub fn put_days(
     reason: &[u8],
     created: &[u8],
 ) -> usize
-    requires { ⌜ Tabled (now file) first n days ⌝ }
+    requires { ⌜ Tabled (now file) n days × (first + days ≤ dayCount) ⌝ }
     ensures { λ r. ⌜
         (let value : ℕ → ℕ = λ i. slotAt (now (file .entry)) i .value in
         let marks : ℕ → Mark = λ i. markOf codes (slotAt (now (file .entry)) i) in

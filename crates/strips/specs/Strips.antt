@@ -4,6 +4,7 @@ use mathlib.Core.List.{List, [], _∷_}
 use Prim.Native.Nat.{ℕ, suc, _+_, _-_, _*_, _/_, _%_, _^_}
 use lib.Dec.{ltb, eqb}
 use lib.ListN.{length, getD}
+use Rattle.rules.specs.Numbers.{dayMinutes, mostDays}
 use Rattle.base.specs.Lists.{every, any, sum, upTo}
 use Rattle.rules.specs.Opening.{intervalOk}
 use Rattle.base.specs.declared.Performed.{Performed}
@@ -11,7 +12,7 @@ use Rattle.base.specs.declared.Performed.the-variants.{Done, Refused}
 
 -- n: slots a day
 abbrev pub perDay : ℕ → ℕ
-perDay interval = 1440 / interval
+perDay interval = dayMinutes / interval
 
 -- N: a slot's record is six bytes, in the table and in the strips
 abbrev pub slotsOf : List ℕ → ℕ
@@ -75,7 +76,7 @@ tableOf n strips = upTo (λ p. restoredAt n strips (p / 6) (p % 6)) 0 (length st
 
 -- "6 × n times a number of days from 1 to 400"
 unfoldable pub wholeDays : ℕ → ℕ → Bool
-wholeDays n table = any (λ days. eqb table (6 * n * days)) 1 400
+wholeDays n table = any (λ days. eqb table (6 * n * days)) 1 mostDays
 
 -- that, and an output as long
 unfoldable pub lengthsOk : ℕ → ℕ → ℕ → Bool

@@ -4,6 +4,7 @@ use mathlib.Core.List.{List, [], _∷_}
 use Prim.Native.Nat.{ℕ, _+_, _-_, _*_, _/_, _%_}
 use lib.Dec.{leb, ltb, eqb}
 use lib.ListN.{length, getD}
+use Rattle.rules.specs.Numbers.{dayMinutes}
 use Rattle.base.specs.Lists.{sum, every, upTo, all}
 use Rattle.file.specs.declared.Verdict.{Verdict}
 use Rattle.file.specs.declared.Verdict.the-variants as verdict
@@ -30,7 +31,7 @@ endOf pairs k = getD pairs (2 * k + 1) 0
 
 -- each pair's total, as if it were the only one
 unfoldable pub totalsOf : List ℕ → List ℕ → List ℕ
-totalsOf bs pairs = upTo (λ k. stayTotal bs (1440 / figures bs .interval) (firstOf pairs k) (endOf pairs k)) 0 (pairCount pairs)
+totalsOf bs pairs = upTo (λ k. stayTotal bs (dayMinutes / figures bs .interval) (firstOf pairs k) (endOf pairs k)) 0 (pairCount pairs)
 
 -- ---- The answer
 

@@ -7,7 +7,8 @@ ghost use lib.ListN.{length};
 ghost use Rattle.base.specs.Lists.{sum, upTo};
 ghost use Rattle.file.specs.Reader.{slotAt};
 ghost use Rattle.totals.specs.Stays.{pairCount};
-ghost use Rattle.totals.specs.Inner.Adding.{holds, withDay, Room, totalsBefore, Fitted};
+ghost use Rattle.file.specs.Inner.Reading.{Tabled};
+ghost use Rattle.totals.specs.Inner.Adding.{holds, withDay, Room, totalsBefore};
 
 fn value_at(file: &[u8], i: usize) -> u64
     requires { ⌜ 6 * (i + 1) ≤ length (now file) ⌝ }
@@ -64,7 +65,7 @@ fn clear(totals: &mut [u64])
 
 // The totals over a slot table of `days` days of `n` slots.
 pub fn total_days(file: &[u8], n: usize, days: u32, pairs: &[u32], totals: &mut [u64])
-    requires { ⌜ Fitted (now file) n days × (length (now totals) ≡ pairCount (now pairs)) ⌝ }
+    requires { ⌜ Tabled (now file) n days × (length (now totals) ≡ pairCount (now pairs)) ⌝ }
     ensures { λ _. ⌜ now (totals .exit) ≡ totalsBefore (now (file .entry)) n (now (pairs .entry)) days ⌝ }
 {
     clear(totals);

@@ -7,6 +7,7 @@ use lib.ListN.{length}
 use Rattle.base.specs.Lists.{sum, any, every, count}
 use Rattle.rules.specs.declared.Quality.{Quality}
 use Rattle.rules.specs.declared.Quality.the-variants.{A, S, F, N}
+use Rattle.rules.specs.Numbers.{mostDays}
 use Rattle.file.specs.declared.Figures.{Figures}
 use Rattle.file.specs.declared.slots.Counted.{Counted}
 use Rattle.file.specs.declared.slots.Kind.{Kind}
@@ -75,3 +76,10 @@ pub record Within (k : ℕ) (c : Counted) : Type 0 where
 pub record Ready (bs : List ℕ) (g : Figures) : Type 0 where
   pub head : every (headFieldTests (g .first) (g .days) (g .interval)) ≡ true
   pub long : length bs ≡ slotWidth * fileSlots g + spanTableBytes g + trailerWidth
+
+-- a slot table of so many days of n slots
+pub record Tabled (bs : List ℕ) (n days : ℕ) : Type 0 where
+  pub long : slotWidth * (n * days) ≤ length bs
+  pub some : 1 ≤ n
+  pub day : n ≤ 288
+  pub few : days ≤ mostDays

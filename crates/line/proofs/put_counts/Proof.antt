@@ -1,5 +1,4 @@
 -- `line::put_counts` meets its contract.
-use native.Mathlib.Omega.{arith}
 use borrow.Author.Needs.{needs}
 use Rattle.line.proofs.Putting.{then}
 use Rattle.line.proofs.put_counts.Statement.{statement}

@@ -1,6 +1,4 @@
 -- `line::put_date` meets its contract.
-use mathlib.Core.List.{[], _∷_}
-use native.Mathlib.Omega.{arith}
 use borrow.Author.Needs.{needs}
 use Rattle.line.specs.Line.{dateText}
 use Rattle.line.proofs.Putting.{then}

@@ -1,5 +1,4 @@
 -- `line::put_figures`: the figures, and the line's end.
-use native.Mathlib.Omega.{arith}
 use borrow.Author.Needs.{needs}
 use Rattle.line.proofs.Putting.{then}
 use Rattle.line.proofs.put_figures.Statement.{statement}

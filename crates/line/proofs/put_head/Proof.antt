@@ -1,6 +1,5 @@
 -- `line::put_head` meets its contract.
 use mathlib.Core.Path.{ap}
-use native.Mathlib.Omega.{arith}
 use borrow.Author.Needs.{needs}
 use Rattle.line.specs.Line.{dateText}
 use Rattle.line.proofs.Putting.{then, same}

@@ -1,5 +1,4 @@
 -- `line::put_line`: first day, D, L, the counts and the sum one after another.
-use native.Mathlib.Omega.{arith}
 use borrow.Author.Needs.{needs}
 use Rattle.line.specs.Line.{figuresText}
 use Rattle.line.proofs.Putting.{then}

@@ -9,7 +9,7 @@ use Rattle.market.specs.Fields.{markOf}
 use Rattle.market.specs.Records.{record100, record200, daysOf}
 use Rattle.market.specs.Export.{contentOf, bodyOf}
 use Rattle.line.proofs.Putting.{then, same}
-use Rattle.market.proofs.Answers.{figures-are, some-interval, tabled}
+use Rattle.file.proofs.Answers.{dates-le, figures-are, some-interval, tabled}
 use borrow.Author.Needs.{needs}
 use Rattle.market.proofs.put_body.Statement.{statement}
 use Rattle.market.proofs.put_body.Tie as tie
@@ -27,7 +27,9 @@ div-n : tie.Need-div-n
 div-n c = omega (arith, some-interval _ _ (c .before .before .before .before .before .before .before .before .before .before .before .before .before .before .before .before .before .before .before .before .before .before .pre .0))
 
 put-days-requires : tie.Need-put-days-requires
-put-days-requires c κs = tabled _ _ (c .before .before .before .before .before .before .before .before .before .before .before .before .before .before .before .before .before .before .before .before .before .before .before .pre .0)
+put-days-requires c κs =
+    let accepted = c .before .before .before .before .before .before .before .before .before .before .before .before .before .before .before .before .before .before .before .before .before .before .before .pre .0 in
+    (tabled _ _ accepted, dates-le _ _ accepted)
 
 same-length : tie.Need-same-length
 same-length c = search needs

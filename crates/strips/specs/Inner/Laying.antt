@@ -5,7 +5,8 @@ use Prim.Native.Nat.{ℕ, _+_, _*_, _%_, _<_}
 use lib.ListN.{length, getD, set}
 use Rattle.strips.specs.declared.Way.{Way}
 use Rattle.strips.specs.declared.Way.the-variants.{ToStrips, FromStrips}
-use Rattle.strips.specs.Strips.{slotsOf, byteOf, inTable, inStrips, valueAt, dayEarlier, differenceAt, stripsOf, differenceIn, tableOf}
+use Rattle.strips.specs.Strips.{slotsOf, byteOf, inTable, inStrips, valueAt, dayEarlier, differenceAt, differenceIn}
+use Rattle.strips.specs.Strips.{stripsOf, tableOf}
 
 -- byte k of the record at place at, whose bytes stand step apart
 abbrev pub spaced : List ℕ → ℕ → ℕ → ℕ → ℕ

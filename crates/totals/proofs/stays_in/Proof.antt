@@ -9,7 +9,8 @@ use Rattle.base.proofs.Logic.{passed}
 use Rattle.file.specs.declared.Figures.{Figures}
 use Rattle.totals.specs.Stays.{listTests}
 use Rattle.totals.proofs.Adding.{before-all}
-use Rattle.totals.proofs.Answers.{figures-are, some-interval, fitted, refused-18, refused-19, done}
+use Rattle.file.proofs.Answers.{figures-are, some-interval, tabled}
+use Rattle.totals.proofs.Answers.{refused-18, refused-19, done}
 use Rattle.totals.proofs.stays_in.Statement.{statement}
 use Rattle.totals.proofs.stays_in.Tie as tie
 
@@ -36,7 +37,7 @@ total-days-requires c κs =
     let start = c .before .before .before .before .before .before .before .before .before in
     let a = start .args in
     let lists-ok = sym (c .before .before .before .before .before .lists-fit .ensures) ∙ not-false _ (c .before .before .before .before .if1 .left) in
-    (fitted _ _ (start .pre), eqb-true _ _ (passed (listTests (a .pairs .now) (length (a .totals .now))) lists-ok 2))
+    (tabled _ _ (start .pre), eqb-true _ _ (passed (listTests (a .pairs .now) (length (a .totals .now))) lists-ok 2))
 
 same-length : tie.Need-same-length
 same-length c = search needs

@@ -2,7 +2,7 @@
 use mathlib.Core.Bool.{Bool, cond, _&&_}
 use mathlib.Core.List.{List}
 use mathlib.Core.Path.{_≡_}
-use Prim.Native.Nat.{ℕ, _+_, _*_, _^_, _≤_, _<_}
+use Prim.Native.Nat.{ℕ, _+_, _^_, _<_}
 use lib.Dec.{leb, ltb}
 use lib.ListN.{length, getD}
 use Rattle.base.specs.Lists.{upTo}
@@ -28,9 +28,3 @@ least a b = cond (leb a b) a b
 -- each pair's total over the days before day d
 unfoldable pub totalsBefore : List ℕ → ℕ → List ℕ → ℕ → List ℕ
 totalsBefore bs n pairs d = upTo (λ k. stayTotal bs n (firstOf pairs k) (least (endOf pairs k) d)) 0 (pairCount pairs)
-
--- a slot table of so many days of n slots
-pub record Fitted (bs : List ℕ) (n days : ℕ) : Type 0 where
-  pub long : 6 * (n * days) ≤ length bs
-  pub day : n ≤ 288
-  pub few : days ≤ 400

@@ -31,6 +31,9 @@ cast-result-2 c = search needs
 add-result : tie.Need-add-result
 add-result c = search needs
 
+cast-result-3 : tie.Need-cast-result-3
+cast-result-3 c = search needs
+
 returns-4 : tie.Need-returns-4
 returns-4 c =
     let is-interval = c .before .before .before .before .before .before .before .is-interval in
@@ -50,4 +53,5 @@ head-ok-spec =
     cast-result
     cast-result-2
     add-result
+    cast-result-3
     returns-4)

@@ -24,16 +24,16 @@ loop-holds : tie.Need-loop-holds Inv-loop μ-loop
 loop-holds c = (search needs, joined-none _ _ _ _ (search needs) (search needs))
 
 add-t14 : tie.Need-add-t14 Inv-loop μ-loop
-add-t14 c = omega (arith, c .before .before .before .before .before .before .pre .dates)
+add-t14 c = omega (arith, c .before .before .before .before .before .before .pre .1)
 
 cast-t15 : tie.Need-cast-t15 Inv-loop μ-loop
 cast-t15 c = search needs
 
 mul-t16 : tie.Need-mul-t16 Inv-loop μ-loop
-mul-t16 c = omega (arith, day-within (c .before .before .before .before .before .before .args .n) (c .before .loop .d) (c .before .before .before .before .before .before .args .days) (search needs), mul-le-mul (c .before .before .before .before .before .before .pre .day) (c .before .before .before .before .before .before .pre .few))
+mul-t16 c = omega (arith, day-within (c .before .before .before .before .before .before .args .n) (c .before .loop .d) (c .before .before .before .before .before .before .args .days) (search needs), mul-le-mul (c .before .before .before .before .before .before .pre .0 .day) (c .before .before .before .before .before .before .pre .0 .few))
 
 put-day-requires : tie.Need-put-day-requires Inv-loop μ-loop
-put-day-requires c κs = (omega (arith, day-within (c .before .before .before .before .before .before .before .args .n) (c .before .before .loop .d) (c .before .before .before .before .before .before .before .args .days) (search needs), c .before .before .before .before .before .before .before .pre .long), c .before .before .before .before .before .before .before .pre .some, omega (arith, c .before .before .before .before .before .before .before .pre .dates))
+put-day-requires c κs = (omega (arith, day-within (c .before .before .before .before .before .before .before .args .n) (c .before .before .loop .d) (c .before .before .before .before .before .before .before .args .days) (search needs), c .before .before .before .before .before .before .before .pre .0 .long), c .before .before .before .before .before .before .before .pre .0 .some, omega (arith, c .before .before .before .before .before .before .before .pre .1))
 
 add-d : tie.Need-add-d Inv-loop μ-loop
 add-d c = search needs

@@ -1,2 +1,0 @@
--- What the contracts of inner functions say. No definition of 02's rules stands here.
-pub mod Writing
