@@ -24,6 +24,10 @@ calendar-whole : sum yearLength 2000 100 ≡ 36_525
 unfolding sum yearLength leap
 calendar-whole = refl
 
+early-years : sum yearLength 2000 98 ≡ 35795
+unfolding sum yearLength leap
+early-years = refl
+
 -- whole years from 2000, whole months of the next year and whole days of the next month that have passed
 record Passed : Type 0 where
   years : ℕ
@@ -96,6 +100,12 @@ each-number P f n h =
 
 pub last-day : (y m d : ℕ) → isDate y m d ≡ true → dayNumber y m d < 36_525
 last-day = each-date (λ y m d. dayNumber y m d < 36_525) (λ p. rw (number-after p) (in-calendar p))
+
+-- day 35,794 is 2097-12-31
+pub early-day : (y m d : ℕ) → isDate y m d ≡ true → y < 2098 → dayNumber y m d < 35795
+early-day =
+    each-date (λ y m d. (y < 2098 → dayNumber y m d < 35795))
+    (λ p early. rw (number-after p) (rw early-years at (below yearLength (p .years) 97 2000 (daysOfYear p) (omega arith) (in-year p))))
 
 pub date-of-number : (y m d : ℕ) → isDate y m d ≡ true → dateOf (dayNumber y m d) ≡ record { year = y; month = m; day = d }
 date-of-number =

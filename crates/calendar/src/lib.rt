@@ -84,6 +84,10 @@ pub fn is_date(year: u32, month: u32, day: u32) -> bool
     if day < 1 {
         return false;
     }
+    // every month has 28 days
+    if day <= 28 {
+        return true;
+    }
     day <= month_length(year, month)
 }
 

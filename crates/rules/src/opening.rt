@@ -7,6 +7,10 @@ use crate::MOST_TOLERANCE;
 use calendar::DAY_COUNT;
 ghost use mathlib.Core.Path.{_≡_};
 ghost use mathlib.Core.Bool.{true};
+ghost use Prim.Native.Nat.{_+_, _≤_};
+ghost use lib.Dec.{leb};
+ghost use Rattle.calendar.specs.Calendar.{isDate, dayCount};
+ghost use Rattle.rules.specs.Numbers.{mostDays};
 ghost use Rattle.base.specs.Lists.{every};
 ghost use Rattle.rules.specs.Opening.{intervalOk, dayTests, headOk, firstDay, slotsPerDay, slotCount};
 
@@ -22,6 +26,17 @@ pub fn is_interval(interval: u32) -> bool
     interval == 30
 }
 
+// The last day is not after 2099-12-31: 400 days from any day before 2098 end in time.
+fn ends_in_time(head: Head) -> bool
+    requires { ⌜ (isDate (head .year) (head .month) (head .day) ≡ true) × (head .days ≤ mostDays) ⌝ }
+    ensures { λ r. ⌜ r ≡ leb (firstDay head + head .days) dayCount ⌝ }
+{
+    if head.year < 2098 {
+        return true;
+    }
+    calendar::day_number(head.year, head.month, head.day) + head.days <= DAY_COUNT
+}
+
 // The first day is a date, and the last one not after 2099-12-31.
 fn are_days(head: Head) -> bool
     ensures { λ r. ⌜ r ≡ every (dayTests head) ⌝ }
@@ -35,7 +50,7 @@ fn are_days(head: Head) -> bool
     if MOST_DAYS < head.days {
         return false;
     }
-    calendar::day_number(head.year, head.month, head.day) + head.days <= DAY_COUNT
+    ends_in_time(head)
 }
 
 // The head is within its bounds.

@@ -1,9 +1,30 @@
 -- `is_date` makes the tests of `isDate` in their order.
+use mathlib.Core.Path.{_≡_}
+use Prim.Native.Nat.{_≤_}
+use native.Mathlib.Omega.{arith}
+use lib.Dec.{leb}
 use borrow.Author.Tests.{le-leb, lt-leb}
 use borrow.Author.Needs.{needs}
-use Rattle.calendar.specs.Calendar.{isDate}
+use Rattle.calendar.specs.Calendar.{monthLength, isDate}
+use Rattle.calendar.proofs.Closed.{at-least-28}
 use Rattle.calendar.proofs.is_date.Statement.{statement}
 use Rattle.calendar.proofs.is_date.Tie as tie
+
+abbrev start5 : tie.Else5 → tie.Start
+start5 c = c .before .before .before .before .before
+
+-- the five tests before the day's last one
+before-last : (c : tie.Else5) → let a = start5 c .args in isDate (a .year) (a .month) (a .day) ≡ leb (a .day) (monthLength (a .year) (a .month))
+unfolding isDate
+before-last c =
+    let past3 = c .before .before in
+    simp (
+      le-leb _ _ (past3 .before .before .if1 .left),
+      le-leb _ _ (past3 .before .if2 .left),
+      le-leb _ _ (past3 .if3 .left),
+      le-leb _ _ (c .before .if4 .left),
+      le-leb _ _ (c .if5 .left),
+    )
 
 returns : tie.Need-returns
 unfolding isDate
@@ -29,16 +50,20 @@ returns-5 c =
     let b = c .before .before in
     simp (le-leb _ _ (b .before .before .if1 .left), le-leb _ _ (b .before .if2 .left), le-leb _ _ (b .if3 .left), le-leb _ _ (c .before .if4 .left), lt-leb _ _ (c .if5 .taken))
 
+returns-6 : tie.Need-returns-6
+returns-6 c =
+    let a = start5 (c .before) .args in
+    let long = at-least-28 (a .year) (a .month) (omega (arith, c .before .before .if4 .left)) in
+    let short : a .day ≤ monthLength (a .year) (a .month) = omega (arith, long, c .if6 .taken) in
+    rw (before-last (c .before), le-leb _ _ short)
+
 month-length-requires : tie.Need-month-length-requires
 month-length-requires c κs = search needs
 
-returns-6 : tie.Need-returns-6
-unfolding isDate
-returns-6 c =
-    let b = c .before .before .before in
-    simp (le-leb _ _ (b .before .before .if1 .left), le-leb _ _ (b .before .if2 .left), le-leb _ _ (b .if3 .left), le-leb _ _ (c .before .before .if4 .left), le-leb _ _ (c .before .if5 .left), c .month-length .ensures)
+returns-7 : tie.Need-returns-7
+returns-7 c = rw (before-last (c .before .before), c .month-length .ensures)
 
 pub is-date-spec : {M : Type 1} → statement M
 is-date-spec =
     tie.close
-    (tie.spec returns returns-2 returns-3 returns-4 returns-5 month-length-requires returns-6)
+    (tie.spec returns returns-2 returns-3 returns-4 returns-5 returns-6 month-length-requires returns-7)
