@@ -1,8 +1,9 @@
 -- A delivery's line in one pass: digits, a word of digits before a separator, four such words after the keyword.
 use mathlib.Core.Bool.{Bool, true, false, cond, not, _&&_, false≢true}
 use mathlib.Core.List.{List, [], _∷_, _++_, map, append-assoc, append-nil}
-use mathlib.Core.Path.{_≡_, refl, sym, ap, _∙_}
-use Prim.Native.Nat.{ℕ, zero, suc, _+_, _-_, _*_, _≤_, _<_}
+use mathlib.Core.Path.{_≡_, refl, sym, ap, subst, _∙_}
+use Prim.Native.Nat.{ℕ, zero, suc, _+_, _-_, _*_, _^_, _≤_, _<_}
+use native.Mathlib.Nat.{pow-suc, zero-add}
 use native.Mathlib.Numerals.{add-one}
 use native.Mathlib.Omega.{arith}
 use borrow.Author.Tests.{eq-eqb, ne-eqb, le-leb, le-ltb, leb-true, eqb-true}
@@ -38,19 +39,20 @@ value-more n [] b = refl
 value-more n (a ∷ w) b = value-more (10 * n + (a - 48)) w b
 
 module _ {bytes : List ℕ} {from : ℕ} where
-  pub digits-begin : from ≤ length bytes → DigitsAt bytes from 0 from
+  digits-begin : from ≤ length bytes → DigitsAt bytes from 0 from
   unfolding areDigits valueAfter
   digits-begin l =
       let z : from - from ≡ 0 = omega arith in
-      record { begun = omega arith; inside = l; digits = rw z; valued = rw z; low = omega arith }
+      record { begun = omega arith; near = omega arith; inside = l; digits = rw z; valued = rw z; low = omega arith }
 
-  pub digits-next : {value i : ℕ} → DigitsAt bytes from value i → i < length bytes → 48 ≤ getD bytes i 0 → getD bytes i 0 ≤ 57 → value ≤ 99999999
+  digits-next : {value i : ℕ} → DigitsAt bytes from value i → i < from + 9 → i < length bytes → 48 ≤ getD bytes i 0 → getD bytes i 0 ≤ 57 → value ≤ 99_999_999
       → DigitsAt bytes from (10 * value + (getD bytes i 0 - 48)) (i + 1)
-  digits-next {value} {i} d l p q low =
+  digits-next {value} {i} d n l p q low =
       let digit : isDigit (getD bytes i 0) ≡ true = rw (le-leb _ _ p, le-leb _ _ q) in
       let part = part-more 32 bytes from i (d .begun) l in
       record {
         begun = omega (arith, d .begun);
+        near = omega arith;
         inside = omega arith;
         digits = rw part (digits-more (take (i - from) (drop from bytes)) (getD bytes i 0) (d .digits) digit);
         valued = rw (part, value-more 0 (take (i - from) (drop from bytes)) (getD bytes i 0), d .valued);
@@ -74,8 +76,49 @@ module _ {bytes : List ℕ} {from : ℕ} where
         low = d .low;
         text = split-at (drop from bytes) k 0 inside ∙ rw (getD-drop, place, e, drop-drop, after);
         end = rw long (omega (arith, d .begun));
+        near = omega (arith, d .near);
         inside = omega arith;
       }
+
+-- ---- Nine digits at most
+
+ten-more : (j k : ℕ) → 10 ^ k ≤ 10 ^ (j + k)
+ten-more zero k = rw zero-add (omega arith)
+ten-more (suc j) k =
+    let longer : suc j + k ≡ suc (j + k) = omega arith in
+    rw longer (omega (arith, ten-more j k, pow-suc 10 (j + k)))
+
+-- digits up to place i, of nine
+pub record Few (bytes : List ℕ) (from value i : ℕ) : Type 0 where
+  pub digits : DigitsAt bytes from value i
+  pub low : value < 10 ^ (i - from)
+
+module _ {bytes : List ℕ} {from : ℕ} (room : from + 9 ≤ length bytes) where
+  pub few-begin : Few bytes from 0 from
+  few-begin =
+      let none : from - from ≡ 0 = omega arith in
+      record { digits = digits-begin (omega arith); low = rw none (omega arith) }
+
+  -- there are eight at most before another one
+  pub few-eight : {value i : ℕ} → Few bytes from value i → i < from + 9 → value ≤ 99_999_999
+  few-eight {value} {i} f l =
+      let k = i - from in
+      let whole : 8 - k + k ≡ 8 = omega arith in
+      let most : 10 ^ k ≤ 10 ^ 8 = rw whole at (ten-more (8 - k) k) in
+      omega (arith, f .low, most)
+
+  pub few-next : {value i : ℕ} → Few bytes from value i → i < from + 9 → 48 ≤ getD bytes i 0 → getD bytes i 0 ≤ 57
+      → Few bytes from (10 * value + (getD bytes i 0 - 48)) (i + 1)
+  few-next {value} {i} f l p q =
+      let longer : i + 1 - from ≡ suc (i - from) = omega (arith, f .digits .begun) in
+      record {
+        digits = digits-next (f .digits) l (omega arith) p q (few-eight f l);
+        low = rw longer (omega (arith, f .low, p, q, pow-suc 10 (i - from)));
+      }
+
+-- the value is told by the bytes
+pub few-to : {bytes : List ℕ} {from value i : ℕ} → Few bytes from value i → Few bytes from (valueOf (take (i - from) (drop from bytes))) i
+few-to {bytes} {from} {value} {i} f = subst (λ v. Few bytes from v i) (f .digits .valued) f
 
 -- ---- Bytes without a separator
 
@@ -211,7 +254,7 @@ field-number f =
     let low : valueOf (f .word) ≤ 4294967295 = omega (arith, f .valued, f .low) in
     rw (ne-eqb _ _ (f .some), f .digits, le-leb _ _ low)
 
-module _ (bytes : List ℕ) (at : ℕ) (r : Delivery) (n : NumbersAt bytes at (at + 9) r)
+module _ (bytes : List ℕ) (at : ℕ) (r : Delivery) (n : NumbersAt bytes (at + 9) r)
     (word : same (take ((at + 9) - at) (drop at bytes)) (deliveryWord ++ (32 ∷ [])) ≡ true) where
   -- the line's text
   abbrev found : List ℕ
@@ -247,7 +290,7 @@ module _ (bytes : List ℕ) (at : ℕ) (r : Delivery) (n : NumbersAt bytes at (a
 
   item : itemOf found ≡ call (delivery (r .slot) (r .version) (r .value) (r .status))
   item =
-      text-item _ _ _ _ (n .slot .digits) (n .version .digits) (n .value .digits) (n .status .digits) (omega (arith, long, n .short)) numbers
+      text-item _ _ _ _ (n .slot .digits) (n .version .digits) (n .value .digits) (n .status .digits) (omega (arith, long, n .slot .near, n .version .near, n .value .near, n .status .near)) numbers
       ∙ rw (sym (n .slot .valued), sym (n .version .valued), sym (n .value .valued), sym (n .status .valued))
 
   first-line : lines (found ++ (10 ∷ drop (r .next) bytes)) ≡ found ∷ lines (drop (r .next) bytes)

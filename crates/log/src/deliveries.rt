@@ -2,9 +2,9 @@
 use crate::words;
 ghost use mathlib.Core.Bool.{true, false};
 ghost use mathlib.Core.Path.{_≡_};
-ghost use Prim.Native.Nat.{_≤_};
+ghost use Prim.Native.Nat.{_+_, _≤_};
 ghost use lib.ListN.{length};
-ghost use Rattle.log.specs.Inner.Deliveries.{DigitsAt, FieldAt, NumbersAt, DeliveryAt};
+ghost use Rattle.log.specs.Inner.Deliveries.{DigitsAt, FieldAt, NumbersAt, DeliveryAt, DigitsTo, FieldTo, NumbersTo, DeliveryTo};
 
 // A row of digits, up to `end`, and its value.
 pub struct Digits {
@@ -29,14 +29,15 @@ pub struct Delivery {
     pub next: usize,
 }
 
-// The digits from `from` on, as far as their value stays below 1,000,000,000.
+// The digits from `from` on, nine at most: they stay below 1,000,000,000.
 fn digits_at(bytes: &[u8], from: usize) -> Digits
-    requires { ⌜ from ≤ length (now bytes) ⌝ }
+    requires { ⌜ from + 9 ≤ length (now bytes) ⌝ }
     ensures { λ r. ⌜ DigitsAt (now (bytes .entry)) from (r .value) (r .end) ⌝ }
 {
+    let stop = from + 9;
     let mut value: u32 = 0;
     let mut i = from;
-    while i < bytes.len() {
+    while i < stop {
         let byte = bytes[i];
         if byte < b'0' {
             return Digits { value, end: i };
@@ -44,13 +45,30 @@ fn digits_at(bytes: &[u8], from: usize) -> Digits
         if b'9' < byte {
             return Digits { value, end: i };
         }
-        if 99_999_999 < value {
-            return Digits { value, end: i };
-        }
         value = 10 * value + (byte - b'0') as u32;
         i += 1;
     }
     Digits { value, end: i }
+}
+
+// Where these digits end.
+fn digits_end(bytes: &[u8], from: usize) -> usize
+    requires { ⌜ from + 9 ≤ length (now bytes) ⌝ }
+    ensures { λ r. ⌜ DigitsTo (now (bytes .entry)) from r ⌝ }
+{
+    let stop = from + 9;
+    let mut i = from;
+    while i < stop {
+        let byte = bytes[i];
+        if byte < b'0' {
+            return i;
+        }
+        if b'9' < byte {
+            return i;
+        }
+        i += 1;
+    }
+    i
 }
 
 fn no_field() -> Field
@@ -65,15 +83,12 @@ fn no_field() -> Field
 
 // The number that begins at `from`, where the separator follows it.
 fn field_at(bytes: &[u8], from: usize, separator: u8) -> Field
-    requires { ⌜ from ≤ length (now bytes) ⌝ }
+    requires { ⌜ from + 10 ≤ length (now bytes) ⌝ }
     ensures { λ r. ⌜ (r .good ≡ true → FieldAt (now (bytes .entry)) from separator (r .value) (r .next)) ⌝ }
 {
     let digits = digits_at(bytes, from);
     let end = digits.end;
     if end == from {
-        return no_field();
-    }
-    if bytes.len() <= end {
         return no_field();
     }
     if bytes[end] != separator {
@@ -84,6 +99,21 @@ fn field_at(bytes: &[u8], from: usize, separator: u8) -> Field
         value: digits.value,
         next: end + 1,
     }
+}
+
+// The place after the separator, or 0.
+fn field_end(bytes: &[u8], from: usize, separator: u8) -> usize
+    requires { ⌜ from + 10 ≤ length (now bytes) ⌝ }
+    ensures { λ r. ⌜ ((r ≡ 0 → ⊥) → FieldTo (now (bytes .entry)) from separator r) ⌝ }
+{
+    let end = digits_end(bytes, from);
+    if end == from {
+        return 0;
+    }
+    if bytes[end] != separator {
+        return 0;
+    }
+    end + 1
 }
 
 fn no_delivery() -> Delivery
@@ -99,10 +129,10 @@ fn no_delivery() -> Delivery
     }
 }
 
-// The numbers of a delivery from `from` on, whose line begins at `at` and is at most 255 bytes long.
-fn numbers_at(bytes: &[u8], at: usize, from: usize) -> Delivery
-    requires { ⌜ (from ≤ length (now bytes)) × (at ≤ from) ⌝ }
-    ensures { λ r. ⌜ (r .found ≡ true → NumbersAt (now (bytes .entry)) at from r) ⌝ }
+// The numbers of a delivery from `from` on.
+fn numbers_at(bytes: &[u8], from: usize) -> Delivery
+    requires { ⌜ from + 40 ≤ length (now bytes) ⌝ }
+    ensures { λ r. ⌜ (r .found ≡ true → NumbersAt (now (bytes .entry)) from r) ⌝ }
 {
     let slot = field_at(bytes, from, b' ');
     if !slot.good {
@@ -120,9 +150,6 @@ fn numbers_at(bytes: &[u8], at: usize, from: usize) -> Delivery
     if !status.good {
         return no_delivery();
     }
-    if 256 < status.next - at {
-        return no_delivery();
-    }
     Delivery {
         found: true,
         slot: slot.value,
@@ -133,17 +160,53 @@ fn numbers_at(bytes: &[u8], at: usize, from: usize) -> Delivery
     }
 }
 
-// The delivery whose line begins at `at` and ends in LF, where it is written in numbers below 1,000,000,000; another line may be one too.
+// The delivery whose line begins at `at` and ends in LF, where each number has nine digits at most and the bytes have room for them;
+// another line may be one too.
 pub fn delivery_at(bytes: &[u8], at: usize) -> Delivery
     requires { ⌜ at ≤ length (now bytes) ⌝ }
     ensures { λ r. ⌜ (r .found ≡ true → DeliveryAt (now (bytes .entry)) at r) ⌝ }
 {
-    if bytes.len() - at < 9 {
+    if bytes.len() - at < 49 {
         return no_delivery();
     }
     let from = at + 9;
     if !words::is_same(&bytes[at..from], b"delivery ") {
         return no_delivery();
     }
-    numbers_at(bytes, at, from)
+    numbers_at(bytes, from)
+}
+
+// The place after the LF of four numbers, or 0.
+fn numbers_end(bytes: &[u8], from: usize) -> usize
+    requires { ⌜ from + 40 ≤ length (now bytes) ⌝ }
+    ensures { λ r. ⌜ ((r ≡ 0 → ⊥) → NumbersTo (now (bytes .entry)) from r) ⌝ }
+{
+    let versions = field_end(bytes, from, b' ');
+    if versions == 0 {
+        return 0;
+    }
+    let values = field_end(bytes, versions, b' ');
+    if values == 0 {
+        return 0;
+    }
+    let statuses = field_end(bytes, values, b' ');
+    if statuses == 0 {
+        return 0;
+    }
+    field_end(bytes, statuses, b'\n')
+}
+
+// Where the line after such a delivery begins, or 0: the numbers are tested, and not read.
+pub fn delivery_end(bytes: &[u8], at: usize) -> usize
+    requires { ⌜ at ≤ length (now bytes) ⌝ }
+    ensures { λ r. ⌜ ((r ≡ 0 → ⊥) → DeliveryTo (now (bytes .entry)) at r) ⌝ }
+{
+    if bytes.len() - at < 49 {
+        return 0;
+    }
+    let from = at + 9;
+    if !words::is_same(&bytes[at..from], b"delivery ") {
+        return 0;
+    }
+    numbers_end(bytes, from)
 }

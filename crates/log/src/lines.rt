@@ -37,6 +37,20 @@ pub struct Found {
     pub next: usize,
 }
 
+// The line that begins at `at`, cut out and read.
+pub fn read_from(bytes: &[u8], at: usize) -> Found
+    requires { ⌜ at < length (now bytes) ⌝ }
+    ensures { λ r. ⌜ FoundAt (now (bytes .entry)) at (r .line) (r .next) ⌝ }
+{
+    let cut = line_at(bytes, at);
+    let end = cut.end;
+    let line = line::line_of(&bytes[at..end]);
+    Found {
+        line,
+        next: cut.next,
+    }
+}
+
 // What the line that begins at `at` is.
 pub fn line_from(bytes: &[u8], at: usize) -> Found
     requires { ⌜ at < length (now bytes) ⌝ }
@@ -54,11 +68,5 @@ pub fn line_from(bytes: &[u8], at: usize) -> Found
             next: delivery.next,
         };
     }
-    let cut = line_at(bytes, at);
-    let end = cut.end;
-    let line = line::line_of(&bytes[at..end]);
-    Found {
-        line,
-        next: cut.next,
-    }
+    read_from(bytes, at)
 }

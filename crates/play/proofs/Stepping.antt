@@ -1,7 +1,7 @@
 -- Lines before and after the opening, one at a time.
 use mathlib.Core.Bool.{Bool, true, false, cond, true≢false, false≢true}
 use mathlib.Core.List.{List, [], _∷_}
-use mathlib.Core.Path.{_≡_, refl, ap, sym, _∙_}
+use mathlib.Core.Path.{_≡_, refl, ap, sym, subst, _∙_}
 use Prim.Native.Nat.{ℕ, zero, suc, _+_, _-_, _≤_}
 use native.Mathlib.Numerals.{add-one}
 use native.Mathlib.Omega.{arith}
@@ -22,12 +22,14 @@ use Rattle.log.specs.Log.{lines, Item, itemIn, itemOf, items, callsIn, Reading,
 use Rattle.log.specs.Log.Item.{passed, table, opening, call, neither}
 use Rattle.log.specs.Log.Reading.{log, notACall, refused}
 use Rattle.log.specs.Inner.Lines.{LineAt, ItemAt, FoundAt}
+use Rattle.log.specs.Inner.Deliveries.{DeliveryTo}
 use Rattle.log.proofs.Cutting.{item-at}
+use Rattle.log.proofs.OnePass.{delivery-found}
 use Rattle.play.specs.declared.Checked.the-variants as coded
 use Rattle.play.specs.declared.reading.Step.{Step}
 use Rattle.play.specs.declared.reading.Step.the-variants.{On, Opened, NotACall, Refused}
 use Rattle.play.specs.Playing.{callsOf, checkedOf, checked}
-use Rattle.play.specs.Inner.Steps.{tableStep, headStep, openingStep, stepOf, goesOn, tableAfter, leadOf, isOutside, callsAt, Reached, LeadMeant}
+use Rattle.play.specs.Inner.Steps.{tableStep, headStep, openingStep, stepOf, goesOn, tableAfter, leadOf, isOutside, callsAt, PassingAt, Reached, LeadMeant}
 
 -- ---- A line before the opening
 
@@ -256,6 +258,12 @@ calls-little line.Table = omega arith
 calls-little (line.Open o) = omega arith
 calls-little (line.Fill c) = omega arith
 calls-little line.NoCall = omega arith
+
+-- a delivery can stand there, and is one call
+pub passing-delivery : {bytes : List ℕ} {at next : ℕ} → DeliveryTo bytes at next → PassingAt bytes at (record { outside = false; calls = 1; next = next })
+passing-delivery {bytes} {at} d =
+    subst (λ next. PassingAt bytes at (record { outside = false; calls = 1; next = next })) (d .ends)
+    record { line = _; found = delivery-found bytes at (d .delivery) (d .line); outside = refl; calls = refl }
 
 -- the lines from an opening up to a place are good
 pub record Following (bytes : List ℕ) (h : Head) (from before at n calls : ℕ) : Type 0 where

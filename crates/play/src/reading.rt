@@ -1,5 +1,6 @@
 // What the bytes of a log are: its lines up to the opening, and those after it.
 use crate::Checked;
+use log::deliveries;
 use log::limits;
 use log::limits::Limits;
 use log::line;
@@ -12,13 +13,13 @@ use rules::limits as demand;
 use rules::limits::Loaded;
 use rules::opening;
 ghost use mathlib.Core.Path.{_≡_};
-ghost use Prim.Native.Nat.{suc};
-ghost use lib.ListN.{drop};
+ghost use Prim.Native.Nat.{suc, _<_};
+ghost use lib.ListN.{length, drop};
 ghost use Rattle.rules.specs.Limits.{loadAnswer};
 ghost use Rattle.log.specs.Log.{tableOf, itemIn, items, readOpen, orBuiltIn};
 ghost use Rattle.log.specs.Log.Item.{table as tableItem};
 ghost use Rattle.play.specs.Playing.{checkedOf};
-ghost use Rattle.play.specs.Inner.Steps.{headStep, openingStep, stepOf, goesOn, tableAfter, leadOf, isOutside, callsAt, Reached, LeadMeant};
+ghost use Rattle.play.specs.Inner.Steps.{headStep, openingStep, stepOf, goesOn, tableAfter, leadOf, isOutside, callsAt, PassingAt, Reached, LeadMeant};
 
 // What a line before the opening comes to.
 pub enum Step {
@@ -174,6 +175,35 @@ fn calls_at(line: Line) -> usize
     }
 }
 
+// Whether a line cannot stand after the opening, how many calls it is, and where the next one begins.
+pub struct Passing {
+    pub outside: bool,
+    pub calls: usize,
+    pub next: usize,
+}
+
+// The line that begins at `at`: nearly every one is a delivery.
+fn passing_at(log: &[u8], at: usize) -> Passing
+    requires { ⌜ at < length (now log) ⌝ }
+    ensures { λ r. ⌜ PassingAt (now (log .entry)) at r ⌝ }
+{
+    let next = deliveries::delivery_end(log, at);
+    if next != 0 {
+        return Passing {
+            outside: false,
+            calls: 1,
+            next,
+        };
+    }
+    let found = lines::read_from(log, at);
+    let line = found.line;
+    Passing {
+        outside: is_outside(line),
+        calls: calls_at(line),
+        next: found.next,
+    }
+}
+
 // The lines after the opening, which begin at `from` behind `before` lines.
 pub fn following(log: &[u8], head: Head, from: usize, before: usize) -> Checked
     requires { ⌜ Reached (now log) from before 0 ⌝ }
@@ -183,14 +213,13 @@ pub fn following(log: &[u8], head: Head, from: usize, before: usize) -> Checked
     let mut n = before;
     let mut calls = 0;
     while at < log.len() {
-        let found = lines::line_from(log, at);
-        let line = found.line;
-        at = found.next;
+        let passing = passing_at(log, at);
+        at = passing.next;
         n += 1;
-        if is_outside(line) {
+        if passing.outside {
             return Checked::NotACall(n);
         }
-        calls += calls_at(line);
+        calls += passing.calls;
     }
     Checked::Log(head, n, calls)
 }

@@ -14,9 +14,11 @@ use Rattle.log.specs.declared.line.Line.the-variants as line
 use Rattle.log.specs.declared.line.Opening.{Opening}
 use Rattle.log.specs.Log.{lines, Item, items, callsIn, readLog, readOpen, headWith, orBuiltIn}
 use Rattle.log.specs.Log.Item.{passed, table, opening, call, neither}
+use Rattle.log.specs.Inner.Lines.{FoundAt}
 use Rattle.play.specs.declared.Checked.the-variants as coded
 use Rattle.play.specs.declared.reading.Lead.{Lead}
 use Rattle.play.specs.declared.reading.Lead.the-variants as lead
+use Rattle.play.specs.declared.reading.Passing.{Passing}
 use Rattle.play.specs.declared.reading.Step.{Step}
 use Rattle.play.specs.declared.reading.Step.the-variants.{On, Opened, NotACall, Refused}
 use Rattle.play.specs.Playing.{checked, callsOf}
@@ -77,6 +79,13 @@ callsAt line.Table = 0
 callsAt (line.Open o) = 0
 callsAt (line.Fill c) = 1
 callsAt line.NoCall = 0
+
+-- the line at a place is such a line or not, and so many calls
+pub record PassingAt (bytes : List ℕ) (at : ℕ) (r : Passing) : Type 0 where
+  pub line : Line
+  pub found : FoundAt bytes at line (r .next)
+  pub outside : r .outside ≡ isOutside line
+  pub calls : r .calls ≡ callsAt line
 
 -- the lines in front of a place are so many, with so many calls
 pub record Reached (bytes : List ℕ) (at n calls : ℕ) : Type 0 where

@@ -1,42 +1,51 @@
--- `deliveries::digits_at`: the digits so far and their value.
-use borrow.Author.Needs.{needs}
-use Prim.Native.Nat.{_-_}
+-- `deliveries::digits_at`: the digits so far and their value; nine of them at most.
+use Prim.Native.Nat.{_+_, _-_, _≤_}
 use native.Mathlib.Omega.{arith}
+use borrow.Author.Needs.{needs}
 use lib.ListN.{length}
-use Rattle.log.specs.Inner.Deliveries.{DigitsAt}
-use Rattle.log.proofs.OnePass.{digits-begin, digits-next}
+use Rattle.log.proofs.OnePass.{Few, few-begin, few-eight, few-next}
 use Rattle.log.proofs.deliveries.digits_at.Statement.{statement}
 use Rattle.log.proofs.deliveries.digits_at.Tie as tie
 
 abbrev Inv-loop : tie.InvT-loop
-Inv-loop bytes from value₀ i₀ value i = DigitsAt bytes from value i
+Inv-loop bytes from stop value₀ i₀ value i = Few bytes from value i
 
 abbrev μ-loop : tie.MeasureT-loop
-μ-loop bytes from value₀ i₀ value i = length bytes - i
+μ-loop bytes from stop value₀ i₀ value i = stop - i
+
+abbrev turn : tie.Else2 Inv-loop μ-loop → tie.In-loop Inv-loop μ-loop
+turn c = c .before .before .before
+
+abbrev start : tie.In-loop Inv-loop μ-loop → tie.Start Inv-loop μ-loop
+start c = c .before .before
+
+-- the bytes have room for nine
+room : (c : tie.Else2 Inv-loop μ-loop) → start (turn c) .args .from + 9 ≤ length (start (turn c) .args .bytes .now)
+room c = start (turn c) .pre
+
+add-stop : tie.Need-add-stop Inv-loop μ-loop
+add-stop c = search needs
 
 loop-holds : tie.Need-loop-holds Inv-loop μ-loop
-loop-holds c = digits-begin (c .pre)
+loop-holds c = few-begin (c .pre)
 
 shared-slice-read-byte : tie.Need-shared-slice-read-byte Inv-loop μ-loop
 shared-slice-read-byte c = search needs
 
 returns : tie.Need-returns Inv-loop μ-loop
-returns c = c .before .before .before .loop .inv
+returns c = c .before .before .before .loop .inv .digits
 
 returns-2 : tie.Need-returns-2 Inv-loop μ-loop
-returns-2 c = c .before .before .before .before .loop .inv
-
-returns-3 : tie.Need-returns-3 Inv-loop μ-loop
-returns-3 c = c .before .before .before .before .before .loop .inv
+returns-2 c = (c .before .before .before) .before .loop .inv .digits
 
 mul-value : tie.Need-mul-value Inv-loop μ-loop
-mul-value c = search needs
+mul-value c = omega (arith, few-eight (room c) (turn c .before .loop .inv) (turn c .loop-test .taken))
 
 cast-value : tie.Need-cast-value Inv-loop μ-loop
 cast-value c = search needs
 
 add-value : tie.Need-add-value Inv-loop μ-loop
-add-value c = search needs
+add-value c = omega (arith, few-eight (room c) (turn c .before .loop .inv) (turn c .loop-test .taken), c .if2 .left)
 
 add-i : tie.Need-add-i Inv-loop μ-loop
 add-i c = search needs
@@ -45,12 +54,10 @@ loop-less : tie.Need-loop-less Inv-loop μ-loop
 loop-less c = search needs
 
 loop-again : tie.Need-loop-again Inv-loop μ-loop
-loop-again c =
-    let place = c .before .before .before .before in
-    digits-next (place .before .loop .inv) (place .loop-test .taken) (c .before .before .if1 .left) (omega (arith, c .before .if2 .left)) (omega (arith, c .if3 .left))
+loop-again c = few-next (room c) (turn c .before .loop .inv) (turn c .loop-test .taken) (c .before .if1 .left) (omega (arith, c .if2 .left))
 
-returns-4 : tie.Need-returns-4 Inv-loop μ-loop
-returns-4 c = c .before .loop .inv
+returns-3 : tie.Need-returns-3 Inv-loop μ-loop
+returns-3 c = c .before .loop .inv .digits
 
 pub digits-at-spec : {M : Type 1} → statement M
 digits-at-spec =
@@ -58,15 +65,15 @@ digits-at-spec =
     (tie.spec
     Inv-loop
     μ-loop
+    add-stop
     loop-holds
     shared-slice-read-byte
     returns
     returns-2
-    returns-3
     mul-value
     cast-value
     add-value
     add-i
     loop-less
     loop-again
-    returns-4)
+    returns-3)

@@ -51,7 +51,7 @@ returns : tie.Need-returns
 returns c = λ t. absurd (false≢true (sym (c .no-delivery .ensures) ∙ t))
 
 field-at-requires-2 : tie.Need-field-at-requires-2
-field-at-requires-2 c κs = slot-found c .inside
+field-at-requires-2 c κs = omega (arith, slot-found c .near, from1 c .pre)
 
 no-delivery-requires-2 : tie.Need-no-delivery-requires-2
 no-delivery-requires-2 c κs = search needs
@@ -60,7 +60,7 @@ returns-2 : tie.Need-returns-2
 returns-2 c = λ t. absurd (false≢true (sym (c .no-delivery2 .ensures) ∙ t))
 
 field-at-requires-3 : tie.Need-field-at-requires-3
-field-at-requires-3 c κs = version-found c .inside
+field-at-requires-3 c κs = omega (arith, version-found c .near, slot-found (from2 c) .near, from1 (from2 c) .pre)
 
 no-delivery-requires-3 : tie.Need-no-delivery-requires-3
 no-delivery-requires-3 c κs = search needs
@@ -69,7 +69,8 @@ returns-3 : tie.Need-returns-3
 returns-3 c = λ t. absurd (false≢true (sym (c .no-delivery3 .ensures) ∙ t))
 
 field-at-requires-4 : tie.Need-field-at-requires-4
-field-at-requires-4 c κs = value-found c .inside
+field-at-requires-4 c κs =
+    omega (arith, value-found c .near, version-found (from3 c) .near, slot-found (from2 (from3 c)) .near, from1 (from2 (from3 c)) .pre)
 
 no-delivery-requires-4 : tie.Need-no-delivery-requires-4
 no-delivery-requires-4 c κs = search needs
@@ -77,36 +78,16 @@ no-delivery-requires-4 c κs = search needs
 returns-4 : tie.Need-returns-4
 returns-4 c = λ t. absurd (false≢true (sym (c .no-delivery4 .ensures) ∙ t))
 
-sub-if5 : tie.Need-sub-if5
-sub-if5 c =
-    let d = c .before in
-    omega (
-      arith,
-      status-found d .end,
-      value-found (from4 d) .end,
-      version-found (from3 (from4 d)) .end,
-      slot-found (from2 (from3 (from4 d))) .end,
-      from1 (from2 (from3 (from4 d))) .pre .1,
-    )
-
-no-delivery-requires-5 : tie.Need-no-delivery-requires-5
-no-delivery-requires-5 c κs = search needs
-
 returns-5 : tie.Need-returns-5
-returns-5 c = λ t. absurd (false≢true (sym (c .no-delivery5 .ensures) ∙ t))
-
-returns-6 : tie.Need-returns-6
-returns-6 c = λ t.
-    let d = c .before .before in
+returns-5 c = λ t.
     record {
       versions = _;
       values = _;
       statuses = _;
-      slot = slot-found (from2 (from3 (from4 d)));
-      version = version-found (from3 (from4 d));
-      value = value-found (from4 d);
-      status = status-found d;
-      short = omega (arith, c .if5 .left);
+      slot = slot-found (from2 (from3 (from4 c)));
+      version = version-found (from3 (from4 c));
+      value = value-found (from4 c);
+      status = status-found c;
     }
 
 pub numbers-at-spec : {M : Type 1} → statement M
@@ -125,7 +106,4 @@ numbers-at-spec =
     field-at-requires-4
     no-delivery-requires-4
     returns-4
-    sub-if5
-    no-delivery-requires-5
-    returns-5
-    returns-6)
+    returns-5)

@@ -18,47 +18,48 @@ abbrev μ-loop : tie.MeasureT-loop
 loop-holds : tie.Need-loop-holds Inv-loop μ-loop
 loop-holds c = following-first ((c .before) .pre)
 
-line-from-requires : tie.Need-line-from-requires Inv-loop μ-loop
-line-from-requires c κs = search needs
+passing-at-requires : tie.Need-passing-at-requires Inv-loop μ-loop
+passing-at-requires c κs = search needs
 
 add-n : tie.Need-add-n Inv-loop μ-loop
 add-n c = search needs
 
-is-outside-requires : tie.Need-is-outside-requires Inv-loop μ-loop
-is-outside-requires c κs = search needs
+-- the line of this turn, after the test that it can stand here
+abbrev passed : tie.Else1 Inv-loop μ-loop → tie.After-passing-at Inv-loop μ-loop
+passed c = c .before
+
+abbrev turn : tie.After-passing-at Inv-loop μ-loop → tie.In-loop Inv-loop μ-loop
+turn c = c .before
 
 returns : tie.Need-returns Inv-loop μ-loop
 returns c =
-    let found = c .before .before in
-    following-ends (found .before .before .loop .inv) (found .line-from .ensures) (sym (c .before .is-outside .ensures) ∙ c .if1 .taken)
-
-calls-at-requires : tie.Need-calls-at-requires Inv-loop μ-loop
-calls-at-requires c κs = search needs
+    let found = c .before in
+    let told = found .passing-at .ensures in
+    following-ends (turn found .before .loop .inv) (told .found) (sym (told .outside) ∙ c .if1 .taken)
 
 add-calls : tie.Need-add-calls Inv-loop μ-loop
 add-calls c =
-    let found = c .before .before .before in
-    let loop = found .before .before in
+    let told = passed (c .before) .passing-at .ensures in
+    let loop = turn (passed (c .before)) .before in
     omega (
       arith,
       (loop .before .before) .good,
       loop .loop .inv .reached .fewer,
       loop .loop .inv .reached .few,
-      found .before .loop-test .taken,
-      c .calls-at .ensures,
-      calls-little (found .line-from .result .line),
+      turn (passed (c .before)) .loop-test .taken,
+      told .calls,
+      calls-little (told .line),
     )
 
 loop-less : tie.Need-loop-less Inv-loop μ-loop
 loop-less c =
-    let found = c .before .before .before in
-    omega (arith, found .line-from .ensures .item .further, found .line-from .ensures .item .inside, found .before .loop-test .taken)
+    let found = passed (c .before) .passing-at .ensures .found in
+    omega (arith, found .item .further, found .item .inside, turn (passed (c .before)) .loop-test .taken)
 
 loop-again : tie.Need-loop-again Inv-loop μ-loop
 loop-again c =
-    let found = c .before .before .before in
-    following-next (found .before .before .loop .inv) (found .line-from .ensures) (sym (c .before .before .is-outside .ensures) ∙ c .before .if1 .left)
-    _ (c .calls-at .ensures)
+    let told = passed (c .before) .passing-at .ensures in
+    following-next (turn (passed (c .before)) .before .loop .inv) (told .found) (sym (told .outside) ∙ c .before .if1 .left) _ (told .calls)
 
 returns-2 : tie.Need-returns-2 Inv-loop μ-loop
 returns-2 c = following-last (c .before .loop .inv) (omega arith)
@@ -70,11 +71,9 @@ following-spec =
     Inv-loop
     μ-loop
     loop-holds
-    line-from-requires
+    passing-at-requires
     add-n
-    is-outside-requires
     returns
-    calls-at-requires
     add-calls
     loop-less
     loop-again

@@ -1,0 +1,62 @@
+-- `deliveries::delivery_end`: the keyword, and its four numbers.
+use mathlib.Core.Path.{refl, sym, _∙_}
+use borrow.Author.Needs.{needs}
+use borrow.Author.Tests.{not-false}
+use Rattle.log.proofs.OnePass.{delivery-of}
+use Rattle.log.proofs.deliveries.delivery_end.Statement.{statement}
+use Rattle.log.proofs.deliveries.delivery_end.Tie as tie
+
+sub-if1 : tie.Need-sub-if1
+sub-if1 c = search needs
+
+returns : tie.Need-returns
+returns c = λ some. absurd (some refl)
+
+add-from : tie.Need-add-from
+add-from c = search needs
+
+sub-is-same : tie.Need-sub-is-same
+sub-is-same c = search needs
+
+part-is-same-start : tie.Need-part-is-same-start
+part-is-same-start c = search needs
+
+part-is-same-end : tie.Need-part-is-same-end
+part-is-same-end c = search needs
+
+slice-aggregate-is-same : tie.Need-slice-aggregate-is-same
+slice-aggregate-is-same c = search needs
+
+is-same-requires : tie.Need-is-same-requires
+is-same-requires c κs = search needs
+
+returns-2 : tie.Need-returns-2
+returns-2 c = λ some. absurd (some refl)
+
+numbers-end-requires : tie.Need-numbers-end-requires
+numbers-end-requires c κs = search needs
+
+returns-3 : tie.Need-returns-3
+returns-3 c = λ some.
+    let found = c .numbers-end .ensures some in
+    record {
+      delivery = found .delivery;
+      line = delivery-of _ _ _ (found .numbers) (sym (c .before .before .is-same .ensures) ∙ not-false _ (c .before .if2 .left));
+      ends = found .ends;
+    }
+
+pub delivery-end-spec : {M : Type 1} → statement M
+delivery-end-spec =
+    tie.close
+    (tie.spec
+    sub-if1
+    returns
+    add-from
+    sub-is-same
+    part-is-same-start
+    part-is-same-end
+    slice-aggregate-is-same
+    is-same-requires
+    returns-2
+    numbers-end-requires
+    returns-3)

@@ -1,0 +1,31 @@
+-- `deliveries::field_end`: digits, and the separator after them.
+use mathlib.Core.Path.{refl}
+use borrow.Author.Needs.{needs}
+use native.Mathlib.Omega.{arith}
+use Rattle.log.proofs.OnePass.{field-of}
+use Rattle.log.proofs.deliveries.field_end.Statement.{statement}
+use Rattle.log.proofs.deliveries.field_end.Tie as tie
+
+digits-end-requires : tie.Need-digits-end-requires
+digits-end-requires c κs = search needs
+
+returns : tie.Need-returns
+returns c = λ some. absurd (some refl)
+
+shared-slice-read-if2 : tie.Need-shared-slice-read-if2
+shared-slice-read-if2 c = search needs
+
+returns-2 : tie.Need-returns-2
+returns-2 c = λ some. absurd (some refl)
+
+add-result : tie.Need-add-result
+add-result c = search needs
+
+returns-3 : tie.Need-returns-3
+returns-3 c = λ some.
+    let b = c .before .before in
+    let digits = b .before .digits-end .ensures in
+    record { value = _; field = field-of digits (b .if1 .left) (omega (arith, digits .near, b .before .before .before .pre)) (c .if2 .left) }
+
+pub field-end-spec : {M : Type 1} → statement M
+field-end-spec = tie.close (tie.spec digits-end-requires returns shared-slice-read-if2 returns-2 add-result returns-3)

@@ -1,0 +1,33 @@
+-- `reading::passing_at`: a delivery that is not read, or the line read.
+use borrow.Author.Needs.{needs}
+use Rattle.play.proofs.Stepping.{passing-delivery}
+use Rattle.play.proofs.reading.passing_at.Statement.{statement}
+use Rattle.play.proofs.reading.passing_at.Tie as tie
+
+delivery-end-requires : tie.Need-delivery-end-requires
+delivery-end-requires c κs = search needs
+
+returns : tie.Need-returns
+returns c = passing-delivery (c .before .delivery-end .ensures (c .if1 .taken))
+
+read-from-requires : tie.Need-read-from-requires
+read-from-requires c κs = search needs
+
+is-outside-requires : tie.Need-is-outside-requires
+is-outside-requires c κs = search needs
+
+calls-at-requires : tie.Need-calls-at-requires
+calls-at-requires c κs = search needs
+
+returns-2 : tie.Need-returns-2
+returns-2 c = record {
+  line = _;
+  found = c .before .before .read-from .ensures;
+  outside = c .before .is-outside .ensures;
+  calls = c .calls-at .ensures;
+}
+
+pub passing-at-spec : {M : Type 1} → statement M
+passing-at-spec =
+    tie.close
+    (tie.spec delivery-end-requires returns read-from-requires is-outside-requires calls-at-requires returns-2)
