@@ -1,17 +1,23 @@
--- The totals of the slots, one slot more at a time.
-use mathlib.Core.Path.{_≡_, refl}
+-- The totals of the slots, and the tally of a span, one slot more at a time.
+use mathlib.Core.Bool.{true, false, cond, _||_, or-false}
+use mathlib.Core.Path.{_≡_, refl, sym}
 use mathlib.Core.List.{List}
 use Prim.Native.Nat.{ℕ, _+_, _^_, _≤_, _<_}
 use native.Mathlib.Omega.{arith}
-use Rattle.base.specs.Lists.{sum}
-use Rattle.base.proofs.Logic.{bit-le}
-use Rattle.base.proofs.Sums.{summed-on}
+use borrow.Author.Tests.{ne-eqb, eqb-true}
+use lib.Dec.{eqb}
+use Rattle.base.specs.Lists.{sum, any}
+use Rattle.base.proofs.Logic.{bit-le, and-parts}
+use Rattle.base.proofs.Sums.{summed-on, sum-more, any-more}
 use Rattle.rules.specs.declared.Quality.{Quality}
 use Rattle.rules.specs.declared.Quality.the-variants.{A, S, F, N}
 use Rattle.file.specs.declared.slots.Counted.{Counted}
+use Rattle.file.specs.declared.slots.Kind.the-variants.{Substituted, None, Scaled, Unscaled}
 use Rattle.file.specs.declared.slots.SlotRecord.{SlotRecord}
+use Rattle.file.specs.declared.slots.Tally.{Tally}
+use Rattle.file.specs.Layout.{letter}
 use Rattle.file.specs.Reader.{ofQuality, slotAt}
-use Rattle.file.specs.Inner.Reading.{one, countIn, countedWith, countedIn, Within}
+use Rattle.file.specs.Inner.Reading.{isPlain, isKind, kindAt, talliedWith, talliedIn, one, countIn, countedWith, countedIn, Within}
 
 one-le : (q : Quality) (r : SlotRecord) → one q r ≤ 1
 one-le q r = bit-le (ofQuality q r)
@@ -56,3 +62,52 @@ module _ (bs : List ℕ) where
         none = count-on N i k;
         sum = summed-on (λ x. slotAt bs x .value) i _ _ refl refl k;
       }
+
+-- ---- A plain slot
+
+module _ (r : SlotRecord) (plain : isPlain r ≡ true) where
+  lettered : r .letter ≡ 65
+  lettered = eqb-true _ _ (and-parts (ofQuality A r) (eqb (r .method) 0) plain .0)
+
+  unscaled-method : r .method ≡ 0
+  unscaled-method = eqb-true _ _ (and-parts (ofQuality A r) (eqb (r .method) 0) plain .1)
+
+  other-letter : (q : Quality) → (65 ≡ letter q → ⊥) → one q r ≡ 0
+  other-letter q differs = rw (lettered, ne-eqb 65 (letter q) differs)
+
+  -- it counts as A
+  pub counted-plain : (c : Counted)
+      → record { actual = c .actual + 1; substituted = c .substituted; agreed = c .agreed; none = c .none; sum = c .sum + r .value } ≡ countedWith c r
+  counted-plain c =
+      let a : c .actual + 1 ≡ c .actual + one A r = rw lettered in
+      let s : c .substituted ≡ c .substituted + (one S r + one F r) = omega (arith, other-letter S (λ e. omega arith), other-letter F (λ e. omega arith)) in
+      let f : c .agreed ≡ c .agreed + one F r = omega (arith, other-letter F (λ e. omega arith)) in
+      let n : c .none ≡ c .none + one N r = omega (arith, other-letter N (λ e. omega arith)) in
+      λ k. record { actual = a k; substituted = s k; agreed = f k; none = n k; sum = c .sum + r .value }
+
+  -- and is of no kind
+  pub tallied-plain : (t : Tally)
+      → record { none = t .none; scaled = t .scaled; unscaled = t .unscaled; substituted = t .substituted; sum = t .sum + r .value } ≡ talliedWith t r
+  tallied-plain t =
+      let n : t .none ≡ (t .none || isKind None r) = rw (lettered, or-false) in
+      let s : t .scaled ≡ (t .scaled || isKind Scaled r) = rw (unscaled-method, or-false) in
+      let u : t .unscaled ≡ (t .unscaled || isKind Unscaled r) = rw (lettered, or-false) in
+      let m : t .substituted ≡ (t .substituted || isKind Substituted r) = rw (lettered, or-false) in
+      λ k. record { none = n k; scaled = s k; unscaled = u k; substituted = m k; sum = t .sum + r .value }
+
+-- ---- The tally
+
+module _ (bs : List ℕ) (a : ℕ) where
+  pub tallied-none : record { none = false; scaled = false; unscaled = false; substituted = false; sum = 0 } ≡ talliedIn bs a 0
+  unfolding talliedIn sum any
+  tallied-none = refl
+
+  pub tallied-on : (i : ℕ) → talliedWith (talliedIn bs a i) (slotAt bs (a + i)) ≡ talliedIn bs a (i + 1)
+  unfolding talliedIn
+  tallied-on i = λ k. record {
+    none = sym (any-more (kindAt bs None) a i) k;
+    scaled = sym (any-more (kindAt bs Scaled) a i) k;
+    unscaled = sym (any-more (kindAt bs Unscaled) a i) k;
+    substituted = sym (any-more (kindAt bs Substituted) a i) k;
+    sum = sym (sum-more (λ x. slotAt bs x .value) a i) k;
+  }

@@ -2,13 +2,13 @@
 use crate::fields;
 ghost use mathlib.Core.Bool.{cond, _||_};
 ghost use mathlib.Core.Path.{_≡_};
-ghost use Prim.Native.Nat.{_+_, _*_, _≤_};
+ghost use Prim.Native.Nat.{_+_, _*_, _^_, _≤_};
 ghost use lib.Dec.{eqb};
 ghost use lib.ListN.{length};
 ghost use Rattle.base.specs.Lists.{all, any};
 ghost use Rattle.rules.specs.Spans.{isScaled};
 ghost use Rattle.file.specs.Reader.{slotAt, recordOk};
-ghost use Rattle.file.specs.Inner.Reading.{isKind, kindAt, Tallied, Within, countedWith, countedIn};
+ghost use Rattle.file.specs.Inner.Reading.{isPlain, isKind, kindAt, talliedWith, talliedIn, Within, countedWith, countedIn};
 
 // A record of the slot table.
 pub struct SlotRecord {
@@ -67,6 +67,13 @@ fn record_ok(slot: SlotRecord) -> bool
         return method == 5 && slot.value <= base::EIGHT_DIGITS;
     }
     false
+}
+
+// (A,0): nearly every record of nearly every file.
+fn is_plain(slot: SlotRecord) -> bool
+    ensures { λ r. ⌜ r ≡ isPlain slot ⌝ }
+{
+    slot.letter == b'A' && slot.method == 0
 }
 
 fn is_kind(kind: Kind, slot: SlotRecord) -> bool
@@ -129,33 +136,48 @@ fn also(found: bool, kind: Kind, slot: SlotRecord) -> bool
     is_kind(kind, slot)
 }
 
+// The tally with one slot more: a plain one is of no kind.
+fn tally_with(found: Tally, slot: SlotRecord) -> Tally
+    requires { ⌜ found .sum ≤ 2 ^ 32 * 115_200 ⌝ }
+    ensures { λ r. ⌜ r ≡ talliedWith found slot ⌝ }
+{
+    let sum = found.sum + slot.value as u64;
+    if is_plain(slot) {
+        return Tally {
+            none: found.none,
+            scaled: found.scaled,
+            unscaled: found.unscaled,
+            substituted: found.substituted,
+            sum,
+        };
+    }
+    Tally {
+        none: also(found.none, Kind::None, slot),
+        scaled: also(found.scaled, Kind::Scaled, slot),
+        unscaled: also(found.unscaled, Kind::Unscaled, slot),
+        substituted: also(found.substituted, Kind::Substituted, slot),
+        sum,
+    }
+}
+
 // The tally of the `k` slots from slot `a`.
 pub fn tally_of(file: &[u8], a: usize, k: usize) -> Tally
     requires { ⌜ (6 * (a + k) ≤ length (now file)) × (k ≤ 115_200) ⌝ }
-    ensures { λ r. ⌜ Tallied (now (file .entry)) a k r ⌝ }
+    ensures { λ r. ⌜ r ≡ talliedIn (now (file .entry)) a k ⌝ }
 {
-    let mut none = false;
-    let mut scaled = false;
-    let mut unscaled = false;
-    let mut substituted = false;
-    let mut energy: u64 = 0;
+    let mut found = Tally {
+        none: false,
+        scaled: false,
+        unscaled: false,
+        substituted: false,
+        sum: 0,
+    };
     let mut i = 0;
     while i < k {
-        let slot = slot_at(file, a + i);
-        none = also(none, Kind::None, slot);
-        scaled = also(scaled, Kind::Scaled, slot);
-        unscaled = also(unscaled, Kind::Unscaled, slot);
-        substituted = also(substituted, Kind::Substituted, slot);
-        energy += slot.value as u64;
+        found = tally_with(found, slot_at(file, a + i));
         i += 1;
     }
-    Tally {
-        none: none,
-        scaled: scaled,
-        unscaled: unscaled,
-        substituted: substituted,
-        sum: energy,
-    }
+    found
 }
 
 // The counts of A, of S and F, of F alone, and of N slots, and the sum of all values.
@@ -177,11 +199,21 @@ fn one(slot: SlotRecord, letter: u8) -> usize
     0
 }
 
-// The totals with one slot more, each by a sum and without a branch.
+// The totals with one slot more, each by a sum.
 fn with_slot(found: Counted, slot: SlotRecord) -> Counted
     requires { ⌜ Within 115_200 found ⌝ }
     ensures { λ r. ⌜ r ≡ countedWith found slot ⌝ }
 {
+    let sum = found.sum + slot.value as u64;
+    if is_plain(slot) {
+        return Counted {
+            actual: found.actual + 1,
+            substituted: found.substituted,
+            agreed: found.agreed,
+            none: found.none,
+            sum,
+        };
+    }
     let agreed = one(slot, b'F');
     let filled = one(slot, b'S') + agreed;
     Counted {
@@ -189,7 +221,7 @@ fn with_slot(found: Counted, slot: SlotRecord) -> Counted
         substituted: found.substituted + filled,
         agreed: found.agreed + agreed,
         none: found.none + one(slot, b'N'),
-        sum: found.sum + slot.value as u64,
+        sum,
     }
 }
 

@@ -1,6 +1,6 @@
 -- What the functions of the reader know of a file.
 use mathlib.Core.Path.{_≡_}
-use mathlib.Core.Bool.{Bool, true, cond}
+use mathlib.Core.Bool.{Bool, true, cond, _||_}
 use mathlib.Core.List.{List}
 use Prim.Native.Nat.{ℕ, _+_, _*_, _^_, _≤_}
 use lib.ListN.{length}
@@ -15,7 +15,11 @@ use Rattle.file.specs.declared.slots.Kind.the-variants.{Substituted, Non
 use Rattle.file.specs.declared.slots.SlotRecord.{SlotRecord}
 use Rattle.file.specs.declared.slots.Tally.{Tally}
 use Rattle.file.specs.Layout.{slotWidth, spanTableBytes, trailerWidth}
-use Rattle.file.specs.Reader.{slotAt, headFieldTests, fileSlots, ofQuality, scaled, unscaled}
+use Rattle.file.specs.Reader.{slotAt, headFieldTests, fileSlots, ofQuality, isForm, scaled, unscaled}
+
+-- (A,0)
+abbrev pub isPlain : SlotRecord → Bool
+isPlain r = isForm A 0 r
 
 -- a record is of a kind
 abbrev pub isKind : Kind → SlotRecord → Bool
@@ -28,13 +32,25 @@ isKind Unscaled r = unscaled r
 abbrev pub kindAt : List ℕ → Kind → ℕ → Bool
 kindAt bs kind i = isKind kind (slotAt bs i)
 
+-- the kinds found and the sum with one slot more
+abbrev pub talliedWith : Tally → SlotRecord → Tally
+talliedWith t r = record {
+  none = t .none || isKind None r;
+  scaled = t .scaled || isKind Scaled r;
+  unscaled = t .unscaled || isKind Unscaled r;
+  substituted = t .substituted || isKind Substituted r;
+  sum = t .sum + r .value;
+}
+
 -- which kinds of slots the k from a have, and their sum
-pub record Tallied (bs : List ℕ) (a k : ℕ) (t : Tally) : Type 0 where
-  pub none : t .none ≡ any (kindAt bs None) a k
-  pub scaled : t .scaled ≡ any (kindAt bs Scaled) a k
-  pub unscaled : t .unscaled ≡ any (kindAt bs Unscaled) a k
-  pub substituted : t .substituted ≡ any (kindAt bs Substituted) a k
-  pub sum : t .sum ≡ sum (λ i. slotAt bs i .value) a k
+unfoldable pub talliedIn : List ℕ → ℕ → ℕ → Tally
+talliedIn bs a k = record {
+  none = any (kindAt bs None) a k;
+  scaled = any (kindAt bs Scaled) a k;
+  unscaled = any (kindAt bs Unscaled) a k;
+  substituted = any (kindAt bs Substituted) a k;
+  sum = sum (λ i. slotAt bs i .value) a k;
+}
 
 -- 1 for a record of a quality
 abbrev pub one : Quality → SlotRecord → ℕ

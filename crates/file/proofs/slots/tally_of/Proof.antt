@@ -1,30 +1,28 @@
--- `file::slots::tally_of`. After i slots the kinds found and the sum are those of i slots.
-use mathlib.Core.Bool.{_||_}
-use mathlib.Core.Path.{_≡_, sym, ap, ap₂, _∙_}
-use Prim.Native.Nat.{_≤_, _-_, _+_, _*_, _^_}
+-- `file::slots::tally_of`. After i slots the tally is that of i slots.
+use mathlib.Core.List.{List}
+use mathlib.Core.Path.{_≡_, ap, ap₂, _∙_}
+use Prim.Native.Nat.{ℕ, _≤_, _-_, _*_, _^_}
 use native.Mathlib.Omega.{arith}
 use borrow.Author.Needs.{needs}
-use Rattle.base.specs.Lists.{sum, any}
-use Rattle.base.proofs.Sums.{sum-empty, sum-more, any-empty, any-more}
-use Rattle.file.specs.declared.slots.Kind.the-variants.{Substituted, None, Scaled, Unscaled}
-use Rattle.file.specs.Reader.{slotAt}
-use Rattle.file.specs.Inner.Reading.{isKind, kindAt}
+use Rattle.file.specs.declared.slots.Tally.{Tally}
+use Rattle.file.specs.Inner.Reading.{talliedWith, talliedIn}
+use Rattle.file.proofs.Counts.{tallied-none, tallied-on}
 use Rattle.file.proofs.slots.tally_of.Statement.{statement}
 use Rattle.file.proofs.slots.tally_of.Tie as tie
 
+record Held (file : List ℕ) (a k : ℕ) (found : Tally) (i : ℕ) : Type 0 where
+  inside : i ≤ k
+  low : found .sum ≤ 2 ^ 32 * i
+  tallied : found ≡ talliedIn file a i
+
 abbrev Inv-loop : tie.InvT-loop
-Inv-loop file a k none₀ scaled₀ unscaled₀ substituted₀ energy₀ i₀ none scaled unscaled substituted energy i = (i ≤ k) × (energy ≤ 2 ^ 32 * i)
-    × (none ≡ any (kindAt file None) a i)
-    × (scaled ≡ any (kindAt file Scaled) a i)
-    × (unscaled ≡ any (kindAt file Unscaled) a i)
-    × (substituted ≡ any (kindAt file Substituted) a i)
-    × (energy ≡ sum (λ x. slotAt file x .value) a i)
+Inv-loop file a k found₀ i₀ found i = Held file a k found i
 
 abbrev μ-loop : tie.MeasureT-loop
-μ-loop file a k none₀ scaled₀ unscaled₀ substituted₀ energy₀ i₀ none scaled unscaled substituted energy i = k - i
+μ-loop file a k found₀ i₀ found i = k - i
 
 loop-holds : tie.Need-loop-holds Inv-loop μ-loop
-loop-holds c = (search needs, search needs, sym (any-empty _ _), sym (any-empty _ _), sym (any-empty _ _), sym (any-empty _ _), sym (sum-empty _ _))
+loop-holds c = record { inside = search needs; low = omega arith; tallied = tallied-none _ _ }
 
 add-slot-at : tie.Need-add-slot-at Inv-loop μ-loop
 add-slot-at c = search needs
@@ -32,23 +30,8 @@ add-slot-at c = search needs
 slot-at-requires : tie.Need-slot-at-requires Inv-loop μ-loop
 slot-at-requires c κs = search needs
 
-also-requires : tie.Need-also-requires Inv-loop μ-loop
-also-requires c κs = search needs
-
-also-requires-2 : tie.Need-also-requires-2 Inv-loop μ-loop
-also-requires-2 c κs = search needs
-
-also-requires-3 : tie.Need-also-requires-3 Inv-loop μ-loop
-also-requires-3 c κs = search needs
-
-also-requires-4 : tie.Need-also-requires-4 Inv-loop μ-loop
-also-requires-4 c κs = search needs
-
-cast-energy : tie.Need-cast-energy Inv-loop μ-loop
-cast-energy c = search needs
-
-add-energy : tie.Need-add-energy Inv-loop μ-loop
-add-energy c = search needs
+tally-with-requires : tie.Need-tally-with-requires Inv-loop μ-loop
+tally-with-requires c κs = search needs
 
 add-i : tie.Need-add-i Inv-loop μ-loop
 add-i c = search needs
@@ -57,29 +40,20 @@ loop-less : tie.Need-loop-less Inv-loop μ-loop
 loop-less c = search needs
 
 loop-again : tie.Need-loop-again Inv-loop μ-loop
-loop-again c = let a = c .before .before .before .before .before .before .before .before .before .args in
-    let file = a .file .now in
-    let here = c .before .before .before .before .before .slot-at .ensures in
-    let l = c .before .before .before .before .before .before .before .loop in (
-      search needs,
-      search needs,
-      c .before .before .before .before .also .ensures ∙ ap₂ _||_ (l .inv .2) (ap (isKind None) here) ∙ sym (any-more (kindAt file None) (a .a) (l .i)),
-      c .before .before .before .also2 .ensures ∙ ap₂ _||_ (l .inv .3) (ap (isKind Scaled) here) ∙ sym (any-more (kindAt file Scaled) (a .a) (l .i)),
-      c .before .before .also3 .ensures ∙ ap₂ _||_ (l .inv .4) (ap (isKind Unscaled) here) ∙ sym (any-more (kindAt file Unscaled) (a .a) (l .i)),
-      c .before .also4 .ensures ∙ ap₂ _||_ (l .inv .5) (ap (isKind Substituted) here) ∙ sym (any-more (kindAt file Substituted) (a .a) (l .i)),
-      ap₂ _+_ (l .inv .6) (ap (λ s. s .value) here) ∙ sym (sum-more (λ x. slotAt file x .value) (a .a) (l .i)),
-    )
+loop-again c =
+    let held = c .before .before .before .loop .inv in
+    let e = c .tally-with .ensures in
+    record {
+      inside = omega (arith, c .before .before .loop-test .taken);
+      low = rw e (omega (arith, held .low));
+      tallied = e ∙ ap₂ talliedWith (held .tallied) (c .before .slot-at .ensures) ∙ tallied-on _ _ (c .before .before .before .loop .i);
+    }
 
 returns : tie.Need-returns Inv-loop μ-loop
-returns c = let l = c .before .loop in
-    let done : l .i ≡ c .before .before .before .args .k = omega arith in
-    record {
-      none = rw done at (l .inv .2);
-      scaled = rw done at (l .inv .3);
-      unscaled = rw done at (l .inv .4);
-      substituted = rw done at (l .inv .5);
-      sum = rw done at (l .inv .6);
-    }
+returns c =
+    let held = c .before .loop .inv in
+    let done : c .before .loop .i ≡ c .before .before .before .args .k = omega (arith, c .loop-test .left, held .inside) in
+    held .tallied ∙ ap (talliedIn (c .before .before .before .args .file .now) (c .before .before .before .args .a)) done
 
 pub tally-of-spec : {M : Type 1} → statement M
 tally-of-spec =
@@ -90,12 +64,7 @@ tally-of-spec =
     loop-holds
     add-slot-at
     slot-at-requires
-    also-requires
-    also-requires-2
-    also-requires-3
-    also-requires-4
-    cast-energy
-    add-energy
+    tally-with-requires
     add-i
     loop-less
     loop-again

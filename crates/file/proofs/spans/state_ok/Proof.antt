@@ -4,6 +4,7 @@ use Prim.Native.Nat.{_+_, _≤_}
 use native.Mathlib.Omega.{arith}
 use borrow.Author.Needs.{needs}
 use Rattle.file.specs.Reader.{tablesAt, startOf, slotsOf, fileSlots, stateOk}
+use Rattle.file.specs.Inner.Reading.{talliedIn}
 use Rattle.file.proofs.States.{rule-same, range-same}
 use Rattle.file.proofs.Inside.{room, Room, ends, ordered}
 use Rattle.file.proofs.spans.state_ok.Statement.{statement}
@@ -45,15 +46,14 @@ state-rule-requires : tie.Need-state-rule-requires
 state-rule-requires c κs = search needs
 
 returns : tie.Need-returns
-unfolding stateOk
+unfolding stateOk talliedIn
 returns c = let s = c .before .before .before .before .before .before .span-at .ensures in
     let n = c .before .before .before .before .before .per-day .ensures .0 in
-    let e = c .before .before .tally-of .ensures in
+    let e = rw (s, n) at (c .before .before .tally-of .ensures) in
     c .state-rule .ensures
     ∙ rule-same (ap (λ x. x .state) s)
-    (rw (s, n) at (e .none)) (rw (s, n) at (e .scaled))
-    (rw (s, n) at (e .unscaled)) (rw (s, n) at (e .substituted))
-    (c .before .is-within .ensures ∙ range-same (ap (λ x. x .lowest) s) (rw (s, n) at (e .sum)) (ap (λ x. x .highest) s))
+    (ap (λ t. t .none) e) (ap (λ t. t .scaled) e) (ap (λ t. t .unscaled) e) (ap (λ t. t .substituted) e)
+    (c .before .is-within .ensures ∙ range-same (ap (λ x. x .lowest) s) (ap (λ t. t .sum) e) (ap (λ x. x .highest) s))
 
 pub state-ok-spec : {M : Type 1} → statement M
 state-ok-spec =

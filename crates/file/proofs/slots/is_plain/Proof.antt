@@ -1,0 +1,14 @@
+-- `file::slots::is_plain` meets its contract.
+use borrow.Author.Tests.{eq-eqb, ne-eqb}
+use borrow.Author.Needs.{needs}
+use Rattle.file.proofs.slots.is_plain.Statement.{statement}
+use Rattle.file.proofs.slots.is_plain.Tie as tie
+
+returns : tie.Need-returns
+returns c = rw (eq-eqb _ _ (c .before .if1 .taken))
+
+returns-2 : tie.Need-returns-2
+returns-2 c = rw (ne-eqb _ _ (c .if1 .left))
+
+pub is-plain-spec : {M : Type 1} → statement M
+is-plain-spec = tie.close (tie.spec returns returns-2)

@@ -1,0 +1,59 @@
+-- `file::slots::tally_with`: a plain slot adds its value alone.
+use Prim.Native.Nat.{_+_}
+use mathlib.Core.Path.{sym, _∙_}
+use borrow.Author.Needs.{needs}
+use Rattle.file.proofs.Counts.{tallied-plain}
+use Rattle.file.proofs.slots.tally_with.Statement.{statement}
+use Rattle.file.proofs.slots.tally_with.Tie as tie
+
+abbrev before : tie.After-is-plain → tie.Start
+before c = c .before .before .before
+
+cast-sum : tie.Need-cast-sum
+cast-sum c = search needs
+
+add-sum : tie.Need-add-sum
+add-sum c = search needs
+
+is-plain-requires : tie.Need-is-plain-requires
+is-plain-requires c κs = search needs
+
+returns : tie.Need-returns
+returns c =
+    let args = before (c .before) .args in
+    tallied-plain (args .slot) (sym (c .before .is-plain .ensures) ∙ c .if1 .taken) (args .found)
+
+also-requires : tie.Need-also-requires
+also-requires c κs = search needs
+
+also-requires-2 : tie.Need-also-requires-2
+also-requires-2 c κs = search needs
+
+also-requires-3 : tie.Need-also-requires-3
+also-requires-3 c κs = search needs
+
+also-requires-4 : tie.Need-also-requires-4
+also-requires-4 c κs = search needs
+
+returns-2 : tie.Need-returns-2
+returns-2 c = λ k. let args = before (c .before .before .before .before .before) .args in record {
+  none = c .before .before .before .also .ensures k;
+  scaled = c .before .before .also2 .ensures k;
+  unscaled = c .before .also3 .ensures k;
+  substituted = c .also4 .ensures k;
+  sum = args .found .sum + args .slot .value;
+}
+
+pub tally-with-spec : {M : Type 1} → statement M
+tally-with-spec =
+    tie.close
+    (tie.spec
+    cast-sum
+    add-sum
+    is-plain-requires
+    returns
+    also-requires
+    also-requires-2
+    also-requires-3
+    also-requires-4
+    returns-2)
