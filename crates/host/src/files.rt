@@ -42,7 +42,8 @@ pub extern "C" fn sawmauve_publish(
 ) -> u64
     ensures { λ r. ⌜
         (let head = headOf year month day days interval limit tolerance in
-        let book = lentBook (values .entry) (versions .entry) (statuses .entry) (holidays .entry) (readings .entry) (reads .entry) (agreed .entry) («agreed_versions» .entry) (counts .entry) (widths .entry) in
+        let book = lentBook (values .entry) (versions .entry) (statuses .entry) (holidays .entry) (readings .entry) (reads .entry)
+        (agreed .entry) («agreed_versions» .entry) (counts .entry) (widths .entry) in
         (r ≡ publishCode (publishAnswer head book (now (out .entry))))
         × (now (out .exit) ≡ publishAfter head book (now (out .entry))))
         ⌝ }

@@ -12,7 +12,8 @@ ghost use mathlib.Core.Path.{_≡_};
 ghost use Rattle.rules.specs.Lent.{lentSlots, lentAgreed};
 ghost use Rattle.book.specs.Answers.{receivedMeant, answerCode};
 ghost use Rattle.book.specs.Opening.{openAnswer, openAfter};
-ghost use Rattle.book.specs.Filling.{deliverAnswer, deliverAfter, countsAfter, agreeAnswer, agreeAfter, holidayAnswer, holidayAfter, registerAnswer, registerAfter};
+ghost use Rattle.book.specs.Filling.{deliverAnswer, deliverAfter, countsAfter, agreeAnswer, agreeAfter};
+ghost use Rattle.book.specs.Filling.{holidayAnswer, holidayAfter, registerAnswer, registerAfter};
 ghost use Rattle.book.specs.Lent.{lentReads, lentBook};
 ghost use Rattle.host.specs.Codes.{headOf};
 
@@ -72,9 +73,11 @@ pub extern "C" fn sawmauve_open(
 ) -> u32
     ensures { λ r. ⌜
         (let head = headOf year month day days interval limit tolerance in
-        let book = lentBook (values .entry) (versions .entry) (statuses .entry) (holidays .entry) (readings .entry) (reads .entry) (agreed .entry) («agreed_versions» .entry) (counts .entry) (widths .entry) in
+        let book = lentBook (values .entry) (versions .entry) (statuses .entry) (holidays .entry) (readings .entry) (reads .entry)
+        (agreed .entry) («agreed_versions» .entry) (counts .entry) (widths .entry) in
         (r ≡ answerCode (openAnswer head book))
-        × (lentBook (values .exit) (versions .exit) (statuses .exit) (holidays .exit) (readings .exit) (reads .exit) (agreed .exit) («agreed_versions» .exit) (counts .exit) (widths .exit)
+        × (lentBook (values .exit) (versions .exit) (statuses .exit) (holidays .exit) (readings .exit) (reads .exit)
+        (agreed .exit) («agreed_versions» .exit) (counts .exit) (widths .exit)
         ≡ openAfter head book))
         ⌝ }
 {

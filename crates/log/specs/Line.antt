@@ -4,6 +4,7 @@ use mathlib.Core.List.{List, [], _∷_, _++_, map}
 use Prim.Native.Nat.{ℕ, _-_}
 use lib.Dec.{leb, ltb, eqb}
 use lib.ListN.{length, getD, take, replicate}
+use Rattle.base.specs.Text.{ascii}
 use Rattle.log.specs.declared.line.Opening.{Opening}
 use Rattle.log.specs.declared.line.Line.{Line}
 use Rattle.log.specs.declared.line.Line.the-variants.{Passed, Table, Open, Fill, NoCall}
@@ -13,21 +14,21 @@ use Rattle.book.specs.declared.calls.Call.the-variants.{Delivery, Agreed, Holid
 use Rattle.log.specs.Numbers.{valueOf, isDate, yearPart, monthPart, dayPart}
 use Rattle.log.specs.Words.{words, same, areNumbers}
 
--- `open`, `delivery`, `holiday`, `register` and `agreed` in ASCII
+-- the words that calls begin with
 abbrev pub openWord : List ℕ
-openWord = 111 ∷ 112 ∷ 101 ∷ 110 ∷ []
+openWord = ascii "open"
 
 abbrev pub deliveryWord : List ℕ
-deliveryWord = 100 ∷ 101 ∷ 108 ∷ 105 ∷ 118 ∷ 101 ∷ 114 ∷ 121 ∷ []
+deliveryWord = ascii "delivery"
 
 abbrev pub holidayWord : List ℕ
-holidayWord = 104 ∷ 111 ∷ 108 ∷ 105 ∷ 100 ∷ 97 ∷ 121 ∷ []
+holidayWord = ascii "holiday"
 
 abbrev pub registerWord : List ℕ
-registerWord = 114 ∷ 101 ∷ 103 ∷ 105 ∷ 115 ∷ 116 ∷ 101 ∷ 114 ∷ []
+registerWord = ascii "register"
 
 abbrev pub agreedWord : List ℕ
-agreedWord = 97 ∷ 103 ∷ 114 ∷ 101 ∷ 101 ∷ 100 ∷ []
+agreedWord = ascii "agreed"
 
 -- the value of field i, where the first is 0
 abbrev pub value : List (List ℕ) → ℕ → ℕ
@@ -89,9 +90,9 @@ withoutCr bytes = cond (eqb (getD bytes (length bytes - 1) 0) 13) (take (length 
 unfoldable pub isPassed : List ℕ → Bool
 isPassed line = eqb (length line) 0 || eqb (getD line 0 0) 35
 
--- `limits` in ASCII, and 1 to 24 numbers (02, W5)
+-- and a table, 1 to 24 numbers (02, W5)
 abbrev pub limitsWord : List ℕ
-limitsWord = 108 ∷ 105 ∷ 109 ∷ 105 ∷ 116 ∷ 115 ∷ []
+limitsWord = ascii "limits"
 
 unfoldable pub areLimits : List (List ℕ) → Bool
 areLimits fields = leb 1 (length fields) && leb (length fields) 24 && areNumbers (length fields) fields

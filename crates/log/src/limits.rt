@@ -33,7 +33,10 @@ pub fn none() -> Limits
 // The words after the one that ends at `end`, where they are 1 to 24 numbers.
 pub fn limits_after(line: &[u8], end: usize) -> Limits
     requires { ⌜ end ≤ length (now line) ⌝ }
-    ensures { λ r. ⌜ r ≡ cond (areLimits (piecesAfter 32 (now (line .entry)) end)) (limitsOf (map valueOf (piecesAfter 32 (now (line .entry)) end))) (limitsOf []) ⌝ }
+    ensures { λ r. ⌜
+        (let fields = piecesAfter 32 (now (line .entry)) end in
+        r ≡ cond (areLimits fields) (limitsOf (map valueOf fields)) (limitsOf []))
+        ⌝ }
 {
     let mut values = [0u32; 24];
     let mut count: usize = 0;

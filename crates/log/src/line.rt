@@ -11,7 +11,8 @@ ghost use mathlib.Core.Path.{_≡_};
 ghost use Prim.Native.Nat.{_≤_};
 ghost use lib.ListN.{length};
 ghost use Rattle.log.specs.Words.{words as wordsOf};
-ghost use Rattle.log.specs.Line.{openOf, deliveryOf, holidayOf, sharpOf, registerOf, agreedOf, callOf, bare as bareOf, limitsEntry, wordsEntry, entryOf};
+ghost use Rattle.log.specs.Line.{openOf, deliveryOf, holidayOf, sharpOf, registerOf, agreedOf, callOf};
+ghost use Rattle.log.specs.Line.{bare as bareOf, limitsEntry, wordsEntry, entryOf};
 ghost use Rattle.log.specs.Log.{headWith};
 ghost use Rattle.log.specs.Inner.Parsing.{piecesAfter, cutAt};
 

@@ -9,7 +9,13 @@ ghost use Rattle.log.specs.Inner.Parsing.{piecesFrom};
 // The end of the piece that begins at `at`, whatever bytes stand before and after.
 pub fn end_of(bytes: &[u8], at: usize, separator: u8) -> usize
     requires { ⌜ at ≤ length (now bytes) ⌝ }
-    ensures { λ r. ⌜ (at ≤ r) × (r ≤ length (now (bytes .entry))) × ((begun more : List ℕ) → split separator begun (drop at (now (bytes .entry)) ++ more) ≡ piecesFrom separator (now (bytes .entry)) r (begun ++ take (r - at) (drop at (now (bytes .entry)))) more) ⌝ }
+    ensures { λ r. ⌜
+        (let text = now (bytes .entry) in
+        (at ≤ r)
+        × (r ≤ length text)
+        × ((begun more : List ℕ) → split separator begun (drop at text ++ more)
+        ≡ piecesFrom separator text r (begun ++ take (r - at) (drop at text)) more))
+        ⌝ }
 {
     let mut i = at;
     while i < bytes.len() {

@@ -36,7 +36,11 @@ pub fn is_same(word: &[u8], other: &[u8]) -> bool
 // The values of the words after the one that ends at `end`: `count` numbers.
 pub fn values_after(line: &[u8], end: usize, count: usize) -> Values
     requires { ⌜ (end ≤ length (now line)) × (count ≤ 4) ⌝ }
-    ensures { λ r. ⌜ (r .good ≡ areNumbers count (piecesAfter 32 (now (line .entry)) end)) × (r .good ≡ true → take count (r .values) ≡ map valueOf (piecesAfter 32 (now (line .entry)) end)) ⌝ }
+    ensures { λ r. ⌜
+        (let fields = piecesAfter 32 (now (line .entry)) end in
+        (r .good ≡ areNumbers count fields)
+        × (r .good ≡ true → take count (r .values) ≡ map valueOf fields))
+        ⌝ }
 {
     let mut values = [0u32; 4];
     let mut at = end;

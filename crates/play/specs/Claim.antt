@@ -41,16 +41,19 @@ pub record LogClaim (h g : Head) (x y : List ℕ) (b c : Book) (p q : List ℕ) 
   pub publish-answers : (out : List ℕ)
       → publishAnswer h (playAfter x b p) out ≡ cond (ltb (length out) (length (fileBy h x))) (Refused 7) (Length (length (fileBy h x)))
   pub publish-writes : (out : List ℕ)
-      → publishAfter h (playAfter x b p) out ≡ cond (ltb (length out) (length (fileBy h x))) out (fileBy h x ++ drop (length (fileBy h x)) out)
+      → publishAfter h (playAfter x b p) out
+      ≡ cond (ltb (length out) (length (fileBy h x))) out (fileBy h x ++ drop (length (fileBy h x)) out)
   -- 3. two files are equal exactly when first day, days, interval, all outcomes and all spans are, also under two heads
   pub equal-exactly : (fileBy h x ≡ fileBy g y) ↔ SameOutcomes h g (plainOf h (callsOf x)) (plainOf g (callsOf y))
   -- 4. under one head equal accepted calls give equal files, in whatever order and however often
-  pub order-free : h ≡ g → ((a : Call) → Accepted h (opened h) (callsOf x) a ↔ Accepted g (opened g) (callsOf y) a) → fileBy h x ≡ fileBy g y
+  pub order-free : h ≡ g → ((a : Call) → Accepted h (opened h) (callsOf x) a ↔ Accepted g (opened g) (callsOf y) a)
+      → fileBy h x ≡ fileBy g y
   -- 5. under one head, where no line of one log is answered 10, every log with the same calls, in whatever order, gives the same file
-  pub any-order : h ≡ g → (List·Memᴰ 10 (answersAfter x b p) → ⊥) → SameCalls (callsOf x) (callsOf y) → fileBy h x ≡ fileBy g y
+  pub any-order : h ≡ g → (List·Memᴰ 10 (answersAfter x b p) → ⊥) → SameCalls (callsOf x) (callsOf y)
+      → fileBy h x ≡ fileBy g y
 
 -- proved by `two-logs` (proofs/TwoLogs.antt)
 abbrev pub TwoLogs : Type 0
 TwoLogs =
-    (h g : Head) (x y : List ℕ) (b c : Book) (p q : List ℕ) → readLog x ≡ log h → readLog y ≡ log g → lengthsOk x h b p ≡ true → lengthsOk y g c q ≡ true
-    → LogClaim h g x y b c p q
+    (h g : Head) (x y : List ℕ) (b c : Book) (p q : List ℕ) → readLog x ≡ log h → readLog y ≡ log g
+    → lengthsOk x h b p ≡ true → lengthsOk y g c q ≡ true → LogClaim h g x y b c p q

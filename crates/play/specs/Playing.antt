@@ -36,7 +36,8 @@ checked bytes = checkedOf bytes (readLog bytes)
 unfoldable pub lengthsOk : List ℕ → Head → Book → List ℕ → Bool
 lengthsOk bytes h b answers = bookFits h b && eqb (length answers) (length (lines bytes))
 
--- the answer's code of a filling call (0 stored, 100 late, 101 repeat, or a refusal's number), 102 for the opening, 103 for a line without a call
+-- the answer's code of a filling call (0 stored, 100 late, 101 repeat, or a refusal's number), 102 for the opening, 103 for a line
+-- without a call
 unfoldable pub codeOf : Head → Book → Item → ℕ
 codeOf h b passed = 103
 codeOf h b (table t) = 103

@@ -54,9 +54,11 @@ pub fn play(
     ensures { λ r. ⌜
         (let bytes = now (log .entry) in
         let book =
-        lentBook (values .entry) (versions .entry) (statuses .entry) (holidays .entry) (readings .entry) (reads .entry) (agreed .entry) («agreed_versions» .entry) (counts .entry) (widths .entry) in
+        lentBook (values .entry) (versions .entry) (statuses .entry) (holidays .entry) (readings .entry) (reads .entry)
+        (agreed .entry) («agreed_versions» .entry) (counts .entry) (widths .entry) in
         (r ≡ playAnswer bytes book (now (answers .entry)))
-        × (lentBook (values .exit) (versions .exit) (statuses .exit) (holidays .exit) (readings .exit) (reads .exit) (agreed .exit) («agreed_versions» .exit) (counts .exit) (widths .exit)
+        × (lentBook (values .exit) (versions .exit) (statuses .exit) (holidays .exit) (readings .exit) (reads .exit)
+        (agreed .exit) («agreed_versions» .exit) (counts .exit) (widths .exit)
         ≡ playAfter bytes book (now (answers .entry)))
         × (now (answers .exit) ≡ answersAfter bytes book (now (answers .entry))))
         ⌝ }

@@ -19,7 +19,8 @@ ghost use Rattle.rules.specs.Limits.{loadAnswer};
 ghost use Rattle.log.specs.Log.{tableOf, itemIn, items, readOpen, orBuiltIn};
 ghost use Rattle.log.specs.Log.Item.{table as tableItem};
 ghost use Rattle.play.specs.Playing.{checkedOf};
-ghost use Rattle.play.specs.Inner.Steps.{headStep, openingStep, stepOf, goesOn, tableAfter, leadOf, isOutside, callsAt, PassingAt, Reached, LeadMeant};
+ghost use Rattle.play.specs.Inner.Steps.{headStep, openingStep, stepOf, goesOn, tableAfter, leadOf, LeadMeant};
+ghost use Rattle.play.specs.Inner.Steps.{isOutside, callsAt, PassingAt, Reached};
 
 // What a line before the opening comes to.
 pub enum Step {

@@ -8,7 +8,8 @@ ghost use mathlib.Core.Path.{_≡_};
 ghost use lib.ListN.{length};
 ghost use Rattle.book.specs.Lent.{lentBook};
 ghost use Rattle.play.specs.Playing.{checked, playAnswer, playAfter, answersAfter};
-ghost use Rattle.questions.specs.Logs.{checkCode, checkLine, figuresIn, logCode, figuresAfter, playedCode, callCode, callFields, lineCode, lineFields, oneCode, oneFields};
+ghost use Rattle.questions.specs.Logs.{checkCode, checkLine, figuresIn, logCode, figuresAfter, playedCode};
+ghost use Rattle.questions.specs.Logs.{callCode, callFields, lineCode, lineFields, oneCode, oneFields};
 
 // The nine figures of a log, and 0; else the number of what it is.
 fn tell_log(found: Checked, figures: &mut [u64]) -> u32
@@ -104,9 +105,11 @@ pub extern "C" fn sawmauve_play(
     ensures { λ r. ⌜
         (let bytes = now (log .entry) in
         let book =
-        lentBook (values .entry) (versions .entry) (statuses .entry) (holidays .entry) (readings .entry) (reads .entry) (agreed .entry) («agreed_versions» .entry) (counts .entry) (widths .entry) in
+        lentBook (values .entry) (versions .entry) (statuses .entry) (holidays .entry) (readings .entry) (reads .entry)
+        (agreed .entry) («agreed_versions» .entry) (counts .entry) (widths .entry) in
         (r ≡ playedCode (playAnswer bytes book (now (answers .entry))))
-        × (lentBook (values .exit) (versions .exit) (statuses .exit) (holidays .exit) (readings .exit) (reads .exit) (agreed .exit) («agreed_versions» .exit) (counts .exit) (widths .exit)
+        × (lentBook (values .exit) (versions .exit) (statuses .exit) (holidays .exit) (readings .exit) (reads .exit)
+        (agreed .exit) («agreed_versions» .exit) (counts .exit) (widths .exit)
         ≡ playAfter bytes book (now (answers .entry)))
         × (now (answers .exit) ≡ answersAfter bytes book (now (answers .entry))))
         ⌝ }

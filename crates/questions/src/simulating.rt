@@ -50,11 +50,13 @@ pub extern "C" fn sawmauve_simulate(
 ) -> u32
     ensures { λ r. ⌜
         (let head = headOf year month day days interval limit tolerance in
-        let book = lentBook (values .entry) (versions .entry) (statuses .entry) (holidays .entry) (readings .entry) (reads .entry) (agreed .entry) («agreed_versions» .entry) (counts .entry) (widths .entry) in
+        let book = lentBook (values .entry) (versions .entry) (statuses .entry) (holidays .entry) (readings .entry) (reads .entry)
+        (agreed .entry) («agreed_versions» .entry) (counts .entry) (widths .entry) in
         let given = now (out .entry) in
         let told = now (report .entry) in
         (r ≡ simulatedCode (hostAnswer head seed loss book given told))
-        × (lentBook (values .exit) (versions .exit) (statuses .exit) (holidays .exit) (readings .exit) (reads .exit) (agreed .exit) («agreed_versions» .exit) (counts .exit) (widths .exit)
+        × (lentBook (values .exit) (versions .exit) (statuses .exit) (holidays .exit) (readings .exit) (reads .exit)
+        (agreed .exit) («agreed_versions» .exit) (counts .exit) (widths .exit)
         ≡ hostLists head seed loss book given told)
         × (now (out .exit) ≡ hostBytes head seed loss book given told)
         × (now (report .exit) ≡ hostReport head seed loss book given told))
