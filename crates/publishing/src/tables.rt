@@ -3,10 +3,14 @@ use file::writer;
 use rules::Head;
 use rules::Outcome;
 use rules::Quality;
+use rules::filling;
+use rules::linear;
 use rules::opening;
 use rules::pass;
 use rules::pass::Pass;
 use rules::stretch::Begins;
+use rules::tests;
+use rules::walk::Walk;
 ghost use mathlib.Core.Bool.{true};
 ghost use mathlib.Core.Path.{_≡_};
 ghost use Prim.Native.Nat.{_+_, _*_, _≤_};
@@ -18,7 +22,8 @@ ghost use Rattle.rules.specs.Lent.{lentCells};
 ghost use Rattle.rules.specs.Inner.Passes.{listOf};
 ghost use Rattle.file.specs.Layout.{table, spanRow};
 ghost use Rattle.file.specs.Inner.Writing.{written};
-ghost use Rattle.publishing.specs.Inner.Publishing.{totalsOf, addedTo, progressAt, bufferAt, Roomy, Next, PutNext};
+ghost use Rattle.publishing.specs.Inner.Publishing.{totalsOf, addedTo, goodOn, progressAt, bufferAt, Countable, Roomy, Next, PutNext};
+ghost use Rattle.publishing.specs.Inner.Publishing.{Further, PutGood};
 
 // The counts of each quality and the sum of the slots so far.
 pub struct Totals {
@@ -55,13 +60,7 @@ fn begin() -> Progress
 }
 
 fn add(totals: Totals, slot: Outcome) -> Totals
-    requires { ⌜
-        (totals .actual ≤ 115_200)
-        × (totals .substituted ≤ 115_200)
-        × (totals .agreed ≤ 115_200)
-        × (totals .none ≤ 115_200)
-        × (totals .sum ≤ 11_520_000_000_000)
-        ⌝ }
+    requires { ⌜ Countable totals ⌝ }
     ensures { λ r. ⌜ r ≡ addedTo totals slot ⌝ }
 {
     let sum = totals.sum + (slot.value as u64);
@@ -169,6 +168,73 @@ fn put_next(
     }
 }
 
+// The progress behind a good slot of the carried stretch.
+fn good_on(here: Progress, slot: Outcome) -> Progress
+    requires { ⌜ Countable (here .totals) × (here .pass .walk .at ≤ 115_200) ⌝ }
+    ensures { λ r. ⌜ r ≡ goodOn here slot ⌝ }
+{
+    let pass = here.pass;
+    let walk = pass.walk;
+    let carried = pass.stretch;
+    let totals = here.totals;
+    let next = Walk {
+        at: walk.at + 1,
+        outage: false,
+        line: linear::bare(0),
+    };
+    let on = Pass {
+        walk: next,
+        stretch: carried,
+    };
+    Progress {
+        pass: on,
+        spans: here.spans,
+        totals: add(totals, slot),
+    }
+}
+
+// The records of the good slots that follow in the carried stretch.
+fn put_good(
+    head: Head,
+    values: &[u32],
+    versions: &[u32],
+    statuses: &[u8],
+    holidays: &[u8],
+    readings: &[u32],
+    reads: &[u32],
+    agreed: &[u32],
+    agreed_versions: &[u32],
+    widths: &[u16],
+    out: &mut [u8],
+    from: Progress,
+) -> Progress
+    requires { ⌜ Further head (lentCells values versions statuses holidays readings reads agreed «agreed_versions» widths) (now out) from ⌝ }
+    ensures { λ r. ⌜
+        (let b = lentCells (values .entry) (versions .entry) (statuses .entry) (holidays .entry) (readings .entry) (reads .entry)
+        (agreed .entry) («agreed_versions» .entry) (widths .entry) in
+        PutGood head b (now (out .entry)) (now (out .exit)) from r)
+        ⌝ }
+{
+    let n = opening::slot_count(head);
+    let pass = from.pass;
+    let until = pass.stretch.until;
+    let mut here = from;
+    let mut at = pass.walk.at;
+    while at < n {
+        if at == until {
+            return here;
+        }
+        if !tests::is_good(head, values, versions, statuses, at) {
+            return here;
+        }
+        let slot = filling::delivered(values[at]);
+        writer::put_slot(out, 6 * at, slot);
+        here = good_on(here, slot);
+        at += 1;
+    }
+    here
+}
+
 // Both tables, the span table from byte `table` on; the totals of all slots.
 pub fn put_tables(
     head: Head,
@@ -198,7 +264,7 @@ pub fn put_tables(
     let mut here = begin();
     let mut i = 0;
     while i < n {
-        here = put_next(
+        let stepped = put_next(
             head,
             values,
             versions,
@@ -213,7 +279,22 @@ pub fn put_tables(
             table,
             here,
         );
-        i += 1;
+        here = put_good(
+            head,
+            values,
+            versions,
+            statuses,
+            holidays,
+            readings,
+            reads,
+            agreed,
+            agreed_versions,
+            widths,
+            out,
+            stepped,
+        );
+        let pass = here.pass;
+        i = pass.walk.at;
     }
     here.totals
 }

@@ -1,5 +1,5 @@
 -- What the functions that publish know between two slots.
-use mathlib.Core.Bool.{true}
+use mathlib.Core.Bool.{true, false}
 use mathlib.Core.Path.{_≡_}
 use mathlib.Core.List.{List, [], _∷_}
 use Prim.Native.Nat.{ℕ, _+_, _*_, _≤_, _<_}
@@ -14,6 +14,7 @@ use Rattle.rules.specs.Opening.{Cells, headOk, slotCount}
 use Rattle.rules.specs.Spans.{isA, isS, isF, isN, outcomeAt, spans}
 use Rattle.rules.specs.Inner.Lent.{Whole}
 use Rattle.rules.specs.Inner.Stretches.{beginsAt}
+use Rattle.rules.specs.Inner.Walks.{bareLine}
 use Rattle.rules.specs.Inner.Passes.{passAt, listOf, begunBefore}
 use Rattle.book.specs.Cells.{Book, cellsFit, cellsOk}
 use Rattle.publishing.specs.declared.Published.{Published}
@@ -42,6 +43,22 @@ addedTo t o = record {
   agreed = t .agreed + one isF o;
   none = t .none + one isN o;
   sum = t .sum + o .value;
+}
+
+-- totals that one slot more keeps in their numbers
+pub record Countable (t : Totals) : Type 0 where
+  pub actual : t .actual ≤ 115_200
+  pub substituted : t .substituted ≤ 115_200
+  pub agreed : t .agreed ≤ 115_200
+  pub none : t .none ≤ 115_200
+  pub sum : t .sum ≤ 11_520_000_000_000
+
+-- behind a good slot of the carried stretch: in no run, the stretch as it was
+abbrev pub goodOn : Progress → Outcome → Progress
+goodOn p o = record {
+  pass = record { walk = record { at = p .pass .walk .at + 1; outage = false; line = bareLine 0 }; stretch = p .pass .stretch };
+  spans = p .spans;
+  totals = addedTo (p .totals) o;
 }
 
 -- the outcomes of the first i slots
@@ -96,3 +113,16 @@ pub record Next (h : Head) (b : Cells) (d : List ℕ) (table : ℕ) (here : Prog
 pub record PutNext (h : Head) (b : Cells) (d e : List ℕ) (here next : Progress) : Type 0 where
   pub bytes : e ≡ nextBytes h b d (here .pass .walk .at)
   pub known : next ≡ progressAt h b (here .pass .walk .at + 1)
+
+-- before a slot, or behind the last
+pub record Further (h : Head) (b : Cells) (d : List ℕ) (here : Progress) : Type 0 where
+  pub roomy : Roomy h b d
+  pub inside : here .pass .walk .at ≤ slotCount h
+  pub known : here ≡ progressAt h b (here .pass .walk .at)
+
+-- some slots on: their records are written, in a buffer that held those of the slots before
+pub record PutGood (h : Head) (b : Cells) (d e : List ℕ) (here next : Progress) : Type 0 where
+  pub further : here .pass .walk .at ≤ next .pass .walk .at
+  pub inside : next .pass .walk .at ≤ slotCount h
+  pub known : next ≡ progressAt h b (next .pass .walk .at)
+  pub bytes : (x : List ℕ) → length x ≡ length d → d ≡ bufferAt h b x (here .pass .walk .at) → e ≡ bufferAt h b x (next .pass .walk .at)

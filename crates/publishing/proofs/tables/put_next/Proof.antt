@@ -14,7 +14,7 @@ use Rattle.rules.proofs.Begun.{begun-room}
 use Rattle.publishing.specs.declared.tables.Progress.{Progress}
 use Rattle.file.specs.Layout.{one, total}
 use Rattle.publishing.specs.Inner.Publishing.{totalsOf, firstSlots, progressAt}
-use Rattle.publishing.proofs.Totals.{count-low, sum-low}
+use Rattle.publishing.proofs.Good.{countable}
 use borrow.Author.Needs.{needs}
 use Rattle.publishing.proofs.tables.put_next.Statement.{statement}
 use Rattle.publishing.proofs.tables.put_next.Tie as tie
@@ -41,18 +41,10 @@ put-begun-requires c κs = let a = c .before .before .before .before .before .be
     omega (arith, k, g, begun-room (a .head) b w i (c .before .before .before .before .before .before .before .before .before .before .before .before .before .before .before .before .before .before .pre .inside), c .before .before .before .before .before .before .before .before .before .before .before .before .before .before .before .before .before .before .pre .roomy .room, c .before .before .before .before .before .before .before .before .before .before .before .before .before .before .before .before .before .before .pre .place)
 
 add-requires : tie.Need-add-requires
-unfolding progressAt totalsOf
-add-requires c κs = let a = c .before .before .before .before .before .before .before .before .before .before .before .before .before .before .before .before .before .before .before .before .before .before .before .args in
-    let w = bounded (a .head) (c .before .before .before .before .before .before .before .before .before .before .before .before .before .before .before .before .before .before .before .before .before .before .before .pre .roomy .whole .lent .fitted .head) in
-    let b = cells (slots (a .values .now) (a .versions .now) (a .statuses .now)) (a .holidays .now) (a .readings .now) (a .reads .now) (agreedLists (a .agreed .now) (a .agreed-versions .now)) (a .widths .now) in
-    let i = a .here .pass .walk .at in
-    let l : i ≤ 115_200 = omega (arith, count-high (a .head) w, c .before .before .before .before .before .before .before .before .before .before .before .before .before .before .before .before .before .before .before .before .before .before .before .pre .inside) in
-    let x : a .here .totals .actual ≡ total (one isA) (firstSlots (a .head) b i) = ap (λ (p : Progress). p .totals .actual) (c .before .before .before .before .before .before .before .before .before .before .before .before .before .before .before .before .before .before .before .before .before .before .before .pre .known) in
-    let y : a .here .totals .substituted ≡ total (one isS) (firstSlots (a .head) b i) = ap (λ (p : Progress). p .totals .substituted) (c .before .before .before .before .before .before .before .before .before .before .before .before .before .before .before .before .before .before .before .before .before .before .before .pre .known) in
-    let f : a .here .totals .agreed ≡ total (one isF) (firstSlots (a .head) b i) = ap (λ (p : Progress). p .totals .agreed) (c .before .before .before .before .before .before .before .before .before .before .before .before .before .before .before .before .before .before .before .before .before .before .before .pre .known) in
-    let z : a .here .totals .none ≡ total (one isN) (firstSlots (a .head) b i) = ap (λ (p : Progress). p .totals .none) (c .before .before .before .before .before .before .before .before .before .before .before .before .before .before .before .before .before .before .before .before .before .before .before .pre .known) in
-    let s : a .here .totals .sum ≡ total (λ o. o .value) (firstSlots (a .head) b i) = ap (λ (p : Progress). p .totals .sum) (c .before .before .before .before .before .before .before .before .before .before .before .before .before .before .before .before .before .before .before .before .before .before .before .pre .known) in
-    (omega (arith, count-low (a .head) b i isA), omega (arith, count-low (a .head) b i isS), omega (arith, count-low (a .head) b i isF), omega (arith, count-low (a .head) b i isN), omega (arith, sum-low (a .head) b i w (c .before .before .before .before .before .before .before .before .before .before .before .before .before .before .before .before .before .before .before .before .before .before .before .pre .roomy .whole .settled .low) (c .before .before .before .before .before .before .before .before .before .before .before .before .before .before .before .before .before .before .before .before .before .before .before .pre .roomy .whole .widths .low)))
+add-requires c κs = let start = c .before .before .before .before .before .before .before .before .before .before .before .before .before .before .before .before .before .before .before .before .before .before .before in
+    let a = start .args in
+    let w = bounded (a .head) (start .pre .roomy .whole .lent .fitted .head) in
+    countable (a .head) _ _ w (start .pre .roomy .whole .settled .low) (start .pre .roomy .whole .widths .low) (omega (arith, start .pre .inside)) (a .here) (start .pre .known)
 
 same-length : tie.Need-same-length
 same-length c = search needs
