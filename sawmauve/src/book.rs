@@ -215,6 +215,22 @@ impl Book {
         &self.counts
     }
 
+    /// Whether a day is a holiday.
+    pub fn is_holiday(&self, day: u32) -> bool {
+        self.holidays.get(day as usize) == Some(&1)
+    }
+
+    /// The book without its register reads. It has no span, so that its outcomes are what was filled before any span was fitted to the dial.
+    pub fn unread(&self) -> Book {
+        let boundaries = self.reads.len();
+        Book {
+            readings: vec![0; boundaries],
+            reads: vec![0; boundaries],
+            widths: vec![0; boundaries],
+            ..self.clone()
+        }
+    }
+
     /// What stands for a slot.
     pub fn cell(&self, slot: u32) -> Option<Cell> {
         let at = slot as usize;

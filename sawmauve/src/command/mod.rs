@@ -9,6 +9,7 @@ mod differences;
 mod folders;
 mod follow;
 mod nem12;
+mod page;
 mod publish;
 mod reconcile;
 mod sheet;
@@ -21,6 +22,7 @@ mod strips;
 mod tasks;
 mod times;
 mod trouble;
+mod way;
 
 use arguments::{Arguments, Opt};
 use std::ffi::OsString;
@@ -36,12 +38,13 @@ struct Verb {
     run: fn(&Arguments) -> Result<Status, Trouble>,
 }
 
-const VERBS: [&Verb; 12] = [
+const VERBS: [&Verb; 13] = [
     &publish::VERB,
     &answers::VERB,
     &show::VERB,
     &days::VERB,
     &follow::VERB,
+    &page::VERB,
     &compare::VERB,
     &reconcile::VERB,
     &stays::VERB,

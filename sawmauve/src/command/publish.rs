@@ -6,7 +6,7 @@ use super::store;
 use super::streams;
 use super::tasks;
 use super::trouble::{Status, Trouble, line_about, tell};
-use sawmauve::Log;
+use sawmauve::{Log, calls};
 use std::ffi::OsStr;
 use std::fs;
 use std::path::{Path, PathBuf};
@@ -73,9 +73,10 @@ pub fn published(name: &OsStr) -> Result<Published, Trouble> {
     })
 }
 
-/// Puts a file in its place, and answers the folder that is to be flushed.
+/// Puts a file in its place, read back by the proved reader, and answers the folder that is to be flushed.
 pub fn stored(path: &Path, file: &[u8]) -> Result<Option<PathBuf>, Trouble> {
-    store::store(path, file).map_err(|error| Trouble::io(path.as_os_str(), &error))
+    let accepts = |bytes: &[u8]| calls::check(bytes) == 0;
+    store::store(path, file, accepts).map_err(|error| Trouble::io(path.as_os_str(), &error))
 }
 
 /// Flushes the folder that new files lie in.
@@ -84,7 +85,7 @@ pub fn flushed(folder: &Path) -> Result<(), Trouble> {
 }
 
 /// Both names lead to one place.
-fn is_same(log: &OsStr, out: &OsStr) -> bool {
+pub fn is_same(log: &OsStr, out: &OsStr) -> bool {
     match (fs::canonicalize(log), fs::canonicalize(out)) {
         (Ok(log), Ok(out)) => log == out,
         _ => false,

@@ -49,7 +49,7 @@ fn head_lines(heads: &Pair<Head>) -> String {
 }
 
 /// A call with its date and time, version and content.
-fn call_words(times: Times, call: Call) -> String {
+pub fn call_words(times: Times, call: Call) -> String {
     match call {
         Call::Delivery {
             slot,
@@ -84,14 +84,14 @@ fn call_words(times: Times, call: Call) -> String {
     }
 }
 
-fn line_words(lines: &[u64]) -> String {
+pub fn line_words(lines: &[u64]) -> String {
     let numbers: Vec<String> = lines.iter().map(u64::to_string).collect();
     let noun = if numbers.len() == 1 { "line" } else { "lines" };
     format!("{noun} {}", numbers.join(", "))
 }
 
 /// A conflict decides by order where no higher version came.
-fn order_words(refusal: Refusal, highest: bool) -> &'static str {
+pub fn order_words(refusal: Refusal, highest: bool) -> &'static str {
     match (refusal, highest) {
         (Refusal::Conflict, true) => " at the highest version of its cell: order matters",
         (Refusal::Conflict, false) => " below the highest version of its cell",
@@ -99,26 +99,33 @@ fn order_words(refusal: Refusal, highest: bool) -> &'static str {
     }
 }
 
-/// The line of the other log's refusal.
-fn refused_line(refused: Elsewhere, other: &str) -> String {
+/// What the other log answered.
+pub fn elsewhere_words(refused: Elsewhere, other: &str) -> String {
     let Elsewhere {
         line,
         refusal,
         highest,
     } = refused;
     let (number, order) = (refusal.number(), order_words(refusal, highest));
-    format!("    {other} line {line}: refused {number}{order}\n")
+    format!("{other} line {line}: refused {number}{order}")
+}
+
+/// Whether a call stands in its cell.
+pub fn stands_words(listed: &Listed) -> String {
+    match listed.cell {
+        Some(version) if !listed.stands() => format!("superseded by version {version}"),
+        _ => "stands".to_string(),
+    }
 }
 
 fn listed_line(times: Times, listed: &Listed, other: &str) -> String {
     let (lines, call) = (line_words(&listed.lines), call_words(times, listed.call));
-    let stands = match listed.cell {
-        Some(version) if !listed.stands() => format!("superseded by version {version}"),
-        _ => "stands".to_string(),
-    };
-    let refused = listed.refused.map(|refused| refused_line(refused, other));
+    let refused = listed
+        .refused
+        .map(|refused| format!("    {}\n", elsewhere_words(refused, other)));
     format!(
-        "  {lines}: {call}: {stands}\n{}",
+        "  {lines}: {call}: {}\n{}",
+        stands_words(listed),
         refused.unwrap_or_default()
     )
 }
@@ -133,7 +140,7 @@ fn side_lines(times: Times, side: &str, other: &str, calls: &[Listed]) -> String
     text
 }
 
-fn cell_words(cell: &Cell) -> String {
+pub fn cell_words(cell: &Cell) -> String {
     let mut text = match cell.version {
         0 => "nothing came".to_string(),
         version => format!(
@@ -150,7 +157,7 @@ fn cell_words(cell: &Cell) -> String {
     text
 }
 
-fn reading_words(cell: &Reading) -> String {
+pub fn reading_words(cell: &Reading) -> String {
     match cell.version {
         0 => "nothing came".to_string(),
         version => format!(

@@ -1,7 +1,6 @@
-//! A file put in its place whole: written under a name that begins with a dot, read back by the proved reader, flushed and renamed. A run
-//! that fails or is interrupted leaves the old file.
+//! A file put in its place whole: written under a name that begins with a dot, read back, flushed and renamed. A run that fails or is
+//! interrupted leaves the old file.
 
-use sawmauve::calls;
 use std::fs::{self, File, OpenOptions};
 use std::io::{self, Read, Seek, Write};
 use std::path::{Path, PathBuf};
@@ -38,26 +37,29 @@ fn create_beside(path: &Path) -> io::Result<(PathBuf, File)> {
     }
 }
 
-/// Writes a file's bytes and reads them back: what stands there is what was written, and the reader accepts it.
-fn write_and_read_back(file: &mut File, bytes: &[u8]) -> io::Result<()> {
+/// Whether what was read back is a file of its kind.
+pub type Check = fn(&[u8]) -> bool;
+
+/// Writes a file's bytes and reads them back: what stands there is what was written, and the check accepts it.
+fn write_and_read_back(file: &mut File, bytes: &[u8], check: Check) -> io::Result<()> {
     file.write_all(bytes)?;
     let mut back = Vec::with_capacity(bytes.len());
     file.rewind()?;
     file.read_to_end(&mut back)?;
-    if back != bytes || calls::check(&back) != 0 {
+    if back != bytes || !check(&back) {
         return Err(io::Error::other("what was written reads back otherwise"));
     }
     file.sync_all()
 }
 
-fn replace(path: &Path, bytes: &[u8], old: Option<fs::Metadata>) -> io::Result<()> {
+fn replace(path: &Path, bytes: &[u8], check: Check, old: Option<fs::Metadata>) -> io::Result<()> {
     let (beside, mut file) = create_beside(path)?;
     let done = match old {
         Some(old) => file.set_permissions(old.permissions()),
         None => Ok(()),
     };
     let done = done
-        .and_then(|()| write_and_read_back(&mut file, bytes))
+        .and_then(|()| write_and_read_back(&mut file, bytes, check))
         .and_then(|()| fs::rename(&beside, path));
     if done.is_err() {
         let _ = fs::remove_file(&beside);
@@ -67,10 +69,10 @@ fn replace(path: &Path, bytes: &[u8], old: Option<fs::Metadata>) -> io::Result<(
 
 /// Puts a file in its place, and answers the folder in which a name changed and that is still to be flushed. Behind a symbolic link the
 /// place is the one that it leads to; a device or a pipe is written to.
-pub fn store(path: &Path, bytes: &[u8]) -> io::Result<Option<PathBuf>> {
+pub fn store(path: &Path, bytes: &[u8], check: Check) -> io::Result<Option<PathBuf>> {
     let place = fs::canonicalize(path).unwrap_or_else(|_| path.to_path_buf());
     match fs::metadata(&place) {
-        Ok(old) if old.is_file() => replace(&place, bytes, Some(old))?,
+        Ok(old) if old.is_file() => replace(&place, bytes, check, Some(old))?,
         Ok(other) if other.is_dir() => return Err(io::ErrorKind::IsADirectory.into()),
         Ok(_) => {
             OpenOptions::new()
@@ -79,7 +81,9 @@ pub fn store(path: &Path, bytes: &[u8]) -> io::Result<Option<PathBuf>> {
                 .write_all(bytes)?;
             return Ok(None);
         }
-        Err(error) if error.kind() == io::ErrorKind::NotFound => replace(&place, bytes, None)?,
+        Err(error) if error.kind() == io::ErrorKind::NotFound => {
+            replace(&place, bytes, check, None)?
+        }
         Err(error) => return Err(error),
     }
     Ok(Some(folder_of(&place).to_path_buf()))

@@ -1,0 +1,168 @@
+//! Each day's curve, in a long book each week's: what was measured and what was filled as areas, and before the dial as a line.
+
+use super::cells::{ALL, Cell, Kind, period};
+use super::html::{counted, escaped, grouped};
+use super::month::Month;
+
+/// The height of a curve in the units of its drawing.
+const HEIGHT: u64 = 200;
+
+/// A book of fewer days has its curves side by side, and not by weekdays.
+const WEEK: usize = 7;
+
+/// The highest value of all cells, which is the top of every curve.
+fn top(month: &Month) -> u64 {
+    let values = month
+        .cells()
+        .map(|cell| cell.value().max(cell.value_before().unwrap_or(0)));
+    values.max().unwrap_or(0).max(1)
+}
+
+fn height(value: u64, top: u64) -> u64 {
+    let value = u128::from(value) * u128::from(HEIGHT) / u128::from(top.max(1));
+    HEIGHT - (value as u64).min(HEIGHT)
+}
+
+/// A curve of steps through the places that have a height; `ground` closes each unbroken run of them to an area.
+fn steps(heights: impl Iterator<Item = Option<u64>>, ground: bool) -> String {
+    let (mut path, mut open) = (String::new(), false);
+    for (x, y) in heights.chain([None]).enumerate() {
+        match (y, open) {
+            (Some(y), true) => path += &format!("V{y}h1"),
+            (Some(y), false) if ground => path += &format!("M{x} {HEIGHT}V{y}h1"),
+            (Some(y), false) => path += &format!("M{x} {y}h1"),
+            (None, true) if ground => path += &format!("V{HEIGHT}z"),
+            (None, _) => {}
+        }
+        open = y.is_some();
+    }
+    path
+}
+
+fn path(class: &str, drawn: &str) -> String {
+    match drawn.is_empty() {
+        true => String::new(),
+        false => format!("<path class=\"{class}\" d=\"{drawn}\"/>"),
+    }
+}
+
+/// The area of the cells of a kind. A slot that is missing or zeroed has no value to draw: its whole height is marked.
+fn area(cells: &[Cell], kind: Kind, top: u64) -> String {
+    let heights = cells.iter().map(|cell| match kind {
+        _ if cell.kind() != kind => None,
+        Kind::Missing | Kind::Outage if cell.value() == 0 => Some(0),
+        _ => Some(height(cell.value(), top)),
+    });
+    path(kind.class(), &steps(heights, true))
+}
+
+fn before(cells: &[Cell], top: u64) -> String {
+    let heights = cells
+        .iter()
+        .map(|cell| Some(height(cell.value_before()?, top)));
+    path("b", &steps(heights, false))
+}
+
+/// Lines at 06:00, 12:00 and 18:00, or between the days of a week.
+fn ticks(width: usize, apart: usize) -> String {
+    let places = (1..).map(|tick| tick * apart).take_while(|x| *x < width);
+    path(
+        "t",
+        &places
+            .map(|x| format!("M{x} 0v{HEIGHT}"))
+            .collect::<String>(),
+    )
+}
+
+/// The curve in words.
+fn words(month: &Month, cells: &[Cell]) -> String {
+    let kinds = ALL.into_iter().filter_map(|kind| {
+        let slots = cells.iter().flat_map(|cell| cell.slots);
+        let count = slots.filter(|slot| Kind::of(slot) == kind).count();
+        (count != 0).then(|| format!("{} {}", counted(count, "slot", "slots"), kind.words()))
+    });
+    let kinds = kinds.collect::<Vec<_>>().join(", ");
+    let Some(highest) = cells.iter().max_by_key(|cell| cell.value()) else {
+        return kinds;
+    };
+    let time = period(
+        month.times(),
+        month.head(),
+        highest.first,
+        highest.slots.len(),
+    );
+    format!("{kinds}; highest {} Wh, {time}", grouped(highest.value()))
+}
+
+fn drawing(month: &Month, cells: &[Cell], top: u64) -> String {
+    let width = match month.is_long() {
+        true => cells.len().max(WEEK * month.cells_per_day()),
+        false => month.cells_per_day(),
+    };
+    let apart = if month.is_long() {
+        width / WEEK
+    } else {
+        width / 4
+    };
+    let areas = ALL.map(|kind| area(cells, kind, top)).concat();
+    format!(
+        "<svg viewBox=\"0 0 {width} {HEIGHT}\" preserveAspectRatio=\"none\" role=\"img\" aria-label=\"{}\">{}{areas}{}</svg>",
+        escaped(&words(month, cells)),
+        ticks(width, apart.max(1)),
+        before(cells, top)
+    )
+}
+
+fn figure(month: &Month, day: u32, cells: &[Cell], top: u64) -> String {
+    let days = cells.len() / month.cells_per_day().max(1);
+    let totals = month.totals.iter().skip(day as usize).take(days);
+    let total = grouped(totals.map(|total| u128::from(*total)).sum::<u128>());
+    let weekday = month.weekday(day) + 1;
+    let until = match days {
+        0 | 1 => String::new(),
+        _ => format!(" to {}", month.date(day + days as u32 - 1)),
+    };
+    format!(
+        "<figure class=\"on-{weekday}\"><figcaption><a href=\"#day-{day}\">{}{until}</a> <span>{total} Wh</span></figcaption>{}</figure>\n",
+        month.date(day),
+        drawing(month, cells, top)
+    )
+}
+
+/// How to read the curves.
+fn legend(month: &Month, top: u64) -> String {
+    let (cell, lines) = match month.is_long() {
+        true => (30, "the days of a week"),
+        false => (month.head().interval, "06:00, 12:00 and 18:00"),
+    };
+    format!(
+        "<p>The top of every curve is {} Wh in {cell} minutes; the upright lines are at {lines}.</p>\n\
+         <ul class=\"legend\"><li><span class=\"key curve m\" aria-hidden=\"true\"></span> measured</li>\
+         <li><span class=\"key curve l\" aria-hidden=\"true\"></span><span class=\"key curve d\" aria-hidden=\"true\"></span>\
+         <span class=\"key curve f\" aria-hidden=\"true\"></span> filled: on a line, from other days, agreed, with a broken outline</li>\
+         <li><span class=\"key curve b\" aria-hidden=\"true\"></span> filled, before it was fitted to the dial</li>\
+         <li><span class=\"key curve n\" aria-hidden=\"true\"></span> missing</li>\
+         <li><span class=\"key curve o\" aria-hidden=\"true\"></span> zeroed by an outage</li></ul>\n",
+        grouped(top)
+    )
+}
+
+pub fn curves(month: &Month) -> String {
+    let cells: Vec<Cell> = month.cells().collect();
+    let (top, days) = (top(month), if month.is_long() { WEEK } else { 1 });
+    let class = match month.head().day_count() {
+        _ if month.is_long() => "weeks",
+        0..WEEK => "few",
+        _ => "days",
+    };
+    let parts = cells.chunks(days * month.cells_per_day());
+    let figures = (0..)
+        .step_by(days)
+        .zip(parts)
+        .map(|(day, cells)| figure(month, day, cells, top));
+    let figures: String = figures.collect();
+    format!(
+        "{}<div class=\"curves {class}\">\n{figures}</div>\n",
+        legend(month, top)
+    )
+}

@@ -1,0 +1,81 @@
+//! The spans between two readings of the dial: dates, advance, measured sum, state, and what was shared out.
+
+use super::cells::is_fitted;
+use super::html::{counted, grouped, table};
+use super::month::Month;
+use sawmauve::{Error, Span, state_word};
+
+const CAPTION: &str = "From 00:00 of one date to 00:00 of the other. The measured sum has what was measured and what was agreed.";
+
+/// A span's state in words.
+fn state_words(state: u8) -> String {
+    let more = match state {
+        0 => "the measured sum is what the dial says",
+        1 => "what was filled is fitted to the dial",
+        2 => "a slot is missing, nothing is fitted",
+        _ => "the measured sum is not what the dial says",
+    };
+    format!("<b>{}</b>: {more}", state_word(state))
+}
+
+fn advance(span: &Span) -> String {
+    match span.lowest == span.highest {
+        true => grouped(span.lowest),
+        false => format!("{} to {}", grouped(span.lowest), grouped(span.highest)),
+    }
+}
+
+/// What was shared out over the fitted slots of a span, which begins at this slot.
+fn shared(month: &Month, span: &Span, begin: usize) -> Result<String, Error> {
+    let end = span.last as usize * month.head().slots_per_day();
+    let slots = month.slots.get(begin..end).unwrap_or(&[]);
+    let Some(place) = slots.iter().position(is_fitted) else {
+        return Ok("nothing".to_string());
+    };
+    let told = month.played.book.explain((begin + place) as u32)?;
+    let total = told.shares.map_or(0, |shares| shares.t);
+    let count = slots.iter().filter(|slot| is_fitted(slot)).count();
+    Ok(format!(
+        "{} Wh over {}",
+        grouped(total),
+        counted(count, "slot", "slots")
+    ))
+}
+
+fn row(month: &Month, span: &Span) -> Result<String, Error> {
+    let (begin, times) = (
+        span.first as usize * month.head().slots_per_day(),
+        month.times(),
+    );
+    let held = month.played.book.explain(begin as u32)?.span;
+    let measured = held.map_or_else(String::new, |held| grouped(held.actual));
+    Ok(format!(
+        "<tr><th scope=\"row\">{}</th><td>{}</td><td class=\"number\">{}</td><td class=\"number\">{measured}</td><td>{}</td><td>{}</td></tr>\n",
+        times.day(span.first),
+        times.day(span.last),
+        advance(span),
+        state_words(span.state),
+        shared(month, span, begin)?
+    ))
+}
+
+/// The table of the spans.
+pub fn spans(month: &Month) -> Result<String, Error> {
+    let rows: Result<String, Error> = month.file.spans().map(|span| row(month, &span)).collect();
+    let rows = rows?;
+    if rows.is_empty() {
+        return Ok(
+            "<p>None: a span lies between two boundaries at which the dial was read.</p>\n"
+                .to_string(),
+        );
+    }
+    let columns = [
+        ("From", false),
+        ("Until", false),
+        ("Advance, Wh", true),
+        ("Measured sum, Wh", true),
+        ("State", false),
+        ("Shared out", false),
+    ];
+    Ok(table(CAPTION, &columns, &rows))
+}
