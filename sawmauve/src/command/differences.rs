@@ -34,7 +34,7 @@ fn figure_lines(found: &Comparison) -> String {
     text
 }
 
-pub fn span_words(span: Option<Span>) -> String {
+fn span_words(span: Option<Span>) -> String {
     span.map_or_else(
         || "none".to_string(),
         |Span {

@@ -109,8 +109,9 @@ pub fn table(margins: &[Margin], cells: &[String], cells_per_day: usize) -> Stri
         .last()
         .map_or_else(String::new, |margin| last_row(margin, cells_per_day));
     format!(
-        "<div class=\"scroll\"><table class=\"grid of-{cells_per_day}\">\n\
-         <caption>A row a day, the hours from left to right. H is a holiday; a thick line is a boundary at which the dial was read.</caption>\n{}\
+        "<p id=\"grid-words\">A row a day, the hours from left to right. <span class=\"holiday\">H</span> is a holiday; \
+         a thick line is a boundary at which the dial was read.</p>\n\
+         <div class=\"scroll tall\"><table class=\"grid of-{cells_per_day}\" aria-labelledby=\"slots-heading\" aria-describedby=\"grid-words\">\n{}\
          <tbody>\n{rows}</tbody>\n{last}</table></div>\n",
         header(margins, cells_per_day)
     )

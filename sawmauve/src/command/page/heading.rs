@@ -41,10 +41,12 @@ pub fn fact(name: &str, words: &str) -> String {
 pub fn dates(month: &Month) -> String {
     let (days, times) = (month.head().days, month.times());
     let (first, last) = (times.day(0), times.day(days.saturating_sub(1)));
-    format!(
-        "{first} to {last}, {}",
-        counted(days as usize, "day", "days")
-    )
+    let until = if first == last {
+        String::new()
+    } else {
+        format!(" to {last}")
+    };
+    format!("{first}{until}, {}", counted(days as usize, "day", "days"))
 }
 
 /// What the book's head says.

@@ -18,7 +18,8 @@ fn state_words(state: u8) -> String {
     format!("<b>{}</b>: {more}", state_word(state))
 }
 
-fn advance(span: &Span) -> String {
+/// The advance in Wh, or its range.
+pub fn advance(span: &Span) -> String {
     match span.lowest == span.highest {
         true => grouped(span.lowest),
         false => format!("{} to {}", grouped(span.lowest), grouped(span.highest)),

@@ -1,6 +1,6 @@
 //! The page of two logs: one grid with the slots that differ outlined, both values, and what `reconcile` lists.
 
-use super::super::differences::{signed, span_words};
+use super::super::differences::signed;
 use super::super::reconcile::{
     call_words, cell_words, elsewhere_words, line_words, reading_words, stands_words,
 };
@@ -10,7 +10,10 @@ use super::grid::{self, Margin};
 use super::heading::{self, fact};
 use super::html::{self, counted, escaped, grouped, navigation, section, shell_word, shown, table};
 use super::month::Month;
-use sawmauve::{Behind, Comparison, Error, Listed, Pair, Reconciliation, Slot, reconcile};
+use super::spans::advance;
+use sawmauve::{
+    Behind, Comparison, Error, Listed, Pair, Reconciliation, Slot, Span, reconcile, state_word,
+};
 use std::fmt::Display;
 use std::os::unix::ffi::OsStrExt;
 
@@ -189,6 +192,13 @@ fn both_row(name: impl Display, sides: Pair<String>, more: &str) -> String {
     format!("<tr><th scope=\"row\">{name}</th><td>{ours}</td><td>{theirs}</td>{more}</tr>\n")
 }
 
+fn span_words(span: &Option<Span>) -> String {
+    span.map_or_else(
+        || "none".to_string(),
+        |span| format!("{} {}", advance(&span), state_word(span.state)),
+    )
+}
+
 /// The days that have a slot which differs, and the spans that do.
 fn moved(months: &Pair<Month>, moved: &Comparison) -> String {
     let times = months.ours.times();
@@ -213,10 +223,10 @@ fn moved(months: &Pair<Month>, moved: &Comparison) -> String {
         &columns,
         &days,
     );
-    let span = |pair: &Pair<Option<sawmauve::Span>>| {
+    let span = |pair: &Pair<Option<Span>>| {
         let span = pair.ours.or(pair.theirs)?;
         let name = format!("{} to {}", times.day(span.first), times.day(span.last));
-        Some(both_row(name, pair.map(|span| span_words(*span)), ""))
+        Some(both_row(name, pair.map(span_words), ""))
     };
     let spans: String = moved.spans.iter().filter_map(span).collect();
     match spans.is_empty() {
@@ -343,7 +353,7 @@ fn header(months: &Pair<Month>, found: &Reconciliation) -> String {
         &facts(|month| format!("{} Wh", grouped(month.head().tolerance))),
     );
     format!(
-        "<h1><span>ours {}</span> <span>theirs {}</span></h1>\n<p class=\"comment\">{}</p>\n<dl class=\"facts\">{text}</dl>\n",
+        "<h1><span><small>ours</small> {}</span> <span><small>theirs</small> {}</span></h1>\n<p class=\"comment\">{}</p>\n<dl class=\"facts\">{text}</dl>\n",
         names.ours,
         names.theirs,
         verdict(found)
