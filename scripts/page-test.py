@@ -129,13 +129,17 @@ KEYS = {"ArrowLeft": 37, "ArrowUp": 38, "ArrowRight": 39, "ArrowDown": 40, "Home
 DOM = {
     "one h1, and a main, a header and a title": "document.querySelectorAll('h1').length === 1 && !!document.querySelector('main') "
         "&& !!document.querySelector('body > header') && document.title.length > 0 && document.documentElement.lang === 'en'",
-    "sections with headings": "[...document.querySelectorAll('section')].every(one => document.getElementById(one.getAttribute('aria-labelledby'))?.tagName === 'H2')",
+    "sections with headings": "[...document.querySelectorAll('section')]"
+        ".every(one => document.getElementById(one.getAttribute('aria-labelledby'))?.tagName === 'H2')",
     "anchors once": "new Set([...document.querySelectorAll('[id]')].map(one => one.id)).size === document.querySelectorAll('[id]').length",
-    "links to anchors": "[...document.querySelectorAll('a')].every(one => one.hash.length > 1 && document.getElementById(one.hash.slice(1)))",
-    "links and cells have names": "[...document.querySelectorAll('a, td[tabindex], svg')].every(one => (one.getAttribute('aria-label') || one.textContent).trim())",
+    "links to anchors": "[...document.querySelectorAll('a')].every(one => one.hash.length > 1 "
+        "&& document.getElementById(one.hash.slice(1)))",
+    "links and cells have names": "[...document.querySelectorAll('a, td[tabindex], svg')]"
+        ".every(one => (one.getAttribute('aria-label') || one.textContent).trim())",
     "one tab stop in the grid": "document.querySelectorAll('.grid [tabindex=\"0\"]').length === document.querySelectorAll('.grid').length",
     "nothing loaded": "performance.getEntriesByType('resource').length === 0",
-    "no script but ours": "document.scripts.length === 1 && !document.querySelector('main script, header script, [onclick], [onload], [onerror]')",
+    "no script but ours": "document.scripts.length === 1 "
+        "&& !document.querySelector('main script, header script, [onclick], [onload], [onerror]')",
     "header cells have a scope": "[...document.querySelectorAll('th')].every(one => one.scope)",
 }
 
@@ -232,8 +236,10 @@ class Test:
             link = f"document.querySelectorAll('.grid a[href^=\"#way-\"]')[{at}]"
             browser.value(link + ".click()")
             opened = f"document.getElementById({link}.hash.slice(1))"
-            self.holds(name, "a link unfolds its way", browser.value(opened + ".closest('details').open && " + opened + ".checkVisibility()"))
-            self.holds(name, "and it is in view", browser.value(f"(r => r.bottom > 0 && r.top < innerHeight)({opened}.getBoundingClientRect())"))
+            is_open = f"{opened}.closest('details').open && {opened}.checkVisibility()"
+            in_view = f"(box => box.bottom > 0 && box.top < innerHeight)({opened}.getBoundingClientRect())"
+            self.holds(name, "a link unfolds its way", browser.value(is_open))
+            self.holds(name, "and it is in view", browser.value(in_view))
             browser.value(opened + ".querySelector('a').click()")
             self.holds(name, "and back", browser.value(f"location.hash === '#' + {link}.id"))
         return count
@@ -243,9 +249,9 @@ class Test:
         for size, way in ((LAPTOP, "laptop"), (PHONE, "phone")):
             self.browser.size(*size)
             for place, at in cells:
-                box = f"(one => (one.scrollIntoView({{block: 'nearest', inline: 'nearest'}}), one.getBoundingClientRect().toJSON()))({CELLS}[{at}])"
                 self.browser.value("scrollTo(0, document.querySelector('.grid').getBoundingClientRect().top + scrollY - 60)")
-                where = self.browser.value(box)
+                self.browser.value(f"{CELLS}[{at}].scrollIntoView({{block: 'nearest', inline: 'nearest'}})")
+                where = self.browser.value(f"{CELLS}[{at}].getBoundingClientRect().toJSON()")
                 self.browser.hover(where["x"] + where["width"] / 2, where["y"] + where["height"] / 2)
                 shown = self.browser.value(f"getComputedStyle({CELLS}[{at}], '::after').content")
                 self.holds(name, f"hovering cell {at} tells it", "Wh" in shown)
@@ -267,7 +273,7 @@ def main():
         path = f"{folder}/{name}.html"
         seconds = test.every_page(name, path)
         sheets = browser.printed(f"{folder}/{name}.pdf")
-        print(f"{name}: {os.path.getsize(path):,} bytes, open and painted in {seconds:.2f} s, {sheets} sheets")
+        print(f"{name}: {os.path.getsize(path):,} bytes, open and painted in {seconds:.2f} s, sheets: {sheets}")
         test.holds(name, f"opens in two seconds, {seconds:.2f}", seconds < 2)
         if os.path.exists(f"{folder}/{name}.slots"):
             test.cells(name, lines(f"{folder}/{name}.slots"))

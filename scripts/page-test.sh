@@ -27,7 +27,8 @@ echo 'open 2024-05-01 31 30 1 0' > "$scratch/empty.log"
 build/sawmauve page "$scratch/empty.log" -o "$out/empty.html"
 
 odd="$scratch/$(printf '<i>odd\377 & "\047.log')"
-printf '%s\n' '# <script>document.title = "run"</script><img src=x onerror=alert(1)> & "' 'open 2024-05-01 1 30 1 0' 'delivery 48 1 5 0' > "$odd"
+printf '%s\n' '# <script>document.title = "run"</script><img src=x onerror=alert(1)> & "' \
+    'open 2024-05-01 1 30 1 0' 'delivery 48 1 5 0' > "$odd"
 build/sawmauve page "$odd" -o "$out/markup.html"
 
 # 400 days of 5 minutes with losses, a dial that is read every 50 days, and holidays

@@ -39,6 +39,29 @@ fn the_whole_case() {
 }
 
 #[test]
+fn without_its_readings_a_book_has_what_was_filled() {
+    let bytes = std::fs::read(concat!(
+        env!("CARGO_MANIFEST_DIR"),
+        "/../examples/month.log"
+    ));
+    let book = Log::read(&bytes.unwrap()).unwrap().play().unwrap().book;
+    let slots = |book: &Book| {
+        File::read(book.publish().unwrap())
+            .unwrap()
+            .slots()
+            .collect::<Vec<_>>()
+    };
+    let (filled, fitted) = (slots(&book.unread()), slots(&book));
+    for (at, slot) in (0..).zip(&filled) {
+        let told = book.explain(at).unwrap().filled;
+        let record = (u64::from(slot.value), slot.quality, u64::from(slot.method));
+        assert_eq!(record, (told.value, told.quality, told.method));
+    }
+    assert_eq!((filled.len(), filled == fitted), (1488, false));
+    assert!((0..=31).all(|day| book.is_holiday(day) == [0, 8].contains(&day)));
+}
+
+#[test]
 fn refusals_have_01s_numbers() {
     assert!(
         (1..)

@@ -188,8 +188,8 @@ fn plain(html: &str) -> String {
     unescaped(&text)
 }
 
-/// The lists of spans and refused calls have what `show --spans` and `answers --refused` write.
-fn holds_lists(page: &str, log: &Path) {
+/// The table of the spans has what `show --spans` writes.
+fn holds_spans(page: &str, log: &Path) {
     let folder = Folder::new();
     let file = folder.path("x.file");
     run(&[
@@ -207,6 +207,10 @@ fn holds_lists(page: &str, log: &Path) {
             assert!(text.contains(field), "{span}: {text}");
         }
     }
+}
+
+/// The list of refused calls has what `answers --refused` writes.
+fn holds_refused(page: &str, log: &Path) {
     let refused = done(&[OsStr::new("answers"), log.as_os_str(), "--refused".as_ref()]);
     let (conflicts, others): (Vec<&str>, Vec<&str>) = refused
         .lines()
@@ -239,7 +243,8 @@ fn sample_logs() {
         holds_links(&page);
         holds_ways(&page);
         holds_texts(&page, &log, 1);
-        holds_lists(&page, &log);
+        holds_spans(&page, &log);
+        holds_refused(&page, &log);
     }
 }
 
@@ -330,7 +335,8 @@ fn random_logs() {
         holds_links(&page);
         holds_ways(&page);
         holds_texts(&page, &log, 97);
-        holds_lists(&page, &log);
+        holds_spans(&page, &log);
+        holds_refused(&page, &log);
     }
     let all = ["A 0", "A 1", "F 5", "N 0", "S 18", "S 19", "S 2", "S 3"];
     assert!(met.iter().eq(all), "{met:?}");

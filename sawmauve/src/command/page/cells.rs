@@ -82,7 +82,7 @@ pub fn short_words(slot: &Slot) -> String {
             quality, method, ..
         },
     ) = (Kind::of(slot).words(), slot);
-    format!("{quality} {method}, {kind}{fitted}")
+    format!("{quality}\u{a0}{method}, {kind}{fitted}")
 }
 
 /// A record in words.

@@ -132,11 +132,11 @@ fn figure(month: &Month, day: u32, cells: &[Cell], top: u64) -> String {
 /// How to read the curves.
 fn legend(month: &Month, top: u64) -> String {
     let (cell, lines) = match month.is_long() {
-        true => (30, "the days of a week"),
-        false => (month.head().interval, "06:00, 12:00 and 18:00"),
+        true => (30, "between the days"),
+        false => (month.head().interval, "at 06:00, 12:00 and 18:00"),
     };
     format!(
-        "<p>The top of every curve is {} Wh in {cell} minutes; the upright lines are at {lines}.</p>\n\
+        "<p>The top of every curve is {} Wh in {cell} minutes; the upright lines are {lines}.</p>\n\
          <ul class=\"legend\"><li><span class=\"key curve m\" aria-hidden=\"true\"></span> measured</li>\
          <li><span class=\"key curve l\" aria-hidden=\"true\"></span><span class=\"key curve d\" aria-hidden=\"true\"></span>\
          <span class=\"key curve f\" aria-hidden=\"true\"></span> filled: on a line, from other days, agreed, with a broken outline</li>\

@@ -83,7 +83,8 @@ fn row(day: usize, margin: &Margin, cells: &str) -> String {
     };
     let dial = dial.as_deref().unwrap_or("");
     format!(
-        "<tr{class} id=\"day-{day}\"><th scope=\"row\">{date}{holiday}</th>{cells}<td class=\"total\">{total}</td><td class=\"dial\">{dial}</td></tr>\n"
+        "<tr{class} id=\"day-{day}\"><th scope=\"row\">{date}{holiday}</th>{cells}\
+         <td class=\"total\">{total}</td><td class=\"dial\">{dial}</td></tr>\n"
     )
 }
 
@@ -94,7 +95,8 @@ fn last_row(margin: &Margin, cells_per_day: usize) -> String {
     };
     let date = &margin.date;
     format!(
-        "<tfoot><tr class=\"read\"><th scope=\"row\">{date}</th><td class=\"after\" colspan=\"{}\"></td><td class=\"dial\">{dial}</td></tr></tfoot>\n",
+        "<tfoot><tr class=\"read\"><th scope=\"row\">{date}</th>\
+         <td class=\"after\" colspan=\"{}\"></td><td class=\"dial\">{dial}</td></tr></tfoot>\n",
         cells_per_day + 1
     )
 }
@@ -111,7 +113,8 @@ pub fn table(margins: &[Margin], cells: &[String], cells_per_day: usize) -> Stri
     format!(
         "<p id=\"grid-words\">A row a day, the hours from left to right. <span class=\"holiday\">H</span> is a holiday; \
          a thick line is a boundary at which the dial was read.</p>\n\
-         <div class=\"scroll tall\"><table class=\"grid of-{cells_per_day}\" aria-labelledby=\"slots-heading\" aria-describedby=\"grid-words\">\n{}\
+         <div class=\"scroll tall\"><table class=\"grid of-{cells_per_day}\" \
+         aria-labelledby=\"slots-heading\" aria-describedby=\"grid-words\">\n{}\
          <tbody>\n{rows}</tbody>\n{last}</table></div>\n",
         header(margins, cells_per_day)
     )

@@ -5,6 +5,7 @@ mod curves;
 mod grid;
 mod heading;
 mod html;
+mod lists;
 mod month;
 mod refused;
 mod spans;

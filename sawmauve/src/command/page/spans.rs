@@ -51,7 +51,8 @@ fn row(month: &Month, span: &Span) -> Result<String, Error> {
     let held = month.played.book.explain(begin as u32)?.span;
     let measured = held.map_or_else(String::new, |held| grouped(held.actual));
     Ok(format!(
-        "<tr><th scope=\"row\">{}</th><td>{}</td><td class=\"number\">{}</td><td class=\"number\">{measured}</td><td>{}</td><td>{}</td></tr>\n",
+        "<tr><th scope=\"row\">{}</th><td>{}</td><td class=\"number\">{}</td>\
+         <td class=\"number\">{measured}</td><td>{}</td><td>{}</td></tr>\n",
         times.day(span.first),
         times.day(span.last),
         advance(span),

@@ -47,7 +47,8 @@ impl Ways {
             return String::new();
         };
         format!(
-            "<p id=\"{MORE}\">{} more: for each the command with its date and time, for the next one <code>sawmauve follow {} {}</code></p>\n",
+            "<p id=\"{MORE}\">{} more: for each the command with its date and time, for the next one \
+             <code>sawmauve follow {} {}</code></p>\n",
             grouped((self.slots.len() - MOST) as u128),
             shell_word(month.name),
             month.times().slot(*next)
