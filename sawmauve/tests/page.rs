@@ -209,6 +209,38 @@ fn holds_spans(page: &str, log: &Path) {
     }
 }
 
+/// The spans have the measured sum V, and T where it was shared out, that the ways tell.
+fn holds_shares(page: &str) -> usize {
+    let rows = between(section(page, "spans"), "<tr><th scope=\"row\">", "</tr>");
+    let rows: Vec<String> = rows
+        .iter()
+        .map(|row| plain(&row.replace(',', "")))
+        .collect();
+    let mut met = 0;
+    for way in between(section(page, "ways"), "<pre>", "</pre>") {
+        let told = |from: &str| between(way, from, ",").first().map(|text| text.to_string());
+        let (Some(dates), Some(sum)) = (
+            told("\nspan: ").filter(|text| text.len() == 24),
+            told(", V "),
+        ) else {
+            continue;
+        };
+        let (first, last) = dates.split_once(" to ").unwrap();
+        let row = rows
+            .iter()
+            .find(|row| row.starts_with(first) && row.contains(last))
+            .unwrap();
+        assert!(row.contains(&format!("|{sum}|")), "{way}: {row}");
+        let shared = told("\nscaled: T ").map(|total| format!("|{total} Wh over "));
+        assert!(
+            shared.is_none_or(|shared| row.contains(&shared)),
+            "{way}: {row}"
+        );
+        met += 1;
+    }
+    met
+}
+
 /// The list of refused calls has what `answers --refused` writes.
 fn holds_refused(page: &str, log: &Path) {
     let refused = done(&[OsStr::new("answers"), log.as_os_str(), "--refused".as_ref()]);
@@ -245,6 +277,7 @@ fn sample_logs() {
         holds_texts(&page, &log, 1);
         holds_spans(&page, &log);
         holds_refused(&page, &log);
+        assert_eq!(holds_shares(&page) > 0, name != "wrap", "{name}");
     }
 }
 

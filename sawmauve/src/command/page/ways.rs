@@ -5,9 +5,13 @@ use super::cells::{Kind, period, short_words};
 use super::html::{counted, escaped, grouped, shell_word};
 use super::month::Month;
 use sawmauve::Error;
+use std::thread;
 
 /// The most ways of a page.
 pub const MOST: usize = 2_000;
+
+/// The least number of ways that a thread is started for.
+const LEAST: usize = 64;
 
 /// The anchor of the command that gives the other ways.
 const MORE: &str = "more-ways";
@@ -64,19 +68,43 @@ impl Ways {
         let texts = way::Ways::of(&month.log, &month.played, |slot| {
             told.binary_search(&slot).is_ok()
         });
-        let items: Result<String, Error> = told
-            .iter()
-            .map(|slot| item(month, *slot, &texts.text(*slot)?))
-            .collect();
+        let items = on_all_cores(told, |slot| item(month, slot, &texts.text(slot)?))?;
         let count = counted(self.slots.len(), "slot is", "slots are");
         let command = shell_word(month.name);
         Ok(format!(
             "<p>{count} not simply delivered. Each opens to what <code>sawmauve follow {command}</code> tells of it.</p>\n\
              <div class=\"ways\">\n{}</div>\n{}",
-            items?,
+            items,
             self.more(month)
         ))
     }
+}
+
+/// What is made of each slot, one behind the other, made in parts on all cores: of a slot in a long span it is dear, since its explanation
+/// sums the span.
+fn on_all_cores<F>(slots: &[u32], make: F) -> Result<String, Error>
+where
+    F: Fn(u32) -> Result<String, Error> + Sync,
+{
+    let cores = thread::available_parallelism().map_or(1, usize::from);
+    let (size, make) = (slots.len().div_ceil(cores).max(LEAST), &make);
+    thread::scope(|scope| {
+        let parts = slots.chunks(size).map(|part| {
+            let all = move || {
+                part.iter()
+                    .map(|slot| make(*slot))
+                    .collect::<Result<String, Error>>()
+            };
+            let worker = thread::Builder::new().spawn_scoped(scope, all);
+            (worker, all)
+        });
+        let parts: Vec<_> = parts.collect();
+        let texts = parts.into_iter().map(|(worker, all)| match worker {
+            Ok(worker) => worker.join().unwrap_or(Err(Error::Memory)),
+            Err(_) => all(),
+        });
+        texts.collect()
+    })
 }
 
 /// A way below its slot; the anchor stands inside, so that a link to it unfolds it.
