@@ -130,6 +130,16 @@ impl Cell<'_> {
         sum(self.slots)
     }
 
+    pub fn has(&self, kind: Kind) -> bool {
+        self.slots.iter().any(|slot| Kind::of(slot) == kind)
+    }
+
+    /// The sum of its slots of this kind and of those nearer to measured.
+    pub fn value_up_to(&self, kind: Kind) -> u64 {
+        let slots = self.slots.iter().filter(|slot| Kind::of(slot) <= kind);
+        slots.map(|slot| u64::from(slot.value)).sum()
+    }
+
     /// Its value before any span was fitted to the dial, where a slot of it was.
     pub fn value_before(&self) -> Option<u64> {
         self.slots.iter().any(is_fitted).then(|| sum(self.before))

@@ -46,14 +46,25 @@ fn path(class: &str, drawn: &str) -> String {
     }
 }
 
-/// The area of the cells of a kind. A slot that is missing or zeroed has no value to draw: its whole height is marked.
+/// The area of the cells that have a slot of a kind, on top of those nearer to measured. A slot that is missing or zeroed has no value to
+/// draw: the whole height is marked.
 fn area(cells: &[Cell], kind: Kind, top: u64) -> String {
     let heights = cells.iter().map(|cell| match kind {
-        _ if cell.kind() != kind => None,
-        Kind::Missing | Kind::Outage if cell.value() == 0 => Some(0),
-        _ => Some(height(cell.value(), top)),
+        _ if !cell.has(kind) => None,
+        Kind::Missing | Kind::Outage => Some(0),
+        _ => Some(height(cell.value_up_to(kind), top)),
     });
     path(kind.class(), &steps(heights, true))
+}
+
+/// All areas. In cells of several slots each stands in front of those on top of it; else what was filled has its outline in front.
+fn areas(month: &Month, cells: &[Cell], top: u64) -> String {
+    let mut kinds = ALL;
+    kinds.sort();
+    if month.slots_per_cell() > 1 {
+        kinds.reverse();
+    }
+    kinds.map(|kind| area(cells, kind, top)).concat()
 }
 
 fn before(cells: &[Cell], top: u64) -> String {
@@ -104,11 +115,11 @@ fn drawing(month: &Month, cells: &[Cell], top: u64) -> String {
     } else {
         width / 4
     };
-    let areas = ALL.map(|kind| area(cells, kind, top)).concat();
     format!(
-        "<svg viewBox=\"0 0 {width} {HEIGHT}\" preserveAspectRatio=\"none\" role=\"img\" aria-label=\"{}\">{}{areas}{}</svg>",
+        "<svg viewBox=\"0 0 {width} {HEIGHT}\" preserveAspectRatio=\"none\" role=\"img\" aria-label=\"{}\">{}{}{}</svg>",
         escaped(&words(month, cells)),
         ticks(width, apart.max(1)),
+        areas(month, cells, top),
         before(cells, top)
     )
 }
