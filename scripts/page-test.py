@@ -235,6 +235,7 @@ class Test:
         for at in range(min(count, 3)):
             link = f"document.querySelectorAll('.grid a[href^=\"#way-\"]')[{at}]"
             browser.value(link + ".click()")
+            time.sleep(0.2)
             opened = f"document.getElementById({link}.hash.slice(1))"
             is_open = f"{opened}.closest('details').open && {opened}.checkVisibility()"
             in_view = f"(box => box.bottom > 0 && box.top < innerHeight)({opened}.getBoundingClientRect())"

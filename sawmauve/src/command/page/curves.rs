@@ -118,8 +118,8 @@ fn drawing(month: &Month, cells: &[Cell], top: u64) -> String {
     format!(
         "<svg viewBox=\"0 0 {width} {HEIGHT}\" preserveAspectRatio=\"none\" role=\"img\" aria-label=\"{}\">{}{}{}</svg>",
         escaped(&words(month, cells)),
-        ticks(width, apart.max(1)),
         areas(month, cells, top),
+        ticks(width, apart.max(1)),
         before(cells, top)
     )
 }
@@ -142,15 +142,23 @@ fn figure(month: &Month, day: u32, cells: &[Cell], top: u64) -> String {
 
 /// How to read the curves.
 fn legend(month: &Month, top: u64) -> String {
-    let (cell, lines) = match month.is_long() {
-        true => (30, "between the days"),
-        false => (month.head().interval, "at 06:00, 12:00 and 18:00"),
+    let (cell, lines, filled) = match month.is_long() {
+        true => (
+            30,
+            "between the days",
+            "on what was measured of its half hour",
+        ),
+        false => (
+            month.head().interval,
+            "at 06:00, 12:00 and 18:00",
+            "with a broken outline",
+        ),
     };
     format!(
         "<p>The top of every curve is {} Wh in {cell} minutes; the upright lines are {lines}.</p>\n\
          <ul class=\"legend\"><li><span class=\"key curve m\" aria-hidden=\"true\"></span> measured</li>\
          <li><span class=\"key curve l\" aria-hidden=\"true\"></span><span class=\"key curve d\" aria-hidden=\"true\"></span>\
-         <span class=\"key curve f\" aria-hidden=\"true\"></span> filled: on a line, from other days, agreed, with a broken outline</li>\
+         <span class=\"key curve f\" aria-hidden=\"true\"></span> filled: on a line, from other days, agreed, {filled}</li>\
          <li><span class=\"key curve b\" aria-hidden=\"true\"></span> filled, before it was fitted to the dial</li>\
          <li><span class=\"key curve n\" aria-hidden=\"true\"></span> missing</li>\
          <li><span class=\"key curve o\" aria-hidden=\"true\"></span> zeroed by an outage</li></ul>\n",

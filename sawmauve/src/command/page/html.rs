@@ -105,15 +105,16 @@ pub fn navigation(sections: &[(&str, &str)]) -> String {
     format!("<nav aria-label=\"Parts of this page\"><ul>{links}</ul></nav>\n")
 }
 
-/// The whole page; title, header and body are HTML.
-pub fn page(title: &str, header: &str, body: &str) -> String {
+/// The whole page; title, header and body are HTML. Of a long book the browser lays out what is in view.
+pub fn page(title: &str, header: &str, body: &str, is_long: bool) -> String {
     let version = env!("CARGO_PKG_VERSION");
+    let class = if is_long { " class=\"long\"" } else { "" };
     format!(
         "<!DOCTYPE html>\n<html lang=\"en\">\n<head>\n<meta charset=\"utf-8\">\n\
          <meta name=\"viewport\" content=\"width=device-width, initial-scale=1\">\n\
          <meta http-equiv=\"Content-Security-Policy\" content=\"{POLICY}\">\n\
          <title>{title}</title>\n<style>\n{STYLE}</style>\n</head>\n<body>\n\
-         <header>\n{header}</header>\n<main>\n{body}</main>\n\
+         <header>\n{header}</header>\n<main{class}>\n{body}</main>\n\
          <footer>Written by sawmauve {version} from the published file and its book.</footer>\n\
          <script>\n{KEYS}</script>\n</body>\n</html>\n"
     )

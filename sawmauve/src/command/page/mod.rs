@@ -78,7 +78,7 @@ fn one(month: &Month) -> Result<String, Error> {
         String::from_utf8_lossy(month.title()),
         heading::dates(month)
     );
-    Ok(page(&escaped(&title), &header, &body))
+    Ok(page(&escaped(&title), &header, &body, month.is_long()))
 }
 
 fn put(out: Option<&OsStr>, logs: &[&OsStr], page: &str) -> Result<(), Trouble> {

@@ -155,7 +155,7 @@ pub fn two(months: &Pair<Month>) -> Result<String, Error> {
         header(months, &found),
     );
     let Some(comparison) = &found.moved else {
-        return Ok(html::page(&title, &header, ""));
+        return Ok(html::page(&title, &header, "", false));
     };
     let (times, Pair { ours, theirs }) = (months.ours.times(), &found.calls);
     let calls = lists::alone(months, ours, "ours", "theirs")
@@ -184,5 +184,6 @@ pub fn two(months: &Pair<Month>) -> Result<String, Error> {
         .iter()
         .map(|(name, words, body)| section(name, words, body))
         .collect();
-    Ok(html::page(&title, &(header + &navigation(&links)), &body))
+    let header = header + &navigation(&links);
+    Ok(html::page(&title, &header, &body, months.ours.is_long()))
 }
