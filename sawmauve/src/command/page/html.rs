@@ -89,32 +89,41 @@ pub fn table(caption: &str, columns: &[(&str, bool)], rows: &str) -> String {
     )
 }
 
-/// A section with its heading; the name is its anchor.
-pub fn section(name: &str, heading: &str, body: &str) -> String {
+/// A part of a page: its anchor, its heading and what stands below, as HTML.
+pub type Part = (&'static str, &'static str, String);
+
+fn section((name, heading, body): &Part) -> String {
     format!(
         "<section id=\"{name}\" aria-labelledby=\"{name}-heading\">\n<h2 id=\"{name}-heading\">{heading}</h2>\n{body}</section>\n"
     )
 }
 
-/// The links to the sections.
-pub fn navigation(sections: &[(&str, &str)]) -> String {
-    let links = sections
+/// The links to the parts.
+fn navigation(parts: &[Part]) -> String {
+    let links = parts
         .iter()
-        .map(|(name, words)| format!("<li><a href=\"#{name}\">{words}</a></li>"));
+        .map(|(name, heading, _)| format!("<li><a href=\"#{name}\">{heading}</a></li>"));
     let links: String = links.collect();
-    format!("<nav aria-label=\"Parts of this page\"><ul>{links}</ul></nav>\n")
+    match links.is_empty() {
+        true => String::new(),
+        false => format!("<nav aria-label=\"Parts of this page\"><ul>{links}</ul></nav>\n"),
+    }
 }
 
-/// The whole page; title, header and body are HTML. Of a long book the browser lays out what is in view.
-pub fn page(title: &str, header: &str, body: &str, is_long: bool) -> String {
+/// The whole page; title and header are HTML. Of a long book the browser lays out what is in view.
+pub fn page(title: &str, header: &str, parts: &[Part], is_long: bool) -> String {
     let version = env!("CARGO_PKG_VERSION");
     let class = if is_long { " class=\"long\"" } else { "" };
+    let (links, body) = (
+        navigation(parts),
+        parts.iter().map(section).collect::<String>(),
+    );
     format!(
         "<!DOCTYPE html>\n<html lang=\"en\">\n<head>\n<meta charset=\"utf-8\">\n\
          <meta name=\"viewport\" content=\"width=device-width, initial-scale=1\">\n\
          <meta http-equiv=\"Content-Security-Policy\" content=\"{POLICY}\">\n\
          <title>{title}</title>\n<style>\n{STYLE}</style>\n</head>\n<body>\n\
-         <header>\n{header}</header>\n<main{class}>\n{body}</main>\n\
+         <header>\n{header}{links}</header>\n<main{class}>\n{body}</main>\n\
          <footer>Written by sawmauve {version} from the published file and its book.</footer>\n\
          <script>\n{KEYS}</script>\n</body>\n</html>\n"
     )

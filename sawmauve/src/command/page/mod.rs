@@ -19,7 +19,7 @@ use super::publish::{flushed, is_same};
 use super::store;
 use super::streams;
 use super::trouble::{Status, Trouble};
-use html::{escaped, navigation, page, section};
+use html::{escaped, page};
 use month::Month;
 use sawmauve::Error;
 use std::ffi::OsStr;
@@ -64,21 +64,17 @@ fn one(month: &Month) -> Result<String, Error> {
         ("ways", "Ways", ways.section(month)?),
         ("refused", "Refused calls", refused::refused(month)),
     ];
-    let links: Vec<(&str, &str)> = parts
-        .iter()
-        .map(|(name, words, _)| (*name, *words))
-        .collect();
-    let header = heading::heading(month) + &navigation(&links);
-    let body: String = parts
-        .iter()
-        .map(|(name, words, body)| section(name, words, body))
-        .collect();
     let title = format!(
         "{}, {}",
         String::from_utf8_lossy(month.title()),
         heading::dates(month)
     );
-    Ok(page(&escaped(&title), &header, &body, month.is_long()))
+    Ok(page(
+        &escaped(&title),
+        &heading::heading(month),
+        &parts,
+        month.is_long(),
+    ))
 }
 
 fn put(out: Option<&OsStr>, logs: &[&OsStr], page: &str) -> Result<(), Trouble> {

@@ -4,7 +4,7 @@ use super::super::differences::signed;
 use super::cells::{Cell, Kind, period};
 use super::grid::{self, Margin};
 use super::heading::{self, fact};
-use super::html::{self, counted, escaped, grouped, navigation, section, shown};
+use super::html::{self, counted, escaped, grouped, shown};
 use super::lists::{self, Listing};
 use super::month::Month;
 use sawmauve::{Comparison, Error, Pair, Reconciliation, reconcile};
@@ -155,7 +155,7 @@ pub fn two(months: &Pair<Month>) -> Result<String, Error> {
         header(months, &found),
     );
     let Some(comparison) = &found.moved else {
-        return Ok(html::page(&title, &header, "", false));
+        return Ok(html::page(&title, &header, &[], false));
     };
     let (times, Pair { ours, theirs }) = (months.ours.times(), &found.calls);
     let calls = lists::alone(months, ours, "ours", "theirs")
@@ -176,14 +176,5 @@ pub fn two(months: &Pair<Month>) -> Result<String, Error> {
             lists::behind(months, &found),
         ),
     ];
-    let links: Vec<(&str, &str)> = parts
-        .iter()
-        .map(|(name, words, _)| (*name, *words))
-        .collect();
-    let body: String = parts
-        .iter()
-        .map(|(name, words, body)| section(name, words, body))
-        .collect();
-    let header = header + &navigation(&links);
-    Ok(html::page(&title, &header, &body, months.ours.is_long()))
+    Ok(html::page(&title, &header, &parts, months.ours.is_long()))
 }
