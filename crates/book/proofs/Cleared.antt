@@ -48,7 +48,7 @@ opened-lists h values versions statuses holidays readings reads agreed agreed-ve
     slots = record { values = values t; versions = versions t; statuses = statuses t };
     holidays = holidays t;
     readings = readings t;
-    readVersions = reads t;
+    reads = reads t;
     agreed = record { values = agreed t; versions = agreed-versions t };
     widths = widths t;
   };

@@ -25,7 +25,7 @@ pub record Lengths (h : Head) (b : Cells) : Type 0 where
   pub statuses : length (b .slots .statuses) ≡ slotCount h
   pub holidays : length (b .holidays) ≡ h .days
   pub readings : length (b .readings) ≡ suc (h .days)
-  pub readVersions : length (b .readVersions) ≡ suc (h .days)
+  pub reads : length (b .reads) ≡ suc (h .days)
   pub agreed : length (b .agreed .values) ≡ slotCount h
   pub agreedVersions : length (b .agreed .versions) ≡ slotCount h
   pub widths : length (b .widths) ≡ suc (h .days)
@@ -43,7 +43,7 @@ lengths-of h b fit =
       statuses = slots 2;
       holidays = days 0;
       readings = reads 0;
-      readVersions = reads 1;
+      reads = reads 1;
       agreed = agreed 0;
       agreedVersions = agreed 1;
       widths = reads 2;

@@ -17,7 +17,7 @@ use Rattle.book.specs.Arguments.Call.{delivery, holiday, register, agree
 use Rattle.book.specs.Cells.{Book, withSlots, withHolidays, withReads, withAgreed}
 use Rattle.book.specs.Filling.{storedIn, slotsWith, countsWith, deliverAfter, countsAfter, holidayAfter, registerAfter, agreeAfter, answer, after}
 use Rattle.book.specs.Contents.{Measured, DialRead}
-use Rattle.book.specs.Plain.{Said, deliveries, reads, agreements, named, highest, slotVersion, slotContent, readVersion, readContent, againstKept, bookOf}
+use Rattle.book.specs.Plain.{Said, deliveries, dialReads, agreements, named, highest, slotVersion, slotContent, readVersion, readContent, againstKept, bookOf}
 use Rattle.book.specs.Lent.{readLists}
 use Rattle.book.proofs.Tables.{upTo-filed}
 use Rattle.book.proofs.Said.{latest, said-filed}
@@ -28,7 +28,7 @@ filedIn a b (delivery slot version value status) = withSlots b (slotsWith a (b .
 filedIn a b (holiday day) = withHolidays b (storedIn a (b .holidays) day 1)
 filedIn a b (register boundary version reading width) =
     withReads b
-    (readLists (storedIn a (b .readings) boundary reading) (storedIn a (b .readVersions) boundary version) (storedIn a (b .widths) boundary width))
+    (readLists (storedIn a (b .readings) boundary reading) (storedIn a (b .reads) boundary version) (storedIn a (b .widths) boundary width))
 filedIn a b (agreed slot version value) =
     withAgreed b (agreedLists (storedIn a (b .agreed .values) slot value) (storedIn a (b .agreed .versions) slot version))
 
@@ -101,9 +101,9 @@ module _ (h : Head) (kept : List Call) (boundary version reading width : ℕ) wh
       → upTo (λ d. m (readVersion (register boundary version reading width ∷ kept) d) (readContent (register boundary version reading width ∷ kept) d)) 0 (suc (h .days))
       ≡ storedIn (byVersion (readVersion kept boundary) version sameRead) (upTo (λ d. m (readVersion kept d) (readContent kept d)) 0 (suc (h .days)))
       boundary (m version (record { reading = reading; width = width }))
-  unfolding reads sameRead
+  unfolding dialReads sameRead
   reads-next ok m =
-      said-filed (record { reading = 0; width = 0 }) (λ d. reads d kept) (λ d. reads d (register boundary version reading width ∷ kept)) boundary
+      said-filed (record { reading = 0; width = 0 }) (λ d. dialReads d kept) (λ d. dialReads d (register boundary version reading width ∷ kept)) boundary
       (record { version = version; content = record { reading = reading; width = width } }) sameRead
       (same-read (readContent kept boundary) reading width) ok (rw (eq-eqb boundary boundary refl)) (λ d ne. rw (ne-eqb boundary d ne)) m (suc (h .days))
 
@@ -133,14 +133,14 @@ numbers-next of next j s n ok here there m =
 -- the book of one more accepted call is the book before with the call filed in it
 pub book-next : (h : Head) (kept : List Call) (c : Call) → isAccepted (againstKept kept c) ≡ true
     → bookOf h (c ∷ kept) ≡ filedIn (againstKept kept c) (bookOf h kept) c
-unfolding bookOf filedIn againstKept deliveries reads agreements named sameSlot sameRead
+unfolding bookOf filedIn againstKept deliveries dialReads agreements named sameSlot sameRead
 book-next h kept (delivery slot version value status) ok =
     let column = slots-next h kept slot version value status ok in
     λ t. record {
       slots = record { values = column (λ v a. a .value) t; versions = column (λ v a. v) t; statuses = column (λ v a. a .status) t };
       holidays = bookOf h kept .holidays;
       readings = bookOf h kept .readings;
-      readVersions = bookOf h kept .readVersions;
+      reads = bookOf h kept .reads;
       agreed = bookOf h kept .agreed;
       widths = bookOf h kept .widths;
     }
@@ -148,7 +148,7 @@ book-next h kept (holiday day) ok = λ t. record {
   slots = bookOf h kept .slots;
   holidays = days-next h kept day t;
   readings = bookOf h kept .readings;
-  readVersions = bookOf h kept .readVersions;
+  reads = bookOf h kept .reads;
   agreed = bookOf h kept .agreed;
   widths = bookOf h kept .widths;
 }
@@ -158,7 +158,7 @@ book-next h kept (register boundary version reading width) ok =
       slots = bookOf h kept .slots;
       holidays = bookOf h kept .holidays;
       readings = column (λ v a. a .reading) t;
-      readVersions = column (λ v a. v) t;
+      reads = column (λ v a. v) t;
       agreed = bookOf h kept .agreed;
       widths = column (λ v a. a .width) t;
     }
@@ -170,7 +170,7 @@ book-next h kept (agreed slot version value) ok =
       slots = bookOf h kept .slots;
       holidays = bookOf h kept .holidays;
       readings = bookOf h kept .readings;
-      readVersions = bookOf h kept .readVersions;
+      reads = bookOf h kept .reads;
       agreed = record { values = column (λ v a. a) t; versions = column (λ v a. v) t };
       widths = bookOf h kept .widths;
     }

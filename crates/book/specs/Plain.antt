@@ -31,14 +31,14 @@ deliveries i (register boundary version reading width ∷ kept) = deliveries i k
 deliveries i (agreed slot version value ∷ kept) = deliveries i kept
 
 -- the kept register reads for a boundary
-unfoldable pub reads : ℕ → List Call → List (Said DialRead)
-reads d [] = []
-reads d (delivery slot version value status ∷ kept) = reads d kept
-reads d (holiday day ∷ kept) = reads d kept
-reads d (register boundary version reading width ∷ kept) =
-    cond (eqb boundary d) (record { version = version; content = dialRead reading width } ∷ reads d kept)
-    (reads d kept)
-reads d (agreed slot version value ∷ kept) = reads d kept
+unfoldable pub dialReads : ℕ → List Call → List (Said DialRead)
+dialReads d [] = []
+dialReads d (delivery slot version value status ∷ kept) = dialReads d kept
+dialReads d (holiday day ∷ kept) = dialReads d kept
+dialReads d (register boundary version reading width ∷ kept) =
+    cond (eqb boundary d) (record { version = version; content = dialRead reading width } ∷ dialReads d kept)
+    (dialReads d kept)
+dialReads d (agreed slot version value ∷ kept) = dialReads d kept
 
 -- the kept agreed calls for a slot
 unfoldable pub agreements : ℕ → List Call → List (Said ℕ)
@@ -75,10 +75,10 @@ abbrev pub slotContent : List Call → ℕ → Measured
 slotContent kept i = contentWith (measured 0 0) (slotVersion kept i) (deliveries i kept)
 
 abbrev pub readVersion : List Call → ℕ → ℕ
-readVersion kept d = highest (reads d kept)
+readVersion kept d = highest (dialReads d kept)
 
 abbrev pub readContent : List Call → ℕ → DialRead
-readContent kept d = contentWith (dialRead 0 0) (readVersion kept d) (reads d kept)
+readContent kept d = contentWith (dialRead 0 0) (readVersion kept d) (dialReads d kept)
 
 -- "with a highest version of their own" (02, W1)
 abbrev pub agreedVersion : List Call → ℕ → ℕ
@@ -123,7 +123,7 @@ bookOf h kept = record {
   };
   holidays = upTo (λ d. cond (named d kept) 1 0) 0 (h .days);
   readings = upTo (λ d. readContent kept d .reading) 0 (suc (h .days));
-  readVersions = upTo (readVersion kept) 0 (suc (h .days));
+  reads = upTo (readVersion kept) 0 (suc (h .days));
   agreed = record {
     values = upTo (agreedContent kept) 0 (slotCount h);
     versions = upTo (agreedVersion kept) 0 (slotCount h);

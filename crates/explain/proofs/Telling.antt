@@ -127,12 +127,12 @@ module _ (h : Head) (w : Bounded h) (b : Cells) (i : ℕ) where
 
   pub shares-are : told (stretchAt h b i .by) ≡ sharesBy h b (earlier b d) (later h b d) i
   unfolding stretchAt stretchOn stretchOf sharesBy start
-  shares-are = go (lastRead (b .readVersions) d) (nextRead (b .readVersions) (d + 1) (h .days - d)) refl refl
+  shares-are = go (lastRead (b .reads) d) (nextRead (b .reads) (d + 1) (h .days - d)) refl refl
     where
-      go : (f l : Option ℕ) → lastRead (b .readVersions) d ≡ f → nextRead (b .readVersions) (d + 1) (h .days - d) ≡ l
+      go : (f l : Option ℕ) → lastRead (b .reads) d ≡ f → nextRead (b .reads) (d + 1) (h .days - d) ≡ l
           → told (stretchOf h b f l i .by) ≡ sharesBy h b f l i
       go (some first) (some last) p q =
-          let t = between-read h w (b .readVersions) i first last p q in
+          let t = between-read h w (b .reads) i first last p q in
           shares-span first last (t .from) (rw (span-end h b first last (omega (arith, t .ordered))) (t .to))
       go (some first) none p q = shares-none _ refl
       go none (some last) p q = shares-none _ refl

@@ -112,10 +112,10 @@ sharesBy h b none last i = noShares
 
 -- the boundaries with a reading between which a day lies, if there are such
 abbrev pub earlier : Cells → ℕ → Option ℕ
-earlier b d = lastRead (b .readVersions) d
+earlier b d = lastRead (b .reads) d
 
 abbrev pub later : Head → Cells → ℕ → Option ℕ
-later h b d = nextRead (b .readVersions) (d + 1) (h .days - d)
+later h b d = nextRead (b .reads) (d + 1) (h .days - d)
 
 -- slot i: its cause, the rule that applied, the outcome before scaling, and so on up to its outcome
 unfoldable pub explanationOf : Head → Cells → ℕ → Explanation

@@ -24,7 +24,7 @@ pub still-fits : (h : Head) (b first : Book) → length (b .cells .slots .values
     → length (b .cells .slots .statuses) ≡ length (first .cells .slots .statuses)
     → length (b .cells .holidays) ≡ length (first .cells .holidays)
     → length (b .cells .readings) ≡ length (first .cells .readings)
-    → length (b .cells .readVersions) ≡ length (first .cells .readVersions)
+    → length (b .cells .reads) ≡ length (first .cells .reads)
     → length (b .cells .agreed .values) ≡ length (first .cells .agreed .values)
     → length (b .cells .agreed .versions) ≡ length (first .cells .agreed .versions)
     → length (b .counts) ≡ length (first .counts) → length (b .cells .widths) ≡ length (first .cells .widths)

@@ -65,7 +65,7 @@ module _ (h : Head) (w : Bounded h) (b : Cells) where
   n = slotsPerDay h
 
   abbrev r : List ℕ
-  r = b .readVersions
+  r = b .reads
 
   positive : 0 < n
   positive = omega (arith, w .day-low)

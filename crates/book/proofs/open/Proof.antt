@@ -27,7 +27,7 @@ book-fits-requires c κs = sym (c .before .head-ok .ensures) ∙ not-false _ (c 
 returns-2 : tie.Need-returns-2
 unfolding openAnswer openAfter cellsFit slotsFit daysFit readsFit agreedFits countsFit bookFits
 returns-2 c = let a = c .before .before .before .before .before .before .before .before .before .before .before .before .before .before .args in
-    let broken : bookFits (a .head) (lentBook (a .values) (a .versions) (a .statuses) (a .holidays) (a .readings) (a .read-versions) (a .agreed) (a .agreed-versions) (a .counts) (a .widths)) ≡ false =
+    let broken : bookFits (a .head) (lentBook (a .values) (a .versions) (a .statuses) (a .holidays) (a .readings) (a .reads) (a .agreed) (a .agreed-versions) (a .counts) (a .widths)) ≡ false =
     sym (c .before .book-fits .ensures) ∙ not-true _ (c .if2 .taken) in
     rw (sym (c .before .before .before .head-ok .ensures) ∙ not-false _ (c .before .before .if1 .left), broken)
     (refl, refl)
@@ -95,7 +95,7 @@ same-length-10 c = search needs
 returns-3 : tie.Need-returns-3
 unfolding openAnswer openAfter cellsFit slotsFit daysFit readsFit agreedFits countsFit bookFits opened
 returns-3 c = let a = c .before .before .before .before .before .before .before .before .before .before .before .before .before .before .before .before .before .before .before .before .before .before .before .before .before .before .before .before .before .before .before .before .before .before .before .before .before .before .before .before .before .before .before .before .before .before .before .before .before .before .before .before .before .before .args in
-    let lent = lentBook (a .values) (a .versions) (a .statuses) (a .holidays) (a .readings) (a .read-versions) (a .agreed) (a .agreed-versions) (a .counts) (a .widths) in
+    let lent = lentBook (a .values) (a .versions) (a .statuses) (a .holidays) (a .readings) (a .reads) (a .agreed) (a .agreed-versions) (a .counts) (a .widths) in
     let fit : bookFits (a .head) lent ≡ true = sym (c .before .before .before .before .before .before .before .before .before .before .before .before .before .before .before .before .before .before .before .before .before .before .before .before .before .before .before .before .before .before .before .before .before .before .before .before .before .before .before .before .before .book-fits .ensures) ∙ not-false _ (c .before .before .before .before .before .before .before .before .before .before .before .before .before .before .before .before .before .before .before .before .before .before .before .before .before .before .before .before .before .before .before .before .before .before .before .before .before .before .before .before .if2 .left) in
     let fits = fits-of (a .head) lent fit in
     let long = lengths-of (a .head) (lent .cells) (fits .0) in
@@ -108,7 +108,7 @@ returns-3 c = let a = c .before .before .before .before .before .before .before 
           (c .before .before .before .before .before .before .before .before .before .before .before .before .before .before .before .before .before .before .before .before .before .before .before .before .before .before .before .before .before .before .clear-bytes .ensures ∙ ap zeros (long .statuses))
           (c .before .before .before .before .before .before .before .before .before .before .before .before .before .before .before .before .before .before .before .before .before .before .before .before .before .before .clear-bytes2 .ensures ∙ ap zeros (long .holidays))
           (c .before .before .before .before .before .before .before .before .before .before .before .before .before .before .before .before .before .before .before .before .before .before .clear-words3 .ensures ∙ ap zeros (long .readings))
-          (c .before .before .before .before .before .before .before .before .before .before .before .before .before .before .before .before .before .before .clear-words4 .ensures ∙ ap zeros (long .readVersions))
+          (c .before .before .before .before .before .before .before .before .before .before .before .before .before .before .before .before .before .before .clear-words4 .ensures ∙ ap zeros (long .reads))
           (c .before .before .before .before .before .before .before .before .before .before .before .before .before .before .clear-words5 .ensures ∙ ap zeros (long .agreed))
           (c .before .before .before .before .before .before .before .before .before .before .clear-words6 .ensures ∙ ap zeros (long .agreedVersions))
           (c .before .before .before .before .before .before .clear-counts .ensures ∙ ap zeros (fits .1))

@@ -28,7 +28,7 @@ unfolding registerAnswer registerAfter readsFit
 returns-2 c =
     let a = c .before .before .before .before .before .before .before .args in
     let ok : headOk (a .head) ≡ true = sym (c .before .before .before .head-ok .ensures) ∙ not-false _ (c .before .before .if1 .left) in
-    let unfit : readsFit (a .head) (lentReads (a .readings) (a .read-versions) (a .widths)) ≡ false = sym (c .before .reads-fit .ensures) ∙ not-true _ (c .if2 .taken) in
+    let unfit : readsFit (a .head) (lentReads (a .readings) (a .reads) (a .widths)) ≡ false = sym (c .before .reads-fit .ensures) ∙ not-true _ (c .if2 .taken) in
     rw (ok, unfit) (refl, refl)
 
 file-register-requires : tie.Need-file-register-requires
@@ -51,9 +51,9 @@ returns-3 c =
     let b = c .before .before .before .before .before .before .before .before .before .before in
     let a = b .before .before .before .before .before .before .before .args in
     let ok : headOk (a .head) ≡ true = sym (b .before .before .before .head-ok .ensures) ∙ not-false _ (b .before .before .if1 .left) in
-    let fit : readsFit (a .head) (lentReads (a .readings) (a .read-versions) (a .widths)) ≡ true = sym (b .before .reads-fit .ensures) ∙ not-false _ (b .if2 .left) in
+    let fit : readsFit (a .head) (lentReads (a .readings) (a .reads) (a .widths)) ≡ true = sym (b .before .reads-fit .ensures) ∙ not-false _ (b .if2 .left) in
     let e = c .before .before .before .before .before .before .file-register .ensures in
-    rw (register-read (a .head) ok (lentReads (a .readings) (a .read-versions) (a .widths)) (a .boundary) (a .version) (a .reading) (a .width) fit) e
+    rw (register-read (a .head) ok (lentReads (a .readings) (a .reads) (a .widths)) (a .boundary) (a .version) (a .reading) (a .width) fit) e
 
 pub register-spec : {M : Type 1} → statement M
 register-spec =

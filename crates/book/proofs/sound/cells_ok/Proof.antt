@@ -41,7 +41,7 @@ bad-read-requires : tie.Need-bad-read-requires
 bad-read-requires c κs = let a = c .before .before .before .before .before .before .before .before .before .before .before .before .before .args in
     let b = cells (slots (a .values .now) (a .versions .now) (a .statuses .now)) (a .holidays .now) (a .readings .now) (a .reads .now) (agreedLists (a .agreed .now) (a .agreed-versions .now)) (a .widths .now) in
     let l = lengths-of (a .head) b (c .before .before .before .before .before .before .before .before .before .before .before .before .before .pre) in
-    (l .readVersions ∙ sym (l .readings), l .widths ∙ sym (l .readings))
+    (l .reads ∙ sym (l .readings), l .widths ∙ sym (l .readings))
 
 returns-3 : tie.Need-returns-3
 unfolding cellsOk

@@ -26,7 +26,7 @@ div-day c = rw (c .slots-per-day .ensures) (omega (arith, bounded ((c .before .b
 last-read-requires : tie.Need-last-read-requires
 last-read-requires c κs = let a = (c .before .before .before .before .before .before .before .before .before .before) .args in
     let y = day-below (a .head) (bounded (a .head) ((c .before .before .before .before .before .before .before .before .before .before) .pre .0 .lent .fitted .head)) (a .slot) ((c .before .before .before .before .before .before .before .before .before .before) .pre .1) in
-    rw (c .slots-per-day .ensures, (c .before .before .before .before .before .before .before .before .before .before) .pre .0 .readVersions) (omega (arith, y))
+    rw (c .slots-per-day .ensures, (c .before .before .before .before .before .before .before .before .before .before) .pre .0 .reads) (omega (arith, y))
 
 enum-known-first : tie.Need-enum-known-first
 enum-known-first c = search needs
@@ -52,7 +52,7 @@ add-next-read c = let a = (c .before .before .before .before .before .before .be
 next-read-requires : tie.Need-next-read-requires
 next-read-requires c κs = let a = (c .before .before .before .before .before .before .before .before .before .before .before .before .before .before) .args in
     let y = day-below (a .head) (bounded (a .head) ((c .before .before .before .before .before .before .before .before .before .before .before .before .before .before) .pre .0 .lent .fitted .head)) (a .slot) ((c .before .before .before .before .before .before .before .before .before .before .before .before .before .before) .pre .1) in
-    rw (c .before .before .before .before .slots-per-day .ensures, (c .before .before .before .before .before .before .before .before .before .before .before .before .before .before) .pre .0 .readVersions) (omega (arith, y))
+    rw (c .before .before .before .before .slots-per-day .ensures, (c .before .before .before .before .before .before .before .before .before .before .before .before .before .before) .pre .0 .reads) (omega (arith, y))
 
 enum-known-last : tie.Need-enum-known-last
 enum-known-last c = search needs
@@ -69,7 +69,7 @@ returns-2 c = let a = (c .before .before .before .before .before .before .before
     let d = a .slot / slotsPerDay (a .head) in
     let first = c .before .before .before .before .before .first .given .0 .0 in
     let e : lastRead (a .reads .now) d ≡ some first = rw (c .before .before .before .before .before .before .before .before .slots-per-day .ensures) at (sym (c .before .before .before .before .before .before .before .last-read .ensures) ∙ ap nextMeant (c .before .before .before .before .before .first .given .1)) in
-    let f : nextRead (a .reads .now) (d + 1) (a .head .days - d) ≡ none = next-behind (a .head) (a .reads .now) d none ((c .before .before .before .before .before .before .before .before .before .before .before .before .before .before .before .before .before .before) .pre .0 .readVersions) (rw (c .before .before .before .before .before .before .before .before .slots-per-day .ensures) at (sym (c .before .before .before .next-read .ensures) ∙ ap nextMeant (c .before .enum-told2 .given .1))) in
+    let f : nextRead (a .reads .now) (d + 1) (a .head .days - d) ≡ none = next-behind (a .head) (a .reads .now) d none ((c .before .before .before .before .before .before .before .before .before .before .before .before .before .before .before .before .before .before) .pre .0 .reads) (rw (c .before .before .before .before .before .before .before .before .slots-per-day .ensures) at (sym (c .before .before .before .next-read .ensures) ∙ ap nextMeant (c .before .enum-told2 .given .1))) in
     let o = outside-last (a .head) b (a .slot) first e f in
     (c .outside2 .ensures .0 ∙ o .0, c .outside2 .ensures .1 ∙ o .1)
 
@@ -79,7 +79,7 @@ between-requires c κs = let a = (c .before .before .before .before .before .bef
     let first = c .before .before .before .before .before .first .given .0 .0 in
     let last = c .before .last .given .0 .0 in
     let e : lastRead (a .reads .now) d ≡ some first = rw (c .before .before .before .before .before .before .before .before .slots-per-day .ensures) at (sym (c .before .before .before .before .before .before .before .last-read .ensures) ∙ ap nextMeant (c .before .before .before .before .before .first .given .1)) in
-    let f : nextRead (a .reads .now) (d + 1) (a .head .days - d) ≡ some last = next-behind (a .head) (a .reads .now) d (some last) ((c .before .before .before .before .before .before .before .before .before .before .before .before .before .before .before .before .before .before) .pre .0 .readVersions) (rw (c .before .before .before .before .before .before .before .before .slots-per-day .ensures) at (sym (c .before .before .before .next-read .ensures) ∙ ap nextMeant (c .before .last .given .1))) in
+    let f : nextRead (a .reads .now) (d + 1) (a .head .days - d) ≡ some last = next-behind (a .head) (a .reads .now) d (some last) ((c .before .before .before .before .before .before .before .before .before .before .before .before .before .before .before .before .before .before) .pre .0 .reads) (rw (c .before .before .before .before .before .before .before .before .slots-per-day .ensures) at (sym (c .before .before .before .next-read .ensures) ∙ ap nextMeant (c .before .last .given .1))) in
     ((c .before .before .before .before .before .before .before .before .before .before .before .before .before .before .before .before .before .before) .pre .0 .lent, (c .before .before .before .before .before .before .before .before .before .before .before .before .before .before .before .before .before .before) .pre .0 .dialled, (c .before .before .before .before .before .before .before .before .before .before .before .before .before .before .before .before .before .before) .pre .0 .settled, (c .before .before .before .before .before .before .before .before .before .before .before .before .before .before .before .before .before .before) .pre .0 .widths, between-read (a .head) (bounded (a .head) ((c .before .before .before .before .before .before .before .before .before .before .before .before .before .before .before .before .before .before) .pre .0 .lent .fitted .head)) (a .reads .now) (a .slot) first last e f)
 
 returns-3 : tie.Need-returns-3
@@ -91,7 +91,7 @@ returns-3 c = let a = (c .before .before .before .before .before .before .before
     let first = c .before .before .before .before .before .before .first .given .0 .0 in
     let last = c .before .before .last .given .0 .0 in
     let e : lastRead (a .reads .now) d ≡ some first = rw (c .before .before .before .before .before .before .before .before .before .slots-per-day .ensures) at (sym (c .before .before .before .before .before .before .before .before .last-read .ensures) ∙ ap nextMeant (c .before .before .before .before .before .before .first .given .1)) in
-    let f : nextRead (a .reads .now) (d + 1) (a .head .days - d) ≡ some last = next-behind (a .head) (a .reads .now) d (some last) ((c .before .before .before .before .before .before .before .before .before .before .before .before .before .before .before .before .before .before .before) .pre .0 .readVersions) (rw (c .before .before .before .before .before .before .before .before .before .slots-per-day .ensures) at (sym (c .before .before .before .before .next-read .ensures) ∙ ap nextMeant (c .before .before .last .given .1))) in
+    let f : nextRead (a .reads .now) (d + 1) (a .head .days - d) ≡ some last = next-behind (a .head) (a .reads .now) d (some last) ((c .before .before .before .before .before .before .before .before .before .before .before .before .before .before .before .before .before .before .before) .pre .0 .reads) (rw (c .before .before .before .before .before .before .before .before .before .slots-per-day .ensures) at (sym (c .before .before .before .before .next-read .ensures) ∙ ap nextMeant (c .before .before .last .given .1))) in
     let o = inside-both (a .head) b (a .slot) first last e f in (
       c .between .ensures .0 ∙ spanned-versions (a .head) s (a .holidays .now) (a .readings .now) _ (a .reads .now) g (a .widths .now) first last ∙ o .0,
       c .between .ensures .1 ∙ ap (λ (x : Stretch). x .by) (stretch-versions (a .head) s (a .holidays .now) (a .readings .now) _ (a .reads .now) g (a .widths .now) first last (a .slot) ∙ o .1),

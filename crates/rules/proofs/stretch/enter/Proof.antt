@@ -40,7 +40,7 @@ add-next-read c = let a = c .before .before .before .before .before .before .bef
 next-read-requires : tie.Need-next-read-requires
 next-read-requires c κs = let a = c .before .before .before .before .before .before .before .before .before .before .before .before .args in
     let w = bounded (a .head) (c .before .before .before .before .before .before .before .before .before .before .before .before .pre .0 .lent .fitted .head) in
-    rw (c .slots-per-day .ensures, c .before .before .before .before .before .before .before .before .before .before .before .before .pre .0 .readVersions) (omega (arith, day-below (a .head) w (a .walk .at) (c .before .before .before .before .before .before .before .before .before .before .before .before .pre .1 .inside)))
+    rw (c .slots-per-day .ensures, c .before .before .before .before .before .before .before .before .before .before .before .before .pre .0 .reads) (omega (arith, day-below (a .head) w (a .walk .at) (c .before .before .before .before .before .before .before .before .before .before .before .before .pre .1 .inside)))
 
 enum-known-next : tie.Need-enum-known-next
 enum-known-next c = search needs
@@ -51,7 +51,7 @@ reach-requires c κs = let a = c .before .before .before .before .before .before
     let b = cells (slots (a .values .now) (a .versions .now) (a .statuses .now)) (a .holidays .now) (a .readings .now) (a .reads .now) (agreedLists (a .agreed .now) (a .agreed-versions .now)) (a .widths .now) in
     let d = a .walk .at / slotsPerDay (a .head) in
     let last = c .before .next .given .0 .0 in
-    let e : nextRead (a .reads .now) (d + 1) (a .head .days - d) ≡ some last = next-behind (a .head) (a .reads .now) d (some last) (c .before .before .before .before .before .before .before .before .before .before .before .before .before .before .before .before .pre .0 .readVersions) (rw (c .before .before .before .before .slots-per-day .ensures) at (sym (c .before .before .before .next-read .ensures) ∙ ap nextMeant (c .before .next .given .1))) in
+    let e : nextRead (a .reads .now) (d + 1) (a .head .days - d) ≡ some last = next-behind (a .head) (a .reads .now) d (some last) (c .before .before .before .before .before .before .before .before .before .before .before .before .before .before .before .before .pre .0 .reads) (rw (c .before .before .before .before .slots-per-day .ensures) at (sym (c .before .before .before .next-read .ensures) ∙ ap nextMeant (c .before .next .given .1))) in
     let t = next-tells (a .reads .now) (a .head .days - d) (d + 1) last e in
     let k = carried-ends (a .head) w b (a .walk .at) (c .before .before .before .before .before .before .before .before .before .before .before .before .before .before .before .before .pre .1 .inside) (c .before .before .before .before .before .if1 .left ∙ ap (λ (s : Stretch). s .until) (c .before .before .before .before .before .before .before .before .before .before .before .before .before .before .before .before .pre .1 .stretch)) in
     let y = day-below (a .head) w (a .walk .at) (c .before .before .before .before .before .before .before .before .before .before .before .before .before .before .before .before .pre .1 .inside) in
@@ -75,7 +75,7 @@ returns-2 c = let a = c .before .before .before .before .before .before .before 
     let b = cells (slots (a .values .now) (a .versions .now) (a .statuses .now)) (a .holidays .now) (a .readings .now) (a .reads .now) (agreedLists (a .agreed .now) (a .agreed-versions .now)) (a .widths .now) in
     let d = a .walk .at / slotsPerDay (a .head) in
     let last = c .before .before .next .given .0 .0 in
-    let e : nextRead (a .reads .now) (d + 1) (a .head .days - d) ≡ some last = next-behind (a .head) (a .reads .now) d (some last) (c .before .before .before .before .before .before .before .before .before .before .before .before .before .before .before .before .before .pre .0 .readVersions) (rw (c .before .before .before .before .before .slots-per-day .ensures) at (sym (c .before .before .before .before .next-read .ensures) ∙ ap nextMeant (c .before .before .next .given .1))) in
+    let e : nextRead (a .reads .now) (d + 1) (a .head .days - d) ≡ some last = next-behind (a .head) (a .reads .now) d (some last) (c .before .before .before .before .before .before .before .before .before .before .before .before .before .before .before .before .before .pre .0 .reads) (rw (c .before .before .before .before .before .slots-per-day .ensures) at (sym (c .before .before .before .before .next-read .ensures) ∙ ap nextMeant (c .before .before .next .given .1))) in
     let k = carried-ends (a .head) w b (a .walk .at) (c .before .before .before .before .before .before .before .before .before .before .before .before .before .before .before .before .before .pre .1 .inside) (c .before .before .before .before .before .before .if1 .left ∙ ap (λ (s : Stretch). s .until) (c .before .before .before .before .before .before .before .before .before .before .before .before .before .before .before .before .before .pre .1 .stretch)) in
     let r = rw (c .before .before .before .before .before .slots-per-day .ensures) at (c .reach .ensures) in
     (r .0 ∙ begins-some (a .head) w b (a .walk .at) (k .0) last e, r .1 ∙ stretch-some (a .head) w b (a .walk .at) last (k .1) e)
@@ -85,7 +85,7 @@ returns-3 c = let a = c .before .before .before .before .before .before .before 
     let w = bounded (a .head) (c .before .before .before .before .before .before .before .before .before .before .before .before .before .before .before .before .before .before .pre .0 .lent .fitted .head) in
     let b = cells (slots (a .values .now) (a .versions .now) (a .statuses .now)) (a .holidays .now) (a .readings .now) (a .reads .now) (agreedLists (a .agreed .now) (a .agreed-versions .now)) (a .widths .now) in
     let d = a .walk .at / slotsPerDay (a .head) in
-    let e : nextRead (a .reads .now) (d + 1) (a .head .days - d) ≡ none = next-behind (a .head) (a .reads .now) d none (c .before .before .before .before .before .before .before .before .before .before .before .before .before .before .before .before .before .before .pre .0 .readVersions) (rw (c .before .before .before .before .before .before .slots-per-day .ensures) at (sym (c .before .before .before .before .before .next-read .ensures) ∙ ap nextMeant (c .before .before .before .enum-told .given .1))) in
+    let e : nextRead (a .reads .now) (d + 1) (a .head .days - d) ≡ none = next-behind (a .head) (a .reads .now) d none (c .before .before .before .before .before .before .before .before .before .before .before .before .before .before .before .before .before .before .pre .0 .reads) (rw (c .before .before .before .before .before .before .slots-per-day .ensures) at (sym (c .before .before .before .before .before .next-read .ensures) ∙ ap nextMeant (c .before .before .before .enum-told .given .1))) in
     let k = carried-ends (a .head) w b (a .walk .at) (c .before .before .before .before .before .before .before .before .before .before .before .before .before .before .before .before .before .before .pre .1 .inside) (c .before .before .before .before .before .before .before .if1 .left ∙ ap (λ (s : Stretch). s .until) (c .before .before .before .before .before .before .before .before .before .before .before .before .before .before .before .before .before .before .pre .1 .stretch)) in
     (c .no-span2 .ensures .0 ∙ sym (begins-none (a .head) w b (a .walk .at) (k .0) e), c .no-span2 .ensures .1 ∙ c .before .unscaled-to .ensures ∙ (rw (c .before .before .slot-count .ensures) (sym (stretch-none (a .head) w b (a .walk .at) e))))
 

@@ -18,7 +18,7 @@ mul-if1 : tie.Need-mul-if1
 mul-if1 c = search needs
 
 shared-slice-read-if1 : tie.Need-shared-slice-read-if1
-shared-slice-read-if1 c = omega (arith, c .before .before .before .before .before .before .before .before .before .before .pre .0 .readVersions, c .before .before .before .before .before .before .before .before .before .before .pre .1 .ordered, c .before .before .before .before .before .before .before .before .before .before .pre .1 .within)
+shared-slice-read-if1 c = omega (arith, c .before .before .before .before .before .before .before .before .before .before .pre .0 .reads, c .before .before .before .before .before .before .before .before .before .before .pre .1 .ordered, c .before .before .before .before .before .before .before .before .before .before .pre .1 .within)
 
 slots-per-day-requires : tie.Need-slots-per-day-requires
 slots-per-day-requires c κs = c .before .before .before .before .before .before .before .before .before .before .before .pre .0 .lent .fitted .head
