@@ -41,8 +41,15 @@ pub fn fills_before(
     agreed_versions: &[u32],
     at: usize,
 ) -> Walk
-    requires { ⌜ Fitted head (lentSlots values versions statuses) × (length (now «agreed_versions») ≡ slotCount head) × (at < slotCount head) ⌝ }
-    ensures { λ r. ⌜ r ≡ walkAt head (lentSlots (values .entry) (versions .entry) (statuses .entry)) (now («agreed_versions» .entry)) at ⌝ }
+    requires { ⌜
+        Fitted head (lentSlots values versions statuses)
+        × (length (now «agreed_versions») ≡ slotCount head)
+        × (at < slotCount head)
+        ⌝ }
+    ensures { λ r. ⌜
+        (let s = lentSlots (values .entry) (versions .entry) (statuses .entry) in
+        r ≡ walkAt head s (now («agreed_versions» .entry)) at)
+        ⌝ }
 {
     let mut k = since_good(head, values, versions, statuses, at);
     let mut outage = false;
@@ -79,8 +86,18 @@ pub fn fill_slot(
     agreed_versions: &[u32],
     at: usize,
 ) -> Filled
-    requires { ⌜ Lent head (lentSlots values versions statuses) (now holidays) × Settled head (lentAgreed agreed «agreed_versions») × (at < slotCount head) ⌝ }
-    ensures { λ r. ⌜ (r .outcome ≡ filledAt head (lentSlots (values .entry) (versions .entry) (statuses .entry)) (lentAgreed (agreed .entry) («agreed_versions» .entry)) (now (holidays .entry)) at) × (r .shape ≡ shapeAt head (lentSlots (values .entry) (versions .entry) (statuses .entry)) (lentAgreed (agreed .entry) («agreed_versions» .entry)) (now (holidays .entry)) at) × (r .next ≡ walkAt head (lentSlots (values .entry) (versions .entry) (statuses .entry)) (now («agreed_versions» .entry)) (at + 1)) ⌝ }
+    requires { ⌜
+        Lent head (lentSlots values versions statuses) (now holidays)
+        × Settled head (lentAgreed agreed «agreed_versions»)
+        × (at < slotCount head)
+        ⌝ }
+    ensures { λ r. ⌜
+        (let s = lentSlots (values .entry) (versions .entry) (statuses .entry) in
+        let a = lentAgreed (agreed .entry) («agreed_versions» .entry) in
+        (r .outcome ≡ filledAt head s a (now (holidays .entry)) at)
+        × (r .shape ≡ shapeAt head s a (now (holidays .entry)) at)
+        × (r .next ≡ walkAt head s (a .versions) (at + 1)))
+        ⌝ }
 {
     let here = fills_before(head, values, versions, statuses, agreed_versions, at);
     walk::fill(

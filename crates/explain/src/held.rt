@@ -9,12 +9,11 @@ use rules::readings::Next;
 use rules::spans;
 use rules::spans::Scaling;
 use rules::spans::Summary;
-ghost use mathlib.Core.Bool.{cond};
+use rules::stretch;
 ghost use mathlib.Core.List.{[]};
 ghost use mathlib.Core.Option.{some};
 ghost use mathlib.Core.Path.{_≡_};
 ghost use Prim.Native.Nat.{_+_, _/_, _<_, _≤_};
-ghost use lib.Dec.{eqb};
 ghost use lib.ListN.{length};
 ghost use Rattle.rules.specs.Opening.{slotsPerDay, slotCount};
 ghost use Rattle.rules.specs.Spans.{lastRead};
@@ -61,8 +60,17 @@ fn sums(
     start: usize,
     count: usize,
 ) -> Summary
-    requires { ⌜ Lent head (lentSlots values versions statuses) (now holidays) × Settled head (lentAgreed agreed «agreed_versions») × (start < slotCount head) × (start + count ≤ slotCount head) ⌝ }
-    ensures { λ r. ⌜ r ≡ summaryOf head (lentSlots (values .entry) (versions .entry) (statuses .entry)) (lentAgreed (agreed .entry) («agreed_versions» .entry)) (now (holidays .entry)) start count ⌝ }
+    requires { ⌜
+        Lent head (lentSlots values versions statuses) (now holidays)
+        × Settled head (lentAgreed agreed «agreed_versions»)
+        × (start < slotCount head)
+        × (start + count ≤ slotCount head)
+        ⌝ }
+    ensures { λ r. ⌜
+        (let s = lentSlots (values .entry) (versions .entry) (statuses .entry) in
+        let a = lentAgreed (agreed .entry) («agreed_versions» .entry) in
+        r ≡ summaryOf head s a (now (holidays .entry)) start count)
+        ⌝ }
 {
     let here = back::fills_before(head, values, versions, statuses, agreed_versions, start);
     spans::summarise(
@@ -78,24 +86,14 @@ fn sums(
     )
 }
 
-fn no_scaling() -> Scaling
-    ensures { λ r. ⌜ r ≡ unscaled ⌝ }
-{
-    Scaling {
-        t: 0,
-        whole: 0,
-        extra: 0,
-        passed: 0,
-    }
-}
-
 // The scaling of a span with this state, these sums and this R, where the slots before a slot have the sums `before`.
 fn scaling_with(state: u8, sum: Summary, before: Summary, r: u64) -> Scaling
     requires { ⌜ (state ≡ 1 → sum .actual ≤ r) ⌝ }
     ensures { λ s. ⌜ s ≡ scalingWith state sum before r ⌝ }
 {
     if state != 1 {
-        return no_scaling();
+        let nothing = stretch::unscaled_to(0);
+        return nothing.by;
     }
     let by = spans::scaling_of(sum, r);
     if sum.shapes == 0 {
@@ -123,7 +121,13 @@ fn spanned(
     last: usize,
     sum: Summary,
 ) -> Spanned
-    requires { ⌜ Dialled head (now readings) × Widths head (now widths) × (first ≤ head .days) × (last ≤ head .days) × (head .days ≤ 400) ⌝ }
+    requires { ⌜
+        Dialled head (now readings)
+        × Widths head (now widths)
+        × (first ≤ head .days)
+        × (last ≤ head .days)
+        × (head .days ≤ 400)
+        ⌝ }
     ensures { λ r. ⌜ r ≡ spannedWith head (now (readings .entry)) (now (widths .entry)) first last sum ⌝ }
 {
     let advance = spans::advanced(readings[first], readings[last]);
@@ -156,8 +160,19 @@ fn between(
     first: usize,
     last: usize,
 ) -> Held
-    requires { ⌜ Lent head (lentSlots values versions statuses) (now holidays) × Dialled head (now readings) × Settled head (lentAgreed agreed «agreed_versions») × Widths head (now widths) × Between head slot first last ⌝ }
-    ensures { λ r. ⌜ (r .span ≡ spannedBy head (cells (lentSlots (values .entry) (versions .entry) (statuses .entry)) (now (holidays .entry)) (now (readings .entry)) [] (lentAgreed (agreed .entry) («agreed_versions» .entry)) (now (widths .entry))) (some first) (some last)) × (r .by ≡ spanStretch head (cells (lentSlots (values .entry) (versions .entry) (statuses .entry)) (now (holidays .entry)) (now (readings .entry)) [] (lentAgreed (agreed .entry) («agreed_versions» .entry)) (now (widths .entry))) first last slot .by) ⌝ }
+    requires { ⌜
+        Lent head (lentSlots values versions statuses) (now holidays)
+        × Dialled head (now readings)
+        × Settled head (lentAgreed agreed «agreed_versions»)
+        × Widths head (now widths)
+        × Between head slot first last
+        ⌝ }
+    ensures { λ r. ⌜
+        (let s = lentSlots (values .entry) (versions .entry) (statuses .entry) in
+        let a = lentAgreed (agreed .entry) («agreed_versions» .entry) in
+        let b = cells s (now (holidays .entry)) (now (readings .entry)) [] a (now (widths .entry)) in
+        (r .span ≡ spannedBy head b (some first) (some last)) × (r .by ≡ spanStretch head b first last slot .by))
+        ⌝ }
 {
     let day = opening::slots_per_day(head);
     let start = first * day;
@@ -209,9 +224,11 @@ pub fn no_span() -> Spanned
 fn outside() -> Held
     ensures { λ r. ⌜ (r .span ≡ noneSpanned) × (r .by ≡ unscaled) ⌝ }
 {
+    let nothing = stretch::unscaled_to(0);
+    let by = nothing.by;
     Held {
         span: no_span(),
-        by: no_scaling(),
+        by: by,
     }
 }
 
@@ -229,10 +246,15 @@ pub fn hold(
     widths: &[u16],
     slot: usize,
 ) -> Held
-    requires { ⌜ Whole head (lentCells values versions statuses holidays readings reads agreed «agreed_versions» widths) × (slot < slotCount head) ⌝ }
+    requires { ⌜
+        Whole head (lentCells values versions statuses holidays readings reads agreed «agreed_versions» widths)
+        × (slot < slotCount head)
+        ⌝ }
     ensures { λ r. ⌜
-        (let b = lentCells (values .entry) (versions .entry) (statuses .entry) (holidays .entry) (readings .entry) (reads .entry) (agreed .entry) («agreed_versions» .entry) (widths .entry) in
-        (r .span ≡ spannedBy head b (earlier b (slot / slotsPerDay head)) (later head b (slot / slotsPerDay head)))
+        (let b = lentCells (values .entry) (versions .entry) (statuses .entry) (holidays .entry) (readings .entry) (reads .entry)
+        (agreed .entry) («agreed_versions» .entry) (widths .entry) in
+        let d = slot / slotsPerDay head in
+        (r .span ≡ spannedBy head b (earlier b d) (later head b d))
         × (r .by ≡ stretchAt head b slot .by))
         ⌝ }
 {

@@ -5,7 +5,6 @@ pub mod naming;
 mod references;
 mod told;
 
-use book::lengths;
 use book::sound;
 use rules::Head;
 use rules::Outcome;
@@ -96,8 +95,15 @@ fn tell(
     widths: &[u16],
     slot: usize,
 ) -> Explanation
-    requires { ⌜ Whole head (lentCells values versions statuses holidays readings reads agreed «agreed_versions» widths) × (slot < slotCount head) ⌝ }
-    ensures { λ r. ⌜ r ≡ explanationOf head (lentCells (values .entry) (versions .entry) (statuses .entry) (holidays .entry) (readings .entry) (reads .entry) (agreed .entry) («agreed_versions» .entry) (widths .entry)) slot ⌝ }
+    requires { ⌜
+        Whole head (lentCells values versions statuses holidays readings reads agreed «agreed_versions» widths)
+        × (slot < slotCount head)
+        ⌝ }
+    ensures { λ r. ⌜
+        (let b = lentCells (values .entry) (versions .entry) (statuses .entry) (holidays .entry) (readings .entry) (reads .entry)
+        (agreed .entry) («agreed_versions» .entry) (widths .entry) in
+        r ≡ explanationOf head b slot)
+        ⌝ }
 {
     let cause = tests::cause_of(
         head.limit,
@@ -172,38 +178,6 @@ fn refused_by(number: u8) -> Explained
     }
 }
 
-// The ten lists have the lengths that the head asks.
-fn lists_fit(
-    head: Head,
-    values: &[u32],
-    versions: &[u32],
-    statuses: &[u8],
-    holidays: &[u8],
-    readings: &[u32],
-    reads: &[u32],
-    agreed: &[u32],
-    agreed_versions: &[u32],
-    counts: &[u16],
-    widths: &[u16],
-) -> bool
-    requires { ⌜ headOk head ≡ true ⌝ }
-    ensures { λ r. ⌜ r ≡ bookFits head (lentBook (values .entry) (versions .entry) (statuses .entry) (holidays .entry) (readings .entry) (reads .entry) (agreed .entry) («agreed_versions» .entry) (counts .entry) (widths .entry)) ⌝ }
-{
-    lengths::book_fits(
-        head,
-        values.len(),
-        versions.len(),
-        statuses.len(),
-        holidays.len(),
-        readings.len(),
-        reads.len(),
-        agreed.len(),
-        agreed_versions.len(),
-        counts.len(),
-        widths.len(),
-    )
-}
-
 // Explains a slot of a book whose lists fit.
 fn explain_fitted(
     head: Head,
@@ -219,8 +193,15 @@ fn explain_fitted(
     widths: &[u16],
     slot: usize,
 ) -> Explained
-    requires { ⌜ (headOk head ≡ true) × (bookFits head (lentBook values versions statuses holidays readings reads agreed «agreed_versions» counts widths) ≡ true) × (slot < slotCount head) ⌝ }
-    ensures { λ r. ⌜ r ≡ explainAnswer head (lentBook (values .entry) (versions .entry) (statuses .entry) (holidays .entry) (readings .entry) (reads .entry) (agreed .entry) («agreed_versions» .entry) (counts .entry) (widths .entry)) slot ⌝ }
+    requires { ⌜
+        (let book = lentBook values versions statuses holidays readings reads agreed «agreed_versions» counts widths in
+        (headOk head ≡ true) × (bookFits head book ≡ true) × (slot < slotCount head))
+        ⌝ }
+    ensures { λ r. ⌜
+        (let book = lentBook (values .entry) (versions .entry) (statuses .entry) (holidays .entry) (readings .entry) (reads .entry)
+        (agreed .entry) («agreed_versions» .entry) (counts .entry) (widths .entry) in
+        r ≡ explainAnswer head book slot)
+        ⌝ }
 {
     if !sound::book_ok(
         head,
@@ -270,12 +251,16 @@ pub fn explain(
     widths: &[u16],
     slot: u32,
 ) -> Explained
-    ensures { λ r. ⌜ r ≡ explainAnswer head (lentBook (values .entry) (versions .entry) (statuses .entry) (holidays .entry) (readings .entry) (reads .entry) (agreed .entry) («agreed_versions» .entry) (counts .entry) (widths .entry)) slot ⌝ }
+    ensures { λ r. ⌜
+        (let book = lentBook (values .entry) (versions .entry) (statuses .entry) (holidays .entry) (readings .entry) (reads .entry)
+        (agreed .entry) («agreed_versions» .entry) (counts .entry) (widths .entry) in
+        r ≡ explainAnswer head book slot)
+        ⌝ }
 {
     if !opening::head_ok(head) {
         return refused_by(1);
     }
-    if !lists_fit(
+    if !publishing::lists_fit(
         head,
         values,
         versions,

@@ -1,39 +1,17 @@
 // The references of a same-day fill, with their days (01, Filling, rule 3; 02, W3).
 use crate::Found;
 use rules::Head;
+use rules::filling;
 use rules::opening;
-use rules::tests;
 use rules::weeks;
 ghost use mathlib.Core.Path.{_≡_};
-ghost use Prim.Native.Nat.{_/_, _<_};
+ghost use Prim.Native.Nat.{_<_};
 ghost use lib.ListN.{length};
-ghost use Rattle.rules.specs.Opening.{slotsPerDay, slotCount};
-ghost use Rattle.rules.specs.Filling.{isReference, references};
+ghost use Rattle.rules.specs.Opening.{slotCount};
+ghost use Rattle.rules.specs.Filling.{references};
 ghost use Rattle.rules.specs.Lent.{lentSlots};
 ghost use Rattle.rules.specs.Inner.Lent.{Lent};
 ghost use Rattle.explain.specs.References.{referenceDays, inFour};
-
-// Slot `at`, of day `day`, can be a reference.
-fn can_refer(
-    head: Head,
-    values: &[u32],
-    versions: &[u32],
-    statuses: &[u8],
-    holidays: &[u8],
-    day: usize,
-    at: usize,
-) -> bool
-    requires { ⌜ Lent head (lentSlots values versions statuses) (now holidays) × (at < slotCount head) × (day ≡ at / slotsPerDay head) ⌝ }
-    ensures { λ r. ⌜ r ≡ isReference head (lentSlots (values .entry) (versions .entry) (statuses .entry)) (now (holidays .entry)) at ⌝ }
-{
-    if !tests::is_good(head, values, versions, statuses, at) {
-        return false;
-    }
-    if tests::outage_bit(statuses[at]) {
-        return false;
-    }
-    holidays[day] == 0
-}
 
 // The references of slot `slot`: the search stops at the fourth.
 pub fn find(
@@ -45,7 +23,11 @@ pub fn find(
     slot: usize,
 ) -> Found
     requires { ⌜ Lent head (lentSlots values versions statuses) (now holidays) × (slot < slotCount head) ⌝ }
-    ensures { λ r. ⌜ (r .days ≡ inFour (referenceDays head (lentSlots (values .entry) (versions .entry) (statuses .entry)) (now (holidays .entry)) slot)) × (r .values ≡ inFour (references head (lentSlots (values .entry) (versions .entry) (statuses .entry)) (now (holidays .entry)) slot)) × (r .count ≡ length (references head (lentSlots (values .entry) (versions .entry) (statuses .entry)) (now (holidays .entry)) slot)) ⌝ }
+    ensures { λ r. ⌜
+        (let s = lentSlots (values .entry) (versions .entry) (statuses .entry) in
+        let xs = references head s (now (holidays .entry)) slot in
+        (r .days ≡ inFour (referenceDays head s (now (holidays .entry)) slot)) × (r .values ≡ inFour xs) × (r .count ≡ length xs))
+        ⌝ }
 {
     let n = opening::slots_per_day(head);
     let week = 7 * n;
@@ -67,7 +49,7 @@ pub fn find(
         step = week;
         days = 7;
         left -= 1;
-        if can_refer(head, values, versions, statuses, holidays, day, at) {
+        if filling::is_reference(head, values, versions, statuses, holidays, day, at) {
             found[count] = values[at];
             dates[count] = day as u32;
             count += 1;

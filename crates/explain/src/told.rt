@@ -119,7 +119,10 @@ pub fn found_by(
     slot: usize,
 ) -> Found
     requires { ⌜ Lent head (lentSlots values versions statuses) (now holidays) × (slot < slotCount head) ⌝ }
-    ensures { λ r. ⌜ r ≡ foundOf rule head (lentSlots (values .entry) (versions .entry) (statuses .entry)) (now (holidays .entry)) slot ⌝ }
+    ensures { λ r. ⌜
+        (let s = lentSlots (values .entry) (versions .entry) (statuses .entry) in
+        r ≡ foundOf rule head s (now (holidays .entry)) slot)
+        ⌝ }
 {
     if !is_same_day(rule) {
         return none_found();

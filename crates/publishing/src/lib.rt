@@ -134,7 +134,7 @@ fn put_sound(
 }
 
 // The ten lists have the lengths that the head asks.
-fn lists_fit(
+pub fn lists_fit(
     head: Head,
     values: &[u32],
     versions: &[u32],

@@ -10,13 +10,14 @@ use Rattle.rules.specs.declared.spans.Scaling.{Scaling}
 use Rattle.rules.specs.declared.spans.Summary.{Summary}
 use Rattle.rules.specs.Opening.{slotsPerDay}
 use Rattle.rules.specs.Spans.{isS, advance, rangeOf, leastIn, stateBy}
+use Rattle.rules.specs.Inner.Stretches.{unscaledTo}
 use Rattle.explain.specs.declared.Spanned.{Spanned}
 use Rattle.explain.specs.declared.Shares.{Shares}
 use Rattle.explain.specs.Explain.{noShares}
 
 -- nothing is scaled
 abbrev pub unscaled : Scaling
-unscaled = record { t = 0; whole = 0; extra = 0; passed = 0 }
+unscaled = unscaledTo 0 .by
 
 -- a span with this state, the sums m and the advance r, where the slots before a slot have the sums `before`
 unfoldable pub scalingWith : ℕ → Summary → Summary → ℕ → Scaling

@@ -53,8 +53,8 @@ sub-day c = day-inside _ (bounded ((c .before .before .before .before .before .b
 sub-left : tie.Need-sub-left Inv-weeks μ-weeks
 sub-left c = omega arith
 
-can-refer-requires : tie.Need-can-refer-requires Inv-weeks μ-weeks
-can-refer-requires c κs = ((c .before .before .before .before .before .before .before .before) .pre .0, omega (arith, c .before .weeks .inv .0 .near, (c .before .before .before .before .before .before .before .before) .pre .1), day-on _ (bounded ((c .before .before .before .before .before .before .before .before) .args .head) ((c .before .before .before .before .before .before .before .before) .pre .0 .fitted .head)) _ _ (c .before .weeks .inv .0) (c .weeks-test .left))
+is-reference-requires : tie.Need-is-reference-requires Inv-weeks μ-weeks
+is-reference-requires c κs = ((c .before .before .before .before .before .before .before .before) .pre .0, omega (arith, c .before .weeks .inv .0 .near, (c .before .before .before .before .before .before .before .before) .pre .1), day-on _ (bounded ((c .before .before .before .before .before .before .before .before) .args .head) ((c .before .before .before .before .before .before .before .before) .pre .0 .fitted .head)) _ _ (c .before .weeks .inv .0) (c .weeks-test .left))
 
 mul-found : tie.Need-mul-found Inv-weeks μ-weeks
 mul-found c = omega (arith, count-high ((c .before .before .before .before .before .before .before .before .before .before) .args .head) (bounded ((c .before .before .before .before .before .before .before .before .before .before) .args .head) ((c .before .before .before .before .before .before .before .before .before .before) .pre .0 .fitted .head)), (c .before .before .before .before .before .before .before .before .before .before) .pre .1, c .before .before .before .weeks .inv .0 .near)
@@ -87,7 +87,7 @@ weeks-again : tie.Need-weeks-again Inv-weeks μ-weeks
 weeks-again c = let w = bounded ((c .before .before .before .before .before .before .before .before .before .before .before .before) .args .head) ((c .before .before .before .before .before .before .before .before .before .before .before .before) .pre .0 .fitted .head) in
     let i = c .before .before .before .before .before .weeks .inv .0 in
     let m = c .before .before .before .before .weeks-test .left in
-    let t = sym (c .before .before .before .can-refer .ensures) ∙ c .before .before .if1 .taken in (
+    let t = sym (c .before .before .before .is-reference .ensures) ∙ c .before .before .if1 .taken in (
       stands-on _ w _ _ i m _ (omega (arith, i .room, c .if2 .left)),
       keeps-found _ w _ _ i m (c .before .before .before .before .before .weeks .inv .1) _ refl t,
       keeps-found _ w _ _ i m (c .before .before .before .before .before .weeks .inv .2) _ (day-on _ w _ _ i m) t,
@@ -100,7 +100,7 @@ weeks-again-2 : tie.Need-weeks-again-2 Inv-weeks μ-weeks
 weeks-again-2 c = let w = bounded ((c .before .before .before .before .before .before .before .before .before .before) .args .head) ((c .before .before .before .before .before .before .before .before .before .before) .pre .0 .fitted .head) in
     let i = c .before .before .before .weeks .inv .0 in
     let m = c .before .before .weeks-test .left in
-    let t = sym (c .before .can-refer .ensures) ∙ c .if1 .left in
+    let t = sym (c .before .is-reference .ensures) ∙ c .if1 .left in
     (stands-on _ w _ _ i m _ (i .room), keeps-passed _ w _ _ i m (c .before .before .before .weeks .inv .1) t, keeps-passed _ w _ _ i m (c .before .before .before .weeks .inv .2) t)
 
 returns : tie.Need-returns Inv-weeks μ-weeks
@@ -117,7 +117,7 @@ returns-2 c = let a = (c .before .before .before .before .before .before .before
     let w = bounded (a .head) ((c .before .before .before .before .before .before .before .before .before .before .before .before) .pre .0 .fitted .head) in
     let i = c .before .before .before .before .before .weeks .inv .0 in
     let m = c .before .before .before .before .weeks-test .left in
-    let t = sym (c .before .before .before .can-refer .ensures) ∙ c .before .before .if1 .taken in
+    let t = sym (c .before .before .before .is-reference .ensures) ∙ c .before .before .if1 .taken in
     let v = keeps-full (keeps-found _ w _ _ i m (c .before .before .before .before .before .weeks .inv .1) _ refl t) (c .if2 .taken) in
     let d = keeps-full (keeps-found _ w _ _ i m (c .before .before .before .before .before .weeks .inv .2) _ (day-on _ w _ _ i m) t) (c .if2 .taken) in
     let e = values-each (a .head) s (a .holidays .now) (a .slot) in
@@ -138,7 +138,7 @@ find-spec =
     sub-at
     sub-day
     sub-left
-    can-refer-requires
+    is-reference-requires
     mul-found
     shared-slice-read-found
     mul-found-2
