@@ -2,7 +2,7 @@
 use market::Codes;
 use market::Exported;
 ghost use mathlib.Core.Path.{_≡_};
-ghost use Rattle.market.specs.Fields.{texts};
+ghost use Rattle.market.specs.Fields.{lentTexts};
 ghost use Rattle.market.specs.Export.{exportAnswer, exportAfter};
 ghost use Rattle.host.specs.Market.{codesOf, exportedCode};
 
@@ -50,7 +50,8 @@ pub extern "C" fn sawmauve_nem12(
     out: &mut [u8],
 ) -> u64
     ensures { λ r. ⌜
-        (let given = texts (now (identifier .entry)) (now (from .entry)) (now (to .entry)) (now (configuration .entry)) (now (register .entry)) (now (suffix .entry)) (now (stream .entry)) (now (serial .entry)) (now («next_read» .entry)) (now (reason .entry)) (now (created .entry)) in
+        (let given = lentTexts (identifier .entry) (from .entry) (to .entry) (configuration .entry) (register .entry) (suffix .entry)
+        (stream .entry) (serial .entry) («next_read» .entry) (reason .entry) (created .entry) in
         let codes = codesOf two three five eighteen nineteen in
         (r ≡ exportedCode (exportAnswer (now (file .entry)) given codes (now (out .entry))))
         × (now (out .exit) ≡ exportAfter (now (file .entry)) given codes (now (out .entry))))

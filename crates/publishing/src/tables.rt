@@ -176,7 +176,7 @@ fn good_on(here: Progress, slot: Outcome) -> Progress
     let pass = here.pass;
     let walk = pass.walk;
     let carried = pass.stretch;
-    let totals = here.totals;
+    let so_far = here.totals;
     let next = Walk {
         at: walk.at + 1,
         outage: false,
@@ -189,7 +189,7 @@ fn good_on(here: Progress, slot: Outcome) -> Progress
     Progress {
         pass: on,
         spans: here.spans,
-        totals: add(totals, slot),
+        totals: add(so_far, slot),
     }
 }
 
@@ -208,7 +208,10 @@ fn put_good(
     out: &mut [u8],
     from: Progress,
 ) -> Progress
-    requires { ⌜ Further head (lentCells values versions statuses holidays readings reads agreed «agreed_versions» widths) (now out) from ⌝ }
+    requires { ⌜
+        (let b = lentCells values versions statuses holidays readings reads agreed «agreed_versions» widths in
+        Further head b (now out) from)
+        ⌝ }
     ensures { λ r. ⌜
         (let b = lentCells (values .entry) (versions .entry) (statuses .entry) (holidays .entry) (readings .entry) (reads .entry)
         (agreed .entry) («agreed_versions» .entry) (widths .entry) in
@@ -227,9 +230,9 @@ fn put_good(
         if !tests::is_good(head, values, versions, statuses, at) {
             return here;
         }
-        let slot = filling::delivered(values[at]);
-        writer::put_slot(out, 6 * at, slot);
-        here = good_on(here, slot);
+        let good = filling::delivered(values[at]);
+        writer::put_slot(out, 6 * at, good);
+        here = good_on(here, good);
         at += 1;
     }
     here

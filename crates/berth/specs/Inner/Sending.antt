@@ -21,7 +21,10 @@ lentSent values versions statuses counts = record { slots = lentSlots values ver
 unfoldable pub sentOne : Head → Sent → ℕ → Berth → Sent
 sentOne h s i b =
     cond (b .lost) s
-    (record { slots = deliverAfter h (s .slots) (s .counts) i 1 (b .value) 0; counts = countsAfter h (s .slots) (s .counts) i 1 (b .value) 0 })
+    (record {
+      slots = deliverAfter h (s .slots) (s .counts) i 1 (b .value) 0;
+      counts = countsAfter h (s .slots) (s .counts) i 1 (b .value) 0;
+    })
 
 -- after the first i slots
 unfoldable pub sentFrom : Head → ℕ → ℕ → Sent → ℕ → Sent
