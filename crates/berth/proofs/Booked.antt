@@ -17,7 +17,7 @@ use Rattle.rules.specs.Spans.{isRead}
 use Rattle.rules.proofs.Bounds.{bounded}
 use Rattle.book.specs.Arguments.{Call}
 use Rattle.book.specs.Contents.{DialRead}
-use Rattle.book.specs.Plain.{Said, deliveries, dialReads, highest, contentWith, readVersion, readContent, slotVersion, slotContent, bookOf}
+use Rattle.book.specs.Plain.{Said, deliveries, keptReads, highest, contentWith, readVersion, readContent, slotVersion, slotContent, bookOf}
 use Rattle.claim.specs.Claim.{plainOf}
 use Rattle.berth.specs.Steps.{lostAt, valueAt}
 use Rattle.berth.specs.Run.{callsOf}
@@ -39,15 +39,15 @@ module _ (h : Head) (seed loss : ℕ) (good : headOk h ≡ true) where
 
   -- the reads of each boundary
   first-read : readVersion all 0 ≡ 1
-  unfolding dialReads highest
+  unfolding keptReads highest
   first-read = rw (ne-eqb (h .days) 0 (λ e. omega (arith, some-days)), heard-all h seed loss good .unread 0)
 
   last-read : readVersion all (h .days) ≡ 1
-  unfolding dialReads highest
+  unfolding keptReads highest
   last-read = rw (eq-eqb (h .days) (h .days) refl, ne-eqb 0 (h .days) (λ e. omega (arith, some-days)), heard-all h seed loss good .unread (h .days))
 
   none-read : (d : ℕ) → 0 < d → d < h .days → readVersion all d ≡ 0
-  unfolding dialReads highest
+  unfolding keptReads highest
   none-read d p q = rw (ne-eqb (h .days) d (λ e. omega arith), ne-eqb 0 d (λ e. omega arith), heard-all h seed loss good .unread d)
 
   read-at : (d : ℕ) → d ≤ h .days → getD (book .reads) d 0 ≡ readVersion all d
@@ -64,7 +64,7 @@ module _ (h : Head) (seed loss : ℕ) (good : headOk h ≡ true) where
 
   -- every width is 0, and so is the reading at boundary 0
   width-none : (d : ℕ) → readContent all d .width ≡ 0
-  unfolding dialReads highest contentWith
+  unfolding keptReads highest contentWith
   width-none d = rw (heard-all h seed loss good .unread d) (go (eqb (h .days) d) (eqb 0 d))
     where
       said : ℕ → Said DialRead
@@ -87,11 +87,11 @@ module _ (h : Head) (seed loss : ℕ) (good : headOk h ≡ true) where
       (either (ltb d (suc (h .days))))
 
   first-dial : readContent all 0 .reading ≡ 0
-  unfolding dialReads highest contentWith
+  unfolding keptReads highest contentWith
   first-dial = rw (ne-eqb (h .days) 0 (λ e. omega (arith, some-days)), heard-all h seed loss good .unread 0)
 
   last-dial : readContent all (h .days) .reading ≡ reading h seed loss good
-  unfolding dialReads highest contentWith
+  unfolding keptReads highest contentWith
   last-dial = rw (eq-eqb (h .days) (h .days) refl, ne-eqb 0 (h .days) (λ e. omega (arith, some-days)), heard-all h seed loss good .unread (h .days))
 
   pub dial-first : getD (book .readings) 0 0 ≡ 0

@@ -15,7 +15,7 @@ use Rattle.book.specs.Answers.Answer.{stored}
 use Rattle.book.specs.Arguments.{Call, argumentRules}
 use Rattle.book.specs.Arguments.Call.{delivery, register}
 use Rattle.book.specs.Contents.{Measured}
-use Rattle.book.specs.Plain.{Said, deliveries, dialReads, agreements, named, highest, againstKept, plainAnswer, keep, keptOf}
+use Rattle.book.specs.Plain.{Said, deliveries, keptReads, agreements, named, highest, againstKept, plainAnswer, keep, keptOf}
 use Rattle.berth.specs.Steps.{lostAt, valueAt}
 use Rattle.berth.specs.Run.{sentAt, sent, trueTotal, dialReads, callsOf}
 
@@ -30,7 +30,7 @@ delivery-stored : (h : Head) (kept : List Call) (slot value : ℕ) → headOk h 
 unfolding plainAnswer argumentRules againstKept byVersion highest
 delivery-stored h kept slot value good lt e = rw (good, lt-leb _ _ lt, e)
 
-read-stored : (h : Head) (kept : List Call) (boundary reading : ℕ) → headOk h ≡ true → boundary ≤ h .days → reading ≤ 99_999_999 → dialReads boundary kept ≡ []
+read-stored : (h : Head) (kept : List Call) (boundary reading : ℕ) → headOk h ≡ true → boundary ≤ h .days → reading ≤ 99_999_999 → keptReads boundary kept ≡ []
     → plainAnswer h kept (register boundary 1 reading 0) ≡ stored
 unfolding plainAnswer argumentRules againstKept byVersion highest
 read-stored h kept boundary reading good le low e = rw (good, le-ltb _ _ le, le-ltb _ _ low, e)
@@ -45,7 +45,7 @@ module _ (h : Head) (seed loss : ℕ) where
   pub record Heard (n : ℕ) (kept : List Call) : Type 0 where
     pub before : (i : ℕ) → i < n → deliveries i kept ≡ heardAt i
     pub after : (i : ℕ) → n ≤ i → deliveries i kept ≡ []
-    pub unread : (d : ℕ) → dialReads d kept ≡ []
+    pub unread : (d : ℕ) → keptReads d kept ≡ []
     pub unagreed : (i : ℕ) → agreements i kept ≡ []
     pub unnamed : (d : ℕ) → named d kept ≡ false
 
@@ -60,7 +60,7 @@ module _ (h : Head) (seed loss : ℕ) where
 
   heard-sent : (n : ℕ) (kept : List Call) → Heard n kept → lostAt h seed loss n ≡ false
       → Heard (suc n) (delivery n 1 (valueAt h seed loss n) 0 ∷ kept)
-  unfolding deliveries dialReads agreements named
+  unfolding deliveries keptReads agreements named
   heard-sent n kept k t = record {
     before = λ i lt.
         ⊎-elim (λ (e : i ≡ n). rw (e, eq-eqb n n refl, k .after n (omega arith), t))
@@ -83,7 +83,7 @@ module _ (h : Head) (seed loss : ℕ) where
         go false e = rw (delivery-stored h kept n (valueAt h seed loss n) good lt (k .after n (omega arith))) (heard-sent n kept k e)
 
     heard : (n : ℕ) → n ≤ slotCount h → Heard n (keptOf h [] (sent h seed loss n))
-    unfolding sent keptOf deliveries dialReads agreements named
+    unfolding sent keptOf deliveries keptReads agreements named
     heard zero le = record { before = λ i lt. absurd (omega arith); after = λ i le. refl; unread = λ d. refl; unagreed = λ i. refl; unnamed = λ d. refl }
     heard (suc n) le =
         rw (kept-append h [] (sent h seed loss n) (sentAt h seed loss n))
@@ -105,8 +105,8 @@ module _ (h : Head) (seed loss : ℕ) where
     days-some : 0 < h .days
     days-some = omega (arith, bounded h good .days-low)
 
-    unread-last : dialReads (h .days) (register 0 1 0 0 ∷ slotCalls) ≡ []
-    unfolding dialReads
+    unread-last : keptReads (h .days) (register 0 1 0 0 ∷ slotCalls) ≡ []
+    unfolding keptReads
     unread-last = rw (ne-eqb 0 (h .days) (λ e. omega (arith, days-some)), heard-all .unread (h .days))
 
     pub kept-run : keptOf h [] (callsOf h seed loss) ≡ allCalls

@@ -22,7 +22,7 @@ use Rattle.book.specs.Arguments.Call.{delivery, holiday, register, agree
 use Rattle.book.specs.Cells.{readsOf, allLong, slotsFit, daysFit, readsFit, agreedFits, cellsFits, cellsFit, countsFit, bookFits}
 use Rattle.book.specs.Opening.{opened}
 use Rattle.book.specs.Filling.{inputRules, againstSlot, againstDay, againstBoundary, againstAgreed, againstDelivery, deliverAnswer, holidayAnswer, registerAnswer, agreeAnswer, answer, after, answers, afterAll}
-use Rattle.book.specs.Plain.{deliveries, dialReads, agreements, named, highest, contentWith, againstKept, plainAnswer, keep, plainAnswers, keptOf, bookOf, deliveredOn, countsOf, listsOf}
+use Rattle.book.specs.Plain.{deliveries, keptReads, agreements, named, highest, contentWith, againstKept, plainAnswer, keep, plainAnswers, keptOf, bookOf, deliveredOn, countsOf, listsOf}
 use Rattle.book.specs.Contents.{dialRead, readAt}
 use Rattle.book.proofs.Tables.{upTo-zero}
 use Rattle.book.proofs.Next.{countedIn, booked, after-filed, filed-refused, book-next}
@@ -128,7 +128,7 @@ after-agrees h kept c ok =
 
 -- nothing is kept of a book that was only opened
 opened-cells : (h : Head) → opened h .cells ≡ bookOf h []
-unfolding opened bookOf deliveries dialReads agreements named highest contentWith
+unfolding opened bookOf deliveries keptReads agreements named highest contentWith
 opened-cells h = simp (upTo-zero 0)
 
 opened-book : (h : Head) → opened h ≡ listsOf h []

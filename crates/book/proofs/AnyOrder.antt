@@ -15,7 +15,7 @@ use Rattle.book.specs.Answers.{isAccepted, byVersion}
 use Rattle.book.specs.Answers.Answer.{stored, late, repeat, refused}
 use Rattle.book.specs.Arguments.{Call, argumentRules}
 use Rattle.book.specs.Arguments.Call.{delivery, holiday, register, agreed}
-use Rattle.book.specs.Plain.{named, deliveries, dialReads, agreements, slotVersion, slotContent, readVersion, readContent, agreedVersion, agreedContent, againstKept, plainAnswer, keep, plainAnswers, keptOf, bookOf}
+use Rattle.book.specs.Plain.{named, deliveries, keptReads, agreements, slotVersion, slotContent, readVersion, readContent, agreedVersion, agreedContent, againstKept, plainAnswer, keep, plainAnswers, keptOf, bookOf}
 use Rattle.book.proofs.Said.{member-low, from}
 use Rattle.book.proofs.Kept.{unless-accepted, Kept, keptOf-kept}
 use Rattle.book.proofs.Members.{deliveries-from, deliveries-of, reads-from, reads-of, agreements-from, agreements-of, named-from, named-of}
@@ -58,7 +58,7 @@ member-covered (delivery slot version value status) kept m =
 member-covered (holiday day) kept m = named-of day kept m
 member-covered (register boundary version reading width) kept m =
     member-low (record { reading = 0; width = 0 }) (record { version = version; content = record { reading = reading; width = width } })
-    (dialReads boundary kept) (reads-of boundary kept _ m)
+    (keptReads boundary kept) (reads-of boundary kept _ m)
 member-covered (agreed slot version value) kept m =
     member-low 0 (record { version = version; content = value }) (agreements slot kept) (agreements-of slot kept _ m)
 
@@ -168,7 +168,7 @@ module _ (h : Head) where
       slots = λ i. from (record { value = 0; status = 0 }) (deliveries i (keptOf h [] cs)) (λ v a. v ≤ slotVersion (keptOf h [] ds) i) zero-le
           (λ s m. far _ (deliveries-from i (keptOf h [] cs) s m));
       days = λ d e. far (holiday d) (named-from d (keptOf h [] cs) e);
-      boundaries = λ d. from (record { reading = 0; width = 0 }) (dialReads d (keptOf h [] cs)) (λ v a. v ≤ readVersion (keptOf h [] ds) d) zero-le
+      boundaries = λ d. from (record { reading = 0; width = 0 }) (keptReads d (keptOf h [] cs)) (λ v a. v ≤ readVersion (keptOf h [] ds) d) zero-le
           (λ s m. far _ (reads-from d (keptOf h [] cs) s m));
       agreed = λ i. from 0 (agreements i (keptOf h [] cs)) (λ v a. v ≤ agreedVersion (keptOf h [] ds) i) zero-le
           (λ s m. far _ (agreements-from i (keptOf h [] cs) s m));

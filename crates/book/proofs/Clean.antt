@@ -9,7 +9,7 @@ use Rattle.rules.specs.declared.Head.{Head}
 use Rattle.book.specs.Arguments.{Call}
 use Rattle.book.specs.Cells.{slotFault, dayFault, numberFault, readFault, agreedFault}
 use Rattle.book.specs.Contents.{Measured, DialRead}
-use Rattle.book.specs.Plain.{Said, deliveries, dialReads, agreements, named, slotVersion, slotContent, readVersion, readContent, agreedVersion, agreedContent}
+use Rattle.book.specs.Plain.{Said, deliveries, keptReads, agreements, named, slotVersion, slotContent, readVersion, readContent, agreedVersion, agreedContent}
 use Rattle.book.proofs.Said.{from}
 use Rattle.book.proofs.Members.{deliveredAs, readAs, agreedAs, deliveries-from, reads-from, agreements-from}
 use Rattle.book.proofs.Kept.{Kept, Sound, kept-sound}
@@ -42,7 +42,7 @@ module _ (h : Head) (kept : List Call) (ok : Kept h kept) (i : ℕ) where
   pub read-clean : readFault (readVersion kept i) (readContent kept i .reading) (readContent kept i .width) ≡ false
   unfolding readFault numberFault
   read-clean =
-      from (record { reading = 0; width = 0 }) (dialReads i kept) (λ v a. readFault v (a .reading) (a .width) ≡ false) refl
+      from (record { reading = 0; width = 0 }) (keptReads i kept) (λ v a. readFault v (a .reading) (a .width) ≡ false) refl
       (λ s m. one s (kept-sound h kept (readAs i s) ok (reads-from i kept s m)))
     where
       one : (s : Said DialRead) → Sound h (readAs i s) → readFault (s .version) (s .content .reading) (s .content .width) ≡ false

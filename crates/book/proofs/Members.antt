@@ -11,7 +11,7 @@ use Rattle.base.proofs.Logic.{or-parts}
 use Rattle.book.specs.Arguments.{Call}
 use Rattle.book.specs.Arguments.Call.{delivery, holiday, register, agreed}
 use Rattle.book.specs.Contents.{Measured, DialRead}
-use Rattle.book.specs.Plain.{Said, deliveries, dialReads, agreements, named}
+use Rattle.book.specs.Plain.{Said, deliveries, keptReads, agreements, named}
 
 -- the call that said it
 abbrev pub deliveredAs : ℕ → Said Measured → Call
@@ -42,13 +42,13 @@ deliveries-from i (register boundary version reading width ∷ kept) s m = List�
 deliveries-from i (agreed slot version value ∷ kept) s m = List·Memᴰ·tail (deliveries-from i kept s m)
 
 -- and of a boundary by a kept register read
-pub reads-from : (d : ℕ) (kept : List Call) (s : Said DialRead) → List·Memᴰ s (dialReads d kept) → List·Memᴰ (readAs d s) kept
-unfolding dialReads
+pub reads-from : (d : ℕ) (kept : List Call) (s : Said DialRead) → List·Memᴰ s (keptReads d kept) → List·Memᴰ (readAs d s) kept
+unfolding keptReads
 reads-from d (delivery slot version value status ∷ kept) s m = List·Memᴰ·tail (reads-from d kept s m)
 reads-from d (holiday day ∷ kept) s m = List·Memᴰ·tail (reads-from d kept s m)
 reads-from d (register boundary version reading width ∷ kept) s m =
     said-by (eqb boundary d) (record { version = version; content = record { reading = reading; width = width } }) s
-    (dialReads d kept) (readAs d s) (register boundary version reading width) kept
+    (keptReads d kept) (readAs d s) (register boundary version reading width) kept
     (λ e q. rw (q, eqb-true boundary d e)) (reads-from d kept s) m
 reads-from d (agreed slot version value ∷ kept) s m = List·Memᴰ·tail (reads-from d kept s m)
 
@@ -94,14 +94,14 @@ deliveries-of i (register boundary version reading width ∷ kept) s m =
     deliveries-of i kept s (other-call (λ e. let z : _≡_ {A = ℕ} 0 1 = cc in omega arith) m)
 deliveries-of i (agreed slot version value ∷ kept) s m = deliveries-of i kept s (other-call (λ e. let z : _≡_ {A = ℕ} 0 1 = cc in omega arith) m)
 
-pub reads-of : (d : ℕ) (kept : List Call) (s : Said DialRead) → List·Memᴰ (readAs d s) kept → List·Memᴰ s (dialReads d kept)
-unfolding dialReads
+pub reads-of : (d : ℕ) (kept : List Call) (s : Said DialRead) → List·Memᴰ (readAs d s) kept → List·Memᴰ s (keptReads d kept)
+unfolding keptReads
 reads-of d (delivery slot version value status ∷ kept) s m =
     reads-of d kept s (other-call (λ e. let z : _≡_ {A = ℕ} 0 1 = cc in omega arith) m)
 reads-of d (holiday day ∷ kept) s m = reads-of d kept s (other-call (λ e. let z : _≡_ {A = ℕ} 0 1 = cc in omega arith) m)
 reads-of d (register boundary version reading width ∷ kept) s m =
     said-of (eqb boundary d) (record { version = version; content = record { reading = reading; width = width } }) s
-    (dialReads d kept) (readAs d s) (register boundary version reading width) kept (λ e. parts e) (reads-of d kept s) m
+    (keptReads d kept) (readAs d s) (register boundary version reading width) kept (λ e. parts e) (reads-of d kept s) m
   where
     parts : readAs d s ≡ register boundary version reading width
         → (eqb boundary d ≡ true) × (s ≡ record { version = version; content = record { reading = reading; width = width } })

@@ -17,7 +17,7 @@ use Rattle.book.specs.Arguments.Call.{delivery, holiday, register, agree
 use Rattle.book.specs.Cells.{Book, withSlots, withHolidays, withReads, withAgreed}
 use Rattle.book.specs.Filling.{storedIn, slotsWith, countsWith, deliverAfter, countsAfter, holidayAfter, registerAfter, agreeAfter, answer, after}
 use Rattle.book.specs.Contents.{Measured, DialRead}
-use Rattle.book.specs.Plain.{Said, deliveries, dialReads, agreements, named, highest, slotVersion, slotContent, readVersion, readContent, againstKept, bookOf}
+use Rattle.book.specs.Plain.{Said, deliveries, keptReads, agreements, named, highest, slotVersion, slotContent, readVersion, readContent, againstKept, bookOf}
 use Rattle.book.specs.Lent.{readLists}
 use Rattle.book.proofs.Tables.{upTo-filed}
 use Rattle.book.proofs.Said.{latest, said-filed}
@@ -101,9 +101,9 @@ module _ (h : Head) (kept : List Call) (boundary version reading width : ℕ) wh
       → upTo (λ d. m (readVersion (register boundary version reading width ∷ kept) d) (readContent (register boundary version reading width ∷ kept) d)) 0 (suc (h .days))
       ≡ storedIn (byVersion (readVersion kept boundary) version sameRead) (upTo (λ d. m (readVersion kept d) (readContent kept d)) 0 (suc (h .days)))
       boundary (m version (record { reading = reading; width = width }))
-  unfolding dialReads sameRead
+  unfolding keptReads sameRead
   reads-next ok m =
-      said-filed (record { reading = 0; width = 0 }) (λ d. dialReads d kept) (λ d. dialReads d (register boundary version reading width ∷ kept)) boundary
+      said-filed (record { reading = 0; width = 0 }) (λ d. keptReads d kept) (λ d. keptReads d (register boundary version reading width ∷ kept)) boundary
       (record { version = version; content = record { reading = reading; width = width } }) sameRead
       (same-read (readContent kept boundary) reading width) ok (rw (eq-eqb boundary boundary refl)) (λ d ne. rw (ne-eqb boundary d ne)) m (suc (h .days))
 
@@ -133,7 +133,7 @@ numbers-next of next j s n ok here there m =
 -- the book of one more accepted call is the book before with the call filed in it
 pub book-next : (h : Head) (kept : List Call) (c : Call) → isAccepted (againstKept kept c) ≡ true
     → bookOf h (c ∷ kept) ≡ filedIn (againstKept kept c) (bookOf h kept) c
-unfolding bookOf filedIn againstKept deliveries dialReads agreements named sameSlot sameRead
+unfolding bookOf filedIn againstKept deliveries keptReads agreements named sameSlot sameRead
 book-next h kept (delivery slot version value status) ok =
     let column = slots-next h kept slot version value status ok in
     λ t. record {

@@ -11,7 +11,7 @@ use Rattle.book.specs.Answers.{isAccepted, byVersion}
 use Rattle.book.specs.Arguments.{Call}
 use Rattle.book.specs.Arguments.Call.{delivery, holiday, register, agreed}
 use Rattle.book.specs.Contents.{Measured, DialRead}
-use Rattle.book.specs.Plain.{Said, deliveries, dialReads, agreements, named, highest, slotVersion, slotContent, readVersion, readContent, agreedVersion, agreedContent, againstKept, plainAnswer, keptOf, bookOf}
+use Rattle.book.specs.Plain.{Said, deliveries, keptReads, agreements, named, highest, slotVersion, slotContent, readVersion, readContent, agreedVersion, agreedContent, againstKept, plainAnswer, keptOf, bookOf}
 use Rattle.book.proofs.Tables.{upTo-same}
 use Rattle.book.proofs.Said.{latest, AllFair, fair-next, ruled, ruled-same, same-said, highest-within}
 use Rattle.book.proofs.Kept.{Kept, accepted, keptOf-kept}
@@ -66,14 +66,14 @@ fair-deliveries h i (register boundary version reading width ∷ kept) ok = fair
 fair-deliveries h i (agreed slot version value ∷ kept) ok = fair-deliveries h i kept (ok .1)
 
 -- and of a boundary
-fair-reads : (h : Head) (d : ℕ) (kept : List Call) → Kept h kept → AllFair (record { reading = 0; width = 0 }) (dialReads d kept)
-unfolding dialReads
+fair-reads : (h : Head) (d : ℕ) (kept : List Call) → Kept h kept → AllFair (record { reading = 0; width = 0 }) (keptReads d kept)
+unfolding keptReads
 fair-reads h d [] ok = λ s m. absurd (List·Memᴰ·not-nil m)
 fair-reads h d (delivery slot version value status ∷ kept) ok = fair-reads h d kept (ok .1)
 fair-reads h d (holiday day ∷ kept) ok = fair-reads h d kept (ok .1)
 fair-reads h d (register boundary version reading width ∷ kept) ok =
     fair-if (record { reading = 0; width = 0 }) (eqb boundary d) (record { version = version; content = record { reading = reading; width = width } })
-    (dialReads d kept) (λ e. rw (sym (eqb-true boundary d e)) (read-fair h kept boundary version reading width (ok .0)))
+    (keptReads d kept) (λ e. rw (sym (eqb-true boundary d e)) (read-fair h kept boundary version reading width (ok .0)))
     (fair-reads h d kept (ok .1))
 fair-reads h d (agreed slot version value ∷ kept) ok = fair-reads h d kept (ok .1)
 
@@ -109,7 +109,7 @@ module _ (kept other : List Call) (sub : Within kept other) where
   delivered-in : (i : ℕ) (s : Said Measured) → List·Memᴰ s (deliveries i kept) → List·Memᴰ s (deliveries i other)
   delivered-in i s m = deliveries-of i other s (sub _ (deliveries-from i kept s m))
 
-  read-in : (d : ℕ) (s : Said DialRead) → List·Memᴰ s (dialReads d kept) → List·Memᴰ s (dialReads d other)
+  read-in : (d : ℕ) (s : Said DialRead) → List·Memᴰ s (keptReads d kept) → List·Memᴰ s (keptReads d other)
   read-in d s m = reads-of d other s (sub _ (reads-from d kept s m))
 
   agreed-in : (i : ℕ) (s : Said ℕ) → List·Memᴰ s (agreements i kept) → List·Memᴰ s (agreements i other)
@@ -119,7 +119,7 @@ module _ (kept other : List Call) (sub : Within kept other) where
   as-far = record {
     slots = λ i. highest-within (record { value = 0; status = 0 }) (deliveries i kept) (deliveries i other) (delivered-in i);
     days = λ d e. named-of d other (sub _ (named-from d kept e));
-    boundaries = λ d. highest-within (record { reading = 0; width = 0 }) (dialReads d kept) (dialReads d other) (read-in d);
+    boundaries = λ d. highest-within (record { reading = 0; width = 0 }) (keptReads d kept) (keptReads d other) (read-in d);
     agreed = λ i. highest-within 0 (agreements i kept) (agreements i other) (agreed-in i);
   }
 
@@ -135,7 +135,7 @@ module _ (h : Head) (kept other : List Call) (ok : Kept h other) (sub : Within k
 
   same-boundary : (d : ℕ) → (readVersion kept d ≡ readVersion other d) × (readContent kept d ≡ readContent other d)
   same-boundary d =
-      same-said (record { reading = 0; width = 0 }) (dialReads d kept) (dialReads d other) (fair-reads h d other ok)
+      same-said (record { reading = 0; width = 0 }) (keptReads d kept) (keptReads d other) (fair-reads h d other ok)
       (read-in kept other sub d) (far .boundaries d)
 
   same-agreed : (i : ℕ) → (agreedVersion kept i ≡ agreedVersion other i) × (agreedContent kept i ≡ agreedContent other i)

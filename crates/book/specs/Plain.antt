@@ -31,14 +31,14 @@ deliveries i (register boundary version reading width ∷ kept) = deliveries i k
 deliveries i (agreed slot version value ∷ kept) = deliveries i kept
 
 -- the kept register reads for a boundary
-unfoldable pub dialReads : ℕ → List Call → List (Said DialRead)
-dialReads d [] = []
-dialReads d (delivery slot version value status ∷ kept) = dialReads d kept
-dialReads d (holiday day ∷ kept) = dialReads d kept
-dialReads d (register boundary version reading width ∷ kept) =
-    cond (eqb boundary d) (record { version = version; content = dialRead reading width } ∷ dialReads d kept)
-    (dialReads d kept)
-dialReads d (agreed slot version value ∷ kept) = dialReads d kept
+unfoldable pub keptReads : ℕ → List Call → List (Said DialRead)
+keptReads d [] = []
+keptReads d (delivery slot version value status ∷ kept) = keptReads d kept
+keptReads d (holiday day ∷ kept) = keptReads d kept
+keptReads d (register boundary version reading width ∷ kept) =
+    cond (eqb boundary d) (record { version = version; content = dialRead reading width } ∷ keptReads d kept)
+    (keptReads d kept)
+keptReads d (agreed slot version value ∷ kept) = keptReads d kept
 
 -- the kept agreed calls for a slot
 unfoldable pub agreements : ℕ → List Call → List (Said ℕ)
@@ -75,10 +75,10 @@ abbrev pub slotContent : List Call → ℕ → Measured
 slotContent kept i = contentWith (measured 0 0) (slotVersion kept i) (deliveries i kept)
 
 abbrev pub readVersion : List Call → ℕ → ℕ
-readVersion kept d = highest (dialReads d kept)
+readVersion kept d = highest (keptReads d kept)
 
 abbrev pub readContent : List Call → ℕ → DialRead
-readContent kept d = contentWith (dialRead 0 0) (readVersion kept d) (dialReads d kept)
+readContent kept d = contentWith (dialRead 0 0) (readVersion kept d) (keptReads d kept)
 
 -- "with a highest version of their own" (02, W1)
 abbrev pub agreedVersion : List Call → ℕ → ℕ

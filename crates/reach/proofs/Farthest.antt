@@ -20,7 +20,7 @@ use Rattle.rules.specs.Filling.{isReference, fromReferences}
 use Rattle.rules.specs.Spans.{outcomeAt}
 use Rattle.book.specs.Arguments.{Call}
 use Rattle.book.specs.Arguments.Call.{delivery, holiday}
-use Rattle.book.specs.Plain.{deliveries, dialReads, agreements, named, highest, contentWith, slotContent, bookOf}
+use Rattle.book.specs.Plain.{deliveries, keptReads, agreements, named, highest, contentWith, slotContent, bookOf}
 use Rattle.reach.proofs.Sparse.{Sparse, goodIn, status-at, good-at, outcome-last}
 
 -- a day of the book
@@ -65,7 +65,7 @@ unfolding slotCount slotsPerDay
 more-count = refl
 
 pub weeks-before : Sparse year (weeksKept) 47 17_518 17_519
-unfolding slotsPerDay deliveries dialReads agreements highest contentWith causeOf timeChangeBit partialBit outageBit
+unfolding slotsPerDay deliveries keptReads agreements highest contentWith causeOf timeChangeBit partialBit outageBit
 weeks-before = record {
   days = refl;
   next = refl;
@@ -80,7 +80,7 @@ weeks-before = record {
 }
 
 pub feast-before : Sparse more (feastKept) 47 17_806 17_807
-unfolding slotsPerDay deliveries dialReads agreements highest contentWith causeOf timeChangeBit partialBit outageBit
+unfolding slotsPerDay deliveries keptReads agreements highest contentWith causeOf timeChangeBit partialBit outageBit
 feast-before = record {
   days = refl;
   next = refl;
@@ -96,7 +96,7 @@ feast-before = record {
 
 -- slot 47 once more
 pub sparse-again : {h : Head} {kept : List Call} {p j : ℕ} → Sparse h kept 47 p j → Sparse h (again ∷ kept) 47 p j
-unfolding deliveries dialReads agreements
+unfolding deliveries keptReads agreements
 sparse-again {h} {kept} {p} x =
     let other : (k : ℕ) → (k ≡ 47 → ⊥) → deliveries k (again ∷ kept) ≡ deliveries k kept = λ k a. rw (ne-eqb 47 k (λ z. a (sym z))) in
     let same : deliveries p (again ∷ kept) ≡ deliveries p kept = other p (λ z. omega (arith, x .apart)) in

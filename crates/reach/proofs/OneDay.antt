@@ -22,7 +22,7 @@ use Rattle.rules.specs.Spans.{isRead, lastRead, nextRead, advance, rangeOf, lea
 use Rattle.book.specs.Answers.{Answer, isStored, byVersion}
 use Rattle.book.specs.Arguments.{argumentRules}
 use Rattle.book.specs.Arguments.Call.{delivery, register}
-use Rattle.book.specs.Plain.{deliveries, dialReads, agreements, named, highest, contentWith, againstKept, plainAnswer, keep, keptOf, bookOf}
+use Rattle.book.specs.Plain.{deliveries, keptReads, agreements, named, highest, contentWith, againstKept, plainAnswer, keep, keptOf, bookOf}
 use Rattle.reach.specs.Needed.{Late, before, after, figure, Moves, OnlyItself, OnlyBeside, OnlySpan}
 use Rattle.reach.proofs.Outside.{cut, apart, same-day, no-span}
 use Rattle.reach.proofs.Answered.{moves-by}
@@ -74,7 +74,7 @@ tests =
     ∷ []
 
 computed : every tests ≡ true
-unfolding outcomeAt between lastRead nextRead isRead filledAt fromReferences references sumOf meanOf weekBack weeksBack isReference isLinear linearValue lineValue runStart runLength runFrom runBefore inRun isAgreed isOutageZero outageAfter outageBefore outageAt goodAt causeAt causeOf isGap timeChangeBit outageBit partialBit firstBack farthestBack weeksWithin slotCount slotsPerDay upTo bookOf keptOf keep plainAnswer againstKept named agreements dialReads deliveries highest contentWith argumentRules byVersion headOk intervalOk firstDay leap monthLengths monthLength yearLength daysBeforeMonth daysBeforeYear dayNumber isDate toSunday sum inSpan stateOf stateBy range rangeOf G advance R leastIn actualSum isNear start slotsIn any spans spansFrom spanFrom spanTo spanOf
+unfolding outcomeAt between lastRead nextRead isRead filledAt fromReferences references sumOf meanOf weekBack weeksBack isReference isLinear linearValue lineValue runStart runLength runFrom runBefore inRun isAgreed isOutageZero outageAfter outageBefore outageAt goodAt causeAt causeOf isGap timeChangeBit outageBit partialBit firstBack farthestBack weeksWithin slotCount slotsPerDay upTo bookOf keptOf keep plainAnswer againstKept named agreements keptReads deliveries highest contentWith argumentRules byVersion headOk intervalOk firstDay leap monthLengths monthLength yearLength daysBeforeMonth daysBeforeYear dayNumber isDate toSunday sum inSpan stateOf stateBy range rangeOf G advance R leastIn actualSum isNear start slotsIn any spans spansFrom spanFrom spanTo spanOf
 computed = refl
 
 -- what test k of them says

@@ -14,7 +14,7 @@ use Rattle.rules.specs.Filling.{outageAt, isAgreed, isReference, references, fr
 use Rattle.rules.specs.Spans.{isRead, outcomeAt, spans}
 use Rattle.rules.proofs.References.{references-searched}
 use Rattle.book.specs.Arguments.{Call}
-use Rattle.book.specs.Plain.{deliveries, dialReads, agreements, highest, slotVersion, slotContent, readVersion, agreedVersion, bookOf}
+use Rattle.book.specs.Plain.{deliveries, keptReads, agreements, highest, slotVersion, slotContent, readVersion, agreedVersion, bookOf}
 use Rattle.reach.proofs.LastSlot.{outside, no-spans, weeks-one, filled-last}
 
 -- the slot's kept delivery is good
@@ -29,7 +29,7 @@ pub record Sparse (h : Head) (kept : List Call) (i p j : ℕ) : Type 0 where
   pub day : j / slotsPerDay h ≤ h .days
   pub apart : i < p
   pub empty : (k : ℕ) → (k ≡ i → ⊥) → (k ≡ p → ⊥) → deliveries k kept ≡ []
-  pub unread : (d : ℕ) → dialReads d kept ≡ []
+  pub unread : (d : ℕ) → keptReads d kept ≡ []
   pub unagreed : agreements j kept ≡ []
   pub left : goodIn h kept p ≡ true
   pub calm : outageBit (slotContent kept p .status) ≡ false
@@ -76,7 +76,7 @@ module _ (h : Head) (kept : List Call) where
     unfolding isAgreed bookOf highest
     free-at e = rw (upTo-at (agreedVersion kept) 0 (slotCount h) k l, e)
 
-  read-none : ((d : ℕ) → dialReads d kept ≡ []) → (d : ℕ) → d ≤ h .days → isRead (b .reads) d ≡ false
+  read-none : ((d : ℕ) → keptReads d kept ≡ []) → (d : ℕ) → d ≤ h .days → isRead (b .reads) d ≡ false
   unfolding isRead bookOf highest
   read-none u d l = rw (upTo-at (readVersion kept) 0 (suc (h .days)) d (omega arith), u d)
 
