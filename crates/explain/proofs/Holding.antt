@@ -1,5 +1,5 @@
 -- The span that a slot lies in: its boundaries, and its figures and scaling from the sums of its slots.
-use mathlib.Core.Bool.{Bool, true, false, cond}
+use mathlib.Core.Bool.{Bool, true, false}
 use mathlib.Core.List.{List}
 use mathlib.Core.Option.{Option, none, some}
 use mathlib.Core.Path.{_≡_, refl, sym, ap, _∙_}
@@ -9,20 +9,17 @@ use native.Mathlib.Numerals.{sub-one}
 use native.Mathlib.Omega.{arith}
 use borrow.Author.Tests.{eq-eqb, ne-eqb}
 use lib.Dec.{eqb}
-use Rattle.base.specs.Lists.{sum}
-use Rattle.base.proofs.Sums.{sum-cong}
 use Rattle.rules.specs.declared.Head.{Head}
 use Rattle.rules.specs.declared.spans.Scaling.{Scaling}
 use Rattle.rules.specs.declared.spans.Summary.{Summary}
 use Rattle.rules.specs.Opening.{Slots, Agreed, Cells, slotsPerDay, slotCount}
-use Rattle.rules.specs.Spans.{isS, isRead, lastRead, nextRead, filled, shape, start, slotsIn, G, range, R, actualSum, stateOf, T, allZero, e, E, P}
+use Rattle.rules.specs.Spans.{isRead, lastRead, nextRead, start, slotsIn, G, range, R, actualSum, stateOf, T, allZero, e, E, P}
 use Rattle.rules.specs.Lent.{cells}
 use Rattle.rules.specs.Inner.Summaries.{summaryOf, scalingOf}
 use Rattle.rules.specs.Inner.Stretches.{scalingAt, spanStretch, stretchOf, stretchOn, stretchAt}
 use Rattle.rules.proofs.Bounds.{Bounded}
 use Rattle.rules.proofs.Boundaries.{last-tells, next-tells}
-use Rattle.rules.proofs.Meeting.{scaled-advance}
-use Rattle.rules.proofs.Shapes.{shape-of-s}
+use Rattle.rules.proofs.Meeting.{compared-advance, summary, weights, compared-is}
 use Rattle.explain.specs.declared.Spanned.{Spanned}
 use Rattle.explain.specs.Explain.{noneSpanned, spannedBy, earlier, later}
 use Rattle.explain.specs.Inner.Holding.{unscaled, scalingWith, spannedWith, Between}
@@ -65,24 +62,15 @@ between-read h w r i first last p q =
 
 -- its figures and scaling, from the sums of its slots
 module _ (h : Head) (b : Cells) (first last : ℕ) where
-  abbrev summary : ℕ → Summary
-  summary k = summaryOf h (b .slots) (b .agreed) (b .holidays) (start h b first last) k
-
-  weights : (ones : Bool) (k : ℕ) → sum (λ i. cond (isS (filled h b first last i .quality)) (cond ones 1 (shape h b first last i)) 0) (start h b first last) k
-      ≡ cond ones (summary k .count) (summary k .shapes)
-  unfolding summaryOf
-  weights true k = refl
-  weights false k = sum-cong _ _ _ _ (λ i l m. shape-of-s h (b .slots) (b .agreed) (b .holidays) i)
-
-  module _ (m : Summary) (p : m ≡ summary (slotsIn h b first last)) where
+  module _ (m : Summary) (p : m ≡ summary h b first last (slotsIn h b first last)) where
     pub spanned-found : spannedWith h (b .readings) (b .widths) first last m ≡ spannedBy h b (some first) (some last)
-    unfolding spannedWith spannedBy G range R stateOf actualSum summaryOf
-    spanned-found = rw p
+    unfolding spannedWith spannedBy actualSum summaryOf
+    spanned-found = rw (compared-is h b first last m p, p)
 
-    module _ (i : ℕ) (before : Summary) (q : before ≡ summary (i - start h b first last)) where
+    module _ (i : ℕ) (before : Summary) (q : before ≡ summary h b first last (i - start h b first last)) where
       scaling-before : scalingWith 1 m before (R h b first last) ≡ scalingAt h b first last i
       unfolding scalingWith T actualSum allZero E e P summaryOf
-      scaling-before = rw (p, q, weights (allZero h b first last) (slotsIn h b first last), weights (allZero h b first last) (i - start h b first last))
+      scaling-before = rw (p, q, weights h b first last (allZero h b first last) (slotsIn h b first last), weights h b first last (allZero h b first last) (i - start h b first last))
 
       pub held-scaling : (s : Spanned) → s ≡ spannedWith h (b .readings) (b .widths) first last m → scalingWith (s .state) m before (s .advance) ≡ spanStretch h b first last i .by
       unfolding spanStretch spannedBy scalingWith
@@ -111,7 +99,7 @@ unfolding spannedWith
 spanned-advance h readings widths first last m s e z =
     let state = ap (λ (x : Spanned). x .state) e in
     let r = ap (λ (x : Spanned). x .advance) e in
-    rw r (scaled-advance _ _ _ _ _ _ (sym state ∙ z))
+    rw r (compared-advance h readings widths first last m _ refl (sym state ∙ z))
 
 -- they rest on no register version
 module _ (h : Head) (s : Slots) (holidays readings v w : List ℕ) (agreed : Agreed) (widths : List ℕ) (first last : ℕ) where

@@ -5,13 +5,11 @@ use mathlib.Core.Logic.{⊎-elim}
 use mathlib.Core.Option.{Option, none, some}
 use mathlib.Core.Path.{_≡_, refl, sym, ap, _∙_}
 use Prim.Native.Nat.{ℕ, _+_, _-_, _/_, _≤_, _<_}
-use native.Mathlib.Nat.{add-zero}
 use native.Mathlib.Omega.{arith}
 use borrow.Author.Tests.{ne-eqb}
 use lib.Dec.{eqb}
 use lib.ListN.{length}
 use Rattle.base.proofs.Logic.{either}
-use Rattle.base.proofs.Sums.{any-some}
 use Rattle.rules.specs.declared.Head.{Head}
 use Rattle.rules.specs.declared.Outcome.{Outcome}
 use Rattle.rules.specs.declared.spans.Scaling.{Scaling}
@@ -20,7 +18,7 @@ use Rattle.rules.specs.declared.tests.Cause.{Cause}
 use Rattle.rules.specs.Opening.{Slots, Agreed, Cells, slotsPerDay}
 use Rattle.rules.specs.Tests.{causeAt, goodAt}
 use Rattle.rules.specs.Filling.{isOutageZero, isAgreed, inRun, isLinear, references, fromReferences, filledAt, shapeAt}
-use Rattle.rules.specs.Spans.{isS, lastRead, nextRead, filled, shape, start, slotsIn, stateOf, allZero, e, E, P, C, outcomeAt}
+use Rattle.rules.specs.Spans.{isS, lastRead, nextRead, filled, shape, start, slotsIn, stateOf, allZero, E, P, C, outcomeAt}
 use Rattle.rules.specs.Inner.Lent.{WidthsLow}
 use Rattle.rules.specs.Inner.Walks.{lineAt, lineThrough, walkAt}
 use Rattle.rules.specs.Inner.Summaries.{scaledBy}
@@ -28,8 +26,8 @@ use Rattle.rules.specs.Inner.Stretches.{spanStretch, stretchOf, stretchOn, stre
 use Rattle.rules.proofs.Bounds.{Bounded}
 use Rattle.rules.proofs.Lines.{walk-line}
 use Rattle.rules.proofs.Places.{span-end}
-use Rattle.rules.proofs.Scaling.{running, zero-each, shape-positive}
-use Rattle.rules.proofs.Steps.{step-fits, step-done}
+use Rattle.rules.proofs.Scaling.{running}
+use Rattle.rules.proofs.Steps.{weight, whole-low, step-fits, step-done}
 use Rattle.explain.specs.declared.Rule.{Rule}
 use Rattle.explain.specs.declared.Found.{Found}
 use Rattle.explain.specs.declared.Shares.{Shares}
@@ -92,20 +90,11 @@ module _ (h : Head) (w : Bounded h) (b : Cells) (i : ℕ) where
 
   -- in a scaled span
   module _ (first last : ℕ) (l : start h b first last ≤ i) (m : i < start h b first last + slotsIn h b first last) (q : isS (o .quality) ≡ true) where
-    -- where all e are 0, 1 is added
-    weight : e h b first last i ≡ x + cond (allZero h b first last) 1 0
-    unfolding e
-    weight = rw q (go (allZero h b first last) refl)
-      where
-        go : (z : Bool) → allZero h b first last ≡ z → cond z 1 x ≡ x + cond z 1 0
-        go true z = rw (zero-each h b first last z i l m)
-        go false z = sym (add-zero x)
-
-    whole-low : E h b first last ≡ 0 → ⊥
-    whole-low z = omega (arith, shape-positive h b first last (any-some (λ j. isS (filled h b first last j .quality)) (start h b first last) (slotsIn h b first last) i l m q))
+    whole-some : E h b first last ≡ 0 → ⊥
+    whole-some z = omega (arith, whole-low h w b i first last l m q)
 
     reached-is : P h b first last i + (x + cond (allZero h b first last) 1 0) ≡ C h b first last i
-    reached-is = rw (← weight) (sym (running h b first last i l))
+    reached-is = rw (← weight h w b i first last l m q) (sym (running h b first last i l))
 
   -- C stands in the scaling one slot on
   abbrev told : Scaling → Shares
@@ -121,7 +110,7 @@ module _ (h : Head) (w : Bounded h) (b : Cells) (i : ℕ) where
   shares-span first last l m = go (isS (o .quality)) (eqb (stateOf h b first last) 1) refl refl
     where
       go : (q t : Bool) → isS (o .quality) ≡ q → eqb (stateOf h b first last) 1 ≡ t → told (spanStretch h b first last i .by) ≡ sharesBy h b (some first) (some last) i
-      go true true q t = rw (q, t, ne-eqb _ _ (whole-low first last l m q), reached-is first last l m q)
+      go true true q t = rw (q, t, ne-eqb _ _ (whole-some first last l m q), reached-is first last l m q)
       go true false q t = rw (q, t)
       go false t q u = rw q
 

@@ -3,7 +3,6 @@ use crate::Spanned;
 use crate::back;
 use rules::Head;
 use rules::opening;
-use rules::range;
 use rules::readings;
 use rules::readings::Next;
 use rules::spans;
@@ -130,18 +129,17 @@ fn spanned(
         ⌝ }
     ensures { λ r. ⌜ r ≡ spannedWith head (now (readings .entry)) (now (widths .entry)) first last sum ⌝ }
 {
-    let advance = spans::advanced(readings[first], readings[last]);
-    let range = range::range_of(advance, widths[first], widths[last]);
-    let r = range::least_in(range, sum.actual);
+    let found = spans::compare(head, readings, widths, first, last, sum);
+    let range = found.range;
     Spanned {
         inside: true,
         first: first as u32,
         last: last as u32,
         lowest: range.lowest,
         highest: range.highest,
-        advance: r,
+        advance: found.advance,
         actual: sum.actual,
-        state: spans::state_of(sum, range, r, head.tolerance as u64),
+        state: found.state,
     }
 }
 

@@ -97,7 +97,7 @@ module _ (h : Head) (w : Bounded h) (b : Cells) (i : ℕ) where
 
     module _ (q : isS (o .quality) ≡ true) where
       -- where all e are 0, 1 is added
-      weight : e h b first last i ≡ x + cond (allZero h b first last) 1 0
+      pub weight : e h b first last i ≡ x + cond (allZero h b first last) 1 0
       unfolding e
       weight = rw q (go (allZero h b first last) refl)
         where
@@ -114,7 +114,7 @@ module _ (h : Head) (w : Bounded h) (b : Cells) (i : ℕ) where
       scaling-on = rw (← weight, passed)
 
       -- the span is scaled
-      whole-low : 0 < E h b first last
+      pub whole-low : 0 < E h b first last
       whole-low = shape-positive h b first last (any-some (λ j. isS (filled h b first last j .quality)) (start h b first last) (slotsIn h b first last) i l m q)
 
       scaling : scales (within h b first last i) ≡ true

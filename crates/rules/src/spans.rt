@@ -16,9 +16,9 @@ ghost use Rattle.base.specs.Numbers.{dialModulus};
 ghost use Rattle.rules.specs.Opening.{slotCount};
 ghost use Rattle.rules.specs.Spans.{isS, advance, stateBy, share};
 ghost use Rattle.rules.specs.Lent.{lentSlots, lentAgreed};
-ghost use Rattle.rules.specs.Inner.Lent.{Lent, Settled};
+ghost use Rattle.rules.specs.Inner.Lent.{Lent, Settled, Dialled, Widths};
 ghost use Rattle.rules.specs.Inner.Walks.{walkAt};
-ghost use Rattle.rules.specs.Inner.Summaries.{summaryOf, actualAdded, addedTo, scalingOf, scaledBy, Scales};
+ghost use Rattle.rules.specs.Inner.Summaries.{summaryOf, actualAdded, addedTo, comparedWith, scalingOf, scaledBy, Scales};
 
 // V, the sum and the number of the shapes, whether a slot is N, whether one is S.
 pub struct Summary {
@@ -35,6 +35,13 @@ pub struct Scaling {
     pub whole: u64,
     pub extra: u64,
     pub passed: u64,
+}
+
+// Where the advance of a span lies, R and the state.
+pub struct Compared {
+    pub range: Range,
+    pub advance: u64,
+    pub state: u8,
 }
 
 // A slot's new value, and the scaling one slot on.
@@ -149,7 +156,7 @@ pub fn summarise(
 }
 
 // G, for a dial of eight digits.
-pub fn advanced(earlier: u32, later: u32) -> u32
+fn advanced(earlier: u32, later: u32) -> u32
     requires { ⌜ earlier < dialModulus ⌝ }
     ensures { λ r. ⌜ r ≡ advance earlier later ⌝ }
 {
@@ -158,7 +165,7 @@ pub fn advanced(earlier: u32, later: u32) -> u32
 }
 
 // 0 agrees, 1 scaled, 2 open, 3 disagrees.
-pub fn state_of(sum: Summary, range: Range, r: u64, tolerance: u64) -> u8
+fn state_of(sum: Summary, range: Range, r: u64, tolerance: u64) -> u8
     ensures { λ s. ⌜ s ≡ stateBy (sum .hole) (sum .filled) range r (sum .actual) tolerance ⌝ }
 {
     if sum.hole {
@@ -174,6 +181,34 @@ pub fn state_of(sum: Summary, range: Range, r: u64, tolerance: u64) -> u8
         return 0;
     }
     3
+}
+
+// The span between two boundaries, its readings compared with its sums.
+pub fn compare(
+    head: Head,
+    readings: &[u32],
+    widths: &[u16],
+    first: usize,
+    last: usize,
+    sum: Summary,
+) -> Compared
+    requires { ⌜
+        Dialled head (now readings)
+        × Widths head (now widths)
+        × (first ≤ head .days)
+        × (last ≤ head .days)
+        × (head .days ≤ 400)
+        ⌝ }
+    ensures { λ r. ⌜ r ≡ comparedWith head (now (readings .entry)) (now (widths .entry)) first last sum ⌝ }
+{
+    let advance = advanced(readings[first], readings[last]);
+    let range = range::range_of(advance, widths[first], widths[last]);
+    let r = range::least_in(range, sum.actual);
+    Compared {
+        range: range,
+        advance: r,
+        state: state_of(sum, range, r, head.tolerance as u64),
+    }
 }
 
 // floor(t × c / e).

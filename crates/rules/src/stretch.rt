@@ -4,7 +4,6 @@ use crate::Outcome;
 use crate::Quality;
 use crate::Span;
 use crate::opening;
-use crate::range;
 use crate::readings;
 use crate::readings::Next;
 use crate::spans;
@@ -121,20 +120,18 @@ fn meet(
         walk,
         (last - first) * day,
     );
-    let advance = spans::advanced(readings[first], readings[last]);
-    let range = range::range_of(advance, widths[first], widths[last]);
-    let r = range::least_in(range, sum.actual);
-    let state = spans::state_of(sum, range, r, head.tolerance as u64);
+    let found = spans::compare(head, readings, widths, first, last, sum);
+    let range = found.range;
     let span = Span {
         first: first as u32,
         last: last as u32,
         lowest: range.lowest,
         highest: range.highest,
-        state: state,
+        state: found.state,
     };
     Met {
         span: span,
-        stretch: stretch_by(last * day, state, sum, r),
+        stretch: stretch_by(last * day, found.state, sum, found.advance),
     }
 }
 

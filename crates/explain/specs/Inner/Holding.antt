@@ -3,13 +3,13 @@ use mathlib.Core.Bool.{true, cond, not, _&&_}
 use mathlib.Core.List.{List}
 use Prim.Native.Nat.{ℕ, _-_, _*_, _≤_, _<_}
 use lib.Dec.{eqb}
-use lib.ListN.{getD}
 use Rattle.rules.specs.declared.Head.{Head}
 use Rattle.rules.specs.declared.Quality.{Quality}
 use Rattle.rules.specs.declared.spans.Scaling.{Scaling}
 use Rattle.rules.specs.declared.spans.Summary.{Summary}
 use Rattle.rules.specs.Opening.{slotsPerDay}
-use Rattle.rules.specs.Spans.{isS, advance, rangeOf, leastIn, stateBy}
+use Rattle.rules.specs.Spans.{isS}
+use Rattle.rules.specs.Inner.Summaries.{comparedWith}
 use Rattle.rules.specs.Inner.Stretches.{unscaledTo}
 use Rattle.explain.specs.declared.Spanned.{Spanned}
 use Rattle.explain.specs.declared.Shares.{Shares}
@@ -34,17 +34,16 @@ scalingWith state m before r =
 -- the figures of a span with the sums m
 unfoldable pub spannedWith : Head → List ℕ → List ℕ → ℕ → ℕ → Summary → Spanned
 spannedWith h readings widths first last m =
-    let found = rangeOf (advance (getD readings first 0) (getD readings last 0)) (getD widths first 0) (getD widths last 0) in
-    let r = leastIn found (m .actual) in
+    let found = comparedWith h readings widths first last m in
     record {
       inside = true;
       first = first;
       last = last;
-      lowest = found .lowest;
-      highest = found .highest;
-      advance = r;
+      lowest = found .range .lowest;
+      highest = found .range .highest;
+      advance = found .advance;
       actual = m .actual;
-      state = stateBy (m .hole) (m .filled) found r (m .actual) (h .tolerance);
+      state = found .state;
     }
 
 -- slot i lies between two boundaries

@@ -3,16 +3,18 @@ use mathlib.Core.Bool.{cond, _||_}
 use mathlib.Core.List.{List}
 use Prim.Native.Nat.{ℕ, _+_, _-_, _≤_, _<_}
 use lib.Dec.{eqb}
+use lib.ListN.{getD}
 use Rattle.base.specs.Lists.{sum, any}
 use Rattle.base.specs.Numbers.{dialModulus}
 use Rattle.rules.specs.declared.Head.{Head}
 use Rattle.rules.specs.declared.Outcome.{Outcome}
 use Rattle.rules.specs.declared.spans.Summary.{Summary}
+use Rattle.rules.specs.declared.spans.Compared.{Compared}
 use Rattle.rules.specs.declared.spans.Scaling.{Scaling}
 use Rattle.rules.specs.declared.spans.Scaled.{Scaled}
 use Rattle.rules.specs.Opening.{Slots, Agreed}
 use Rattle.rules.specs.Filling.{filledAt, shapeAt}
-use Rattle.rules.specs.Spans.{isS, isN, actualIn, share}
+use Rattle.rules.specs.Spans.{isS, isN, actualIn, advance, rangeOf, leastIn, stateBy, share}
 
 -- 1 for an S slot, and its shape
 abbrev pub oneIn : Outcome → ℕ
@@ -50,6 +52,13 @@ addedTo m o shape = record {
   hole = m .hole || isN (o .quality);
   filled = m .filled || isS (o .quality);
 }
+
+-- where the advance of the span between two boundaries lies, R and the state, with the sums m
+unfoldable pub comparedWith : Head → List ℕ → List ℕ → ℕ → ℕ → Summary → Compared
+comparedWith h readings widths first last m =
+    let range = rangeOf (advance (getD readings first 0) (getD readings last 0)) (getD widths first 0) (getD widths last 0) in
+    let r = leastIn range (m .actual) in
+    record { range = range; advance = r; state = stateBy (m .hole) (m .filled) range r (m .actual) (h .tolerance) }
 
 -- T, E and a P of 0 where the advance is r
 unfoldable pub scalingOf : Summary → ℕ → Scaling

@@ -1,80 +1,21 @@
--- `held::spanned` computes as the specification does.
-use native.Mathlib.Omega.{arith}
-use lib.ListN.{getD}
-use Rattle.rules.proofs.Ranges.{advance-below}
+-- `held::spanned` has the figures of the comparison.
 use Rattle.explain.specs.Inner.Holding.{spannedWith}
 use borrow.Author.Needs.{needs}
 use Rattle.explain.proofs.held.spanned.Statement.{statement}
 use Rattle.explain.proofs.held.spanned.Tie as tie
 
-mul-advanced : tie.Need-mul-advanced
-mul-advanced c = search needs
+compare-requires : tie.Need-compare-requires
+compare-requires c κs = search needs
 
-shared-slice-read-advanced : tie.Need-shared-slice-read-advanced
-shared-slice-read-advanced c = search needs
+cast-t9 : tie.Need-cast-t9
+cast-t9 c = search needs
 
-mul-advanced-2 : tie.Need-mul-advanced-2
-mul-advanced-2 c = search needs
-
-shared-slice-read-advanced-2 : tie.Need-shared-slice-read-advanced-2
-shared-slice-read-advanced-2 c = search needs
-
-advanced-requires : tie.Need-advanced-requires
-advanced-requires c κs = (c .before .before .before .before) .pre .0 .low ((c .before .before .before .before) .args .first)
-
-mul-range-of : tie.Need-mul-range-of
-mul-range-of c = search needs
-
-shared-slice-read-range-of : tie.Need-shared-slice-read-range-of
-shared-slice-read-range-of c = search needs
-
-mul-range-of-2 : tie.Need-mul-range-of-2
-mul-range-of-2 c = search needs
-
-shared-slice-read-range-of-2 : tie.Need-shared-slice-read-range-of-2
-shared-slice-read-range-of-2 c = search needs
-
-range-of-requires : tie.Need-range-of-requires
-range-of-requires c κs = let a = (c .before .before .before .before .before .before .before) .args in
-    let l = advance-below (getD (a .readings .now) (a .first) 0) (getD (a .readings .now) (a .last) 0) in
-    omega (arith, c .before .before .advanced .ensures, l)
-
-least-in-requires : tie.Need-least-in-requires
-least-in-requires c κs = search needs
-
-cast-t15 : tie.Need-cast-t15
-cast-t15 c = search needs
-
-cast-t12 : tie.Need-cast-t12
-cast-t12 c = search needs
-
-cast-state-of : tie.Need-cast-state-of
-cast-state-of c = search needs
-
-state-of-requires : tie.Need-state-of-requires
-state-of-requires c κs = search needs
+cast-t10 : tie.Need-cast-t10
+cast-t10 c = search needs
 
 returns : tie.Need-returns
 unfolding spannedWith
-returns c = rw (c .state-of .ensures, c .before .before .least-in .ensures, c .before .before .before .range-of .ensures, c .before .before .before .before .before .before .advanced .ensures)
+returns c = rw (c .before .compare .ensures)
 
 pub spanned-spec : {M : Type 1} → statement M
-spanned-spec =
-    tie.close
-    (tie.spec
-    mul-advanced
-    shared-slice-read-advanced
-    mul-advanced-2
-    shared-slice-read-advanced-2
-    advanced-requires
-    mul-range-of
-    shared-slice-read-range-of
-    mul-range-of-2
-    shared-slice-read-range-of-2
-    range-of-requires
-    least-in-requires
-    cast-t15
-    cast-t12
-    cast-state-of
-    state-of-requires
-    returns)
+spanned-spec = tie.close (tie.spec compare-requires cast-t9 cast-t10 returns)
