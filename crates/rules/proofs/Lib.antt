@@ -24,3 +24,4 @@ pub mod Stretches
 pub mod Steps
 pub mod Begun
 pub mod Counts
+pub mod Directs

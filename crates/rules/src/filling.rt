@@ -223,7 +223,7 @@ fn by_agreement(value: u32) -> Outcome
 
 // The outcome before scaling of slot `at`, which has a cause, and its shape; `outage` says whether outage zero applies, `line`
 // which line it lies on.
-fn unscaled(
+pub fn unscaled(
     head: Head,
     values: &[u32],
     versions: &[u32],

@@ -1,4 +1,5 @@
 // The rules of document 01: opening bounds, tests of a slot, filling, spans.
+pub mod direct;
 pub mod filling;
 pub mod limits;
 pub mod linear;

@@ -2,12 +2,12 @@
 use crate::Head;
 use crate::Outcome;
 use crate::Quality;
+use crate::direct;
 use crate::filling;
 use crate::linear;
 use crate::outage;
 use crate::range;
 use crate::range::Range;
-use crate::tests;
 use crate::walk::Walk;
 use base::DIAL_MODULUS;
 ghost use mathlib.Core.Path.{_≡_};
@@ -124,18 +124,41 @@ pub fn summarise(
         filled: false,
     };
     let start = first.at;
+    let to = start + count;
     let mut outage = first.outage;
     let mut line = first.line;
     let mut k = 0;
     while k < count {
         let at = start + k;
-        if tests::is_good(head, values, versions, statuses, at) {
-            outage = false;
+        let run = direct::add_up(
+            head,
+            values,
+            versions,
+            statuses,
+            agreed,
+            agreed_versions,
+            at,
+            to,
+            outage,
+        );
+        if at < run.end {
+            outage = run.outage;
             line = linear::bare(0);
-            sum = add(sum, filling::delivered(values[at]), 0);
+            sum = add_actual(sum, run.sum);
+            k = run.end - start;
         } else {
             outage = outage::outage_zero(versions, statuses, at, outage);
-            let lined = filling::fill_cause(
+            line = linear::line_on(
+                head,
+                values,
+                versions,
+                statuses,
+                agreed_versions,
+                at,
+                outage,
+                line,
+            );
+            let shaped = filling::unscaled(
                 head,
                 values,
                 versions,
@@ -147,10 +170,9 @@ pub fn summarise(
                 outage,
                 line,
             );
-            line = lined.line;
-            sum = add(sum, lined.outcome, lined.shape);
+            sum = add(sum, shaped.outcome, shaped.shape);
+            k += 1;
         }
-        k += 1;
     }
     sum
 }

@@ -1,7 +1,8 @@
 -- What the walk that fills the slots knows at a slot.
-use mathlib.Core.Bool.{Bool, false, cond, _&&_, _||_}
+use mathlib.Core.Bool.{Bool, true, false, cond, _&&_, _||_}
 use mathlib.Core.List.{List, [], _∷_}
-use Prim.Native.Nat.{ℕ, zero, suc, _+_, _-_, _*_, _≤_}
+use mathlib.Core.Path.{_≡_}
+use Prim.Native.Nat.{ℕ, zero, suc, _+_, _-_, _*_, _≤_, _<_}
 use lib.Dec.{leb, ltb}
 use lib.ListN.{getD}
 use Rattle.base.specs.Lists.{every}
@@ -10,10 +11,11 @@ use Rattle.rules.specs.declared.Outcome.{Outcome}
 use Rattle.rules.specs.declared.Quality.the-variants.{A, F}
 use Rattle.rules.specs.declared.walk.Walk.{Walk}
 use Rattle.rules.specs.declared.linear.Line.{Line}
-use Rattle.rules.specs.Opening.{Slots, slotCount}
+use Rattle.rules.specs.Opening.{Slots, Agreed, slotCount}
 use Rattle.rules.specs.Tests.{isGap, goodAt}
-use Rattle.rules.specs.Filling.{outageBefore, outageAfter, inRun, runBefore, runFrom, runStart, runLength, isLinear}
+use Rattle.rules.specs.Filling.{outageBefore, outageAfter, isAgreed, inRun, runBefore, runFrom, runStart, runLength, isLinear}
 use Rattle.rules.specs.Numbers.{mostMinutes}
+use Rattle.rules.specs.Inner.Lent.{Fitted, Settled}
 
 -- a good slot with this value
 abbrev pub actualOf : ℕ → Outcome
@@ -32,6 +34,30 @@ zeroAt versions statuses n i =
 unfoldable pub zeroBefore : List ℕ → List ℕ → ℕ → ℕ → Bool
 zeroBefore versions statuses n zero = false
 zeroBefore versions statuses n (suc i) = zeroAt versions statuses n i
+
+-- slot i is direct: good, or agreed
+unfoldable pub directAt : Head → Slots → Agreed → ℕ → Bool
+directAt h s a i = goodAt h s i || isAgreed (a .versions) i
+
+-- and its outcome
+unfoldable pub directOf : Head → Slots → Agreed → ℕ → Outcome
+directOf h s a i = cond (goodAt h s i) (actualOf (getD (s .values) i 0)) (agreedOf (getD (a .values) i 0))
+
+-- before slot `from`, with lists that fit and slots up to `to` in the book
+pub record DirectFrom (h : Head) (s : Slots) (a : Agreed) (from to : ℕ) (before : Bool) : Type 0 where
+  pub fitted : Fitted h s
+  pub settled : Settled h a
+  pub ordered : from ≤ to
+  pub inside : to ≤ slotCount h
+  pub outage : before ≡ zeroBefore (s .versions) (s .statuses) (slotCount h) from
+
+-- the slots from `from` on are direct as far as `end`, which is `to` or stands before a slot that is not
+pub record DirectTo (h : Head) (s : Slots) (a : Agreed) (from to end : ℕ) (last : Bool) : Type 0 where
+  pub further : from ≤ end
+  pub inside : end ≤ to
+  pub direct : (i : ℕ) → i < end → from ≤ i → directAt h s a i ≡ true
+  pub stops : end < to → directAt h s a end ≡ false
+  pub outage : last ≡ zeroBefore (s .versions) (s .statuses) (slotCount h) end
 
 -- the j-th slot of a run that no line fills; 0 where there is no run
 abbrev pub bareLine : ℕ → Line
