@@ -45,6 +45,7 @@ extern "C" {
 
 /* What is published is longer than every refusal's number. */
 #define SAWMAUVE_SHORTEST 32
+#define SAWMAUVE_LONGEST 696832
 
 /* Where sawmauve_unpack or sawmauve_limit gives this or more, it is this plus a refusal's number; every reading and limit is below it. */
 #define SAWMAUVE_READINGS 100000000
