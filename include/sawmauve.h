@@ -1,16 +1,55 @@
-/* The berth meter book for C: link libsawmauve.a.
+/* The berth meter book for C. Link libsawmauve.a, for x86-64 Linux; of the C library it uses memset alone.
  *
- * A list is a pointer and its number of elements. The lists of one call must not overlap, and no other thread may write
- * them meanwhile: the proofs rest on it. A refused call changes no list.
+ * A book holds one meter channel in lists that the caller lends. The head, seven numbers, is given to every call of a book:
  *
- * Refusals, the same numbers in every call:
+ *   year, month, day   the first day, 2000-01-01 to 2099-12-31
+ *   days               D, 1 to 400; the last day not after 2099-12-31
+ *   interval           L in minutes: 5, 15 or 30
+ *   limit              demand limit in W, 1 to 1,000,000; not a kind: see sawmauve_limit
+ *   tolerance          in Wh, 0 to 1,000,000
+ *
+ * A day has n = 1440 / L slots (288, 96 or 48) and the book N = n * D, at most 115,200. All are counted from 0: slot i lies in
+ * day i / n, at position i % n of it. Boundary d is the start of day d; boundaries run from 0 to D, the end of the last day.
+ *
+ *   list              long    what a cell holds
+ *   values            N       the value that came for a slot, in Wh, any 32 bits
+ *   versions          N       its version; 0 where nothing came, and then the cell's value and status are 0
+ *   statuses          N       1 time change + 2 power outage + 4 partial interval: 0 to 7
+ *   holidays          D       1 for a holiday, else 0
+ *   readings          D + 1   the dial at a boundary, in Wh: 0 to 99,999,999
+ *   reads             D + 1   the reading's version; 0 where there is none
+ *   agreed            N       a value agreed with the skipper, in Wh: 0 to 99,999,999
+ *   agreed_versions   N       its version; 0 where there is none
+ *   counts            D       how many slots of a day have come, n where all have; may be read at any time between two calls
+ *   widths            D + 1   the dial stood from the reading to the reading plus this: 0 to 9,999
+ *
+ * Lists. A list is a pointer and its number of elements.
+ *   - An empty list may be NULL with length 0, in every call; nothing is read or written there (examples/empty.c).
+ *   - A list that a call may write (not const) must overlap no other list of that call. Lists that it only reads may overlap each
+ *     other. The proofs rest on this, and on no other thread writing the lists meanwhile.
+ *   - The library keeps nothing between calls and allocates nothing. Calls on separate lists may run at the same time.
+ *   - Every call takes any numbers and any contents of its lists, and ends.
+ *
+ * What stays unchanged. A refused call changes nothing. A list that is const never changes. What is written to `out` stands in its
+ * first bytes, as many as the answer says; the bytes after them stay as they were.
+ *
+ * The file. Numbers are unsigned, low byte first: N slot records, M span records, a trailer. docs/FILE.md has the rest.
+ *   slot, 6 bytes       value in Wh (4), quality 'A', 'S', 'F' or 'N' (1), method 0, 1, 2, 3, 5, 18 or 19 (1)
+ *   span, 14 bytes      first boundary (2), last boundary (2), lowest advance (4), highest advance (4), state 0 to 3 (1), 0 (1)
+ *   trailer, 32 bytes   first day from 2000-01-01 (2), D (2), L (1), layout 3 (1), M (2), counts of A, of S and F, of N slots (4
+ *                       each), sum of all values (8), bytes of the span table (4)
+ *   states              0 agrees, 1 scaled, 2 open, 3 disagrees
+ * Layouts 1 and 2, which are read and no longer written, have spans of 10 bytes, with one advance.
+ *
+ * Refusals, the same numbers in every call. The lowest that applies is given, with these exceptions: 12 and 17, like 1 to 6, go before
+ * 10 and 11; 11 goes before 10 and, in publishing, before 7; 13 goes before 1; sawmauve_nem12 has an order of its own.
  *    1  head outside its bounds
  *    2  a lent list of the wrong length
  *    3  slot >= N, day >= D or boundary > D
  *    4  version 0
  *    5  status over 7
  *    6  reading over 99,999,999
- *    7  output buffer shorter than the file
+ *    7  output buffer shorter than what is to be written
  *    8  reader: length, distance or a trailer's head field or layout wrong
  *    9  reader: anything else in the file broken
  *   10  conflict: equal version, other content
@@ -33,6 +72,8 @@
 #include <stddef.h>
 #include <stdint.h>
 
+#define SAWMAUVE_VERSION "0.3.0"
+
 #ifdef __cplusplus
 extern "C" {
 #endif
@@ -43,11 +84,11 @@ extern "C" {
 #define SAWMAUVE_LATE 100 /* a lower version than the cell's: nothing changes */
 #define SAWMAUVE_REPEAT 101 /* an equal version with equal content: nothing changes */
 
-/* What is published is longer than every refusal's number. */
+/* A published file has 6 N + 14 M + 32 bytes, above every refusal's number; the longest has 400 days of 5 minutes and 400 spans. */
 #define SAWMAUVE_SHORTEST 32
 #define SAWMAUVE_LONGEST 696832
 
-/* Where sawmauve_unpack or sawmauve_limit gives this or more, it is this plus a refusal's number; every reading and limit is below it. */
+/* Where sawmauve_unpack, sawmauve_limit, sawmauve_slot or sawmauve_date gives this or more, it is this plus a refusal's number. */
 #define SAWMAUVE_READINGS 100000000
 #define SAWMAUVE_PACKED 4 /* the bytes of a reading in packed decimal */
 
@@ -63,18 +104,15 @@ extern "C" {
 #define SAWMAUVE_LAYOUT 8      /* 3 in every file published now; 1, or 2 where a slot is F, in older ones */
 #define SAWMAUVE_FIGURES 9     /* how many there are */
 
-/* The head, which every call of a book is given: first day (2000-01-01 to 2099-12-31), D (1 to 400, the last day not after 2099-12-31), L (5, 15
- * or 30), demand limit in W (1 to 1,000,000), tolerance in Wh (0 to 1,000,000). The limit stands where the kind stood: a host that gave 1 or 2 there gives 40,000 or 70,000, or what sawmauve_limit answers. A head
- * that still has 1 or 2 is good, with a limit of 1 or 2 W. */
+/* The head: its bounds stand above. A host that gave a kind, 1 or 2, where the limit stands now gives 40,000 or 70,000, or what
+ * sawmauve_limit answers; a head that still has 1 or 2 there is good, with a limit of 1 or 2 W. */
 #define SAWMAUVE_HEAD \
     uint32_t year, uint32_t month, uint32_t day, uint32_t days, uint32_t interval, uint32_t limit, uint32_t tolerance
 
 /* The demand limit in W at a place of a table, counted from 1; or 100,000,000 plus 13 for the table, plus 1 for a kind that is no place. */
 uint32_t sawmauve_limit(const uint32_t *table, size_t table_len, uint32_t kind);
 
-/* Opens a book: sets all cells and counts to 0. values, versions, statuses, agreed and agreed_versions are N = 1440 / L * D long,
- * holidays and counts D, readings, reads (the register versions) and widths D + 1. 0, or 1 or 2. A day's count is how many of its slots
- * have come, 1440 / L where all have: a screen may read it at any time between two calls. */
+/* Opens a book: sets all cells and counts to 0, whatever they held. 0, or 1 or 2. */
 uint32_t sawmauve_open(
     SAWMAUVE_HEAD,
     uint32_t *values, size_t values_len,
@@ -229,9 +267,9 @@ uint64_t sawmauve_nem12(
 #define SAWMAUVE_DIFFERENCE 1 /* the published total minus the true total, in Wh */
 #define SAWMAUVE_REPORT 2     /* how many there are */
 
-/* Runs a berth on paper from a seed with `loss` of 1000 slots lost: opens the lists as sawmauve_open does, sends each slot, reads the dial at
- * both ends, and writes the file, 6 N + 14 + 32 bytes, into the first bytes of out. 0 and the report; or 1, 2 (also where report_len is not
- * 2), 7, 20, 21, and no list, byte or report is changed. */
+/* Simulates a berth from a seed with `loss` of 1000 slots lost: opens the lists as sawmauve_open does, sends each slot, reads the dial
+ * at both ends, and writes the file, 6 N + 14 + 32 bytes, into the first bytes of out. 0 and the report; or 1, 2 (also where report_len is
+ * not 2), 7, 20, 21, and no list, byte or report is changed. */
 uint32_t sawmauve_simulate(
     SAWMAUVE_HEAD,
     uint32_t seed, uint32_t loss,
@@ -250,8 +288,8 @@ uint32_t sawmauve_simulate(
 
 #define SAWMAUVE_OPENING 102    /* answers of a log: its opening */
 #define SAWMAUVE_NO_CALL 103    /* answers of a log: a line without a call: empty, a comment, limits */
-#define SAWMAUVE_NO_OPENING 104 /* no log: it has no opening */
-#define SAWMAUVE_NOT_A_CALL 105 /* no log: a line of it is no call */
+#define SAWMAUVE_NO_OPENING 104 /* not a log: it has no opening */
+#define SAWMAUVE_NOT_A_CALL 105 /* not a log: a line of it is not a call */
 #define SAWMAUVE_LIMITS 106     /* sawmauve_call: a table of limits */
 #define SAWMAUVE_DELIVERY 110   /* sawmauve_call: slot, version, value, status */
 #define SAWMAUVE_AGREED 111     /* sawmauve_call: slot, version, value */
@@ -290,15 +328,15 @@ uint32_t sawmauve_play(
 #define SAWMAUVE_CALL_FIELDS 7
 uint32_t sawmauve_call(const uint8_t *line, size_t line_len, uint32_t *fields, size_t fields_len);
 
-/* The slot of a book that a date and a minute of the day name; or 100,000,000 plus 1 for a bad head, or plus 3 for a date that is none
- * or outside the book, or a minute of 1,440 or more. */
+/* The slot of a book that a date and a minute of the day name; or 100,000,000 plus 1 for a bad head, or plus 3 for a date that is
+ * invalid or outside the book, or a minute of 1,440 or more. */
 uint32_t sawmauve_slot(SAWMAUVE_HEAD, uint32_t at_year, uint32_t at_month, uint32_t at_day, uint32_t minute);
 
 /* The date of a day number (0 is 2000-01-01) as year * 10,000 + month * 100 + day; or 100,000,000 plus 3 for one over 36,524. */
 uint32_t sawmauve_date(uint32_t day);
 
-/* 01's line of a file of any length, 'first day, D, L, counts of A, S and N, sum', without a line end, into the first bytes of out: its length, which is
- * above every refusal's number; or 8, 9, then 7. */
+/* The line of a file, 'first day, D, L, counts of A, of S and F, of N, sum' as `sawmauve show` writes it, without a line end, into the
+ * first bytes of out: its length, which is above every refusal's number; or 8, 9, then 7. 160 bytes are enough for every line. */
 uint64_t sawmauve_line(const uint8_t *file, size_t file_len, uint8_t *out, size_t out_len);
 
 #ifdef __cplusplus

@@ -9,13 +9,16 @@ fi
 archive=${SAWMAUVE_LIB:-build}/libsawmauve.a
 work=$(mktemp -d)
 trap 'rm -rf "$work"' EXIT
-# the slot table of a day, for strips.c
-sh scripts/whole-file.sh | head -c 288 > "$work/table"
-for example in berth charger host log office strips; do
+# a file of a day, for first.c, and its slot table, for strips.c
+sh scripts/whole-file.sh > "$work/first"
+head -c 288 "$work/first" > "$work/strips"
+for example in berth charger empty first host log office strips; do
+    input=/dev/null
+    if [ -f "$work/$example" ]; then input=$work/$example; fi
     gcc -std=c99 -pedantic -Wall -Wextra -Werror -O2 -Iinclude "examples/$example.c" "$archive" -o "$work/c"
     g++ -Wall -Wextra -Werror -O2 -Iinclude -x c++ "examples/$example.c" -x none "$archive" -o "$work/c++"
-    "$work/c" < "$work/table" > "$work/out"
-    "$work/c++" < "$work/table" | cmp - "$work/out"
+    "$work/c" < "$input" > "$work/out"
+    "$work/c++" < "$input" | cmp - "$work/out"
     if [ "$example" = strips ]; then
         echo "strips: $(wc -c < "$work/out") bytes"
     else
