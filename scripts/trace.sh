@@ -1,6 +1,6 @@
 #!/bin/sh
 # Looks up every name of docs/TRACE.md in the file that it stands for, and refuses a row that is shown by wrong builds of must-fail/more alone,
-# which the gate does not try. Prints what is wrong, and exits 1 if anything is.
+# which the gate does not try; and holds the layers of CONTRIBUTING.md against crates.txt. Prints what is wrong, and exits 1 if anything is.
 set -u
 cd "$(dirname "$0")/.."
 names=$(mktemp) || exit 2
@@ -55,4 +55,33 @@ while read -r builds; do
     missing=1
 done < "$names"
 [ "$missing" = 0 ] && echo "docs/TRACE.md: all $count names are there"
+# every crate has a row, which lists what it uses beside base and the kit's own crates, all of them in rows above
+awk '
+    function wrong(what) { print "CONTRIBUTING.md: " what; bad = 1 }
+    FNR == NR {
+        sub(/:/, "")
+        for (i = 2; i <= NF; i++) if ($i !~ /^(base|io|libc|os)$/) uses[$1] = uses[$1] " " $i
+        crates[$1]
+        next
+    }
+    /^\| `[a-z_]+` \|/ {
+        name = $2
+        gsub(/`/, "", name)
+        split($0, part, "|")
+        n = split(part[3], used, " ")
+        line = ""
+        for (i = 1; i <= n; i++) {
+            line = line " " used[i]
+            if (!(used[i] in above)) wrong(name " uses " used[i] ", which is not above it")
+        }
+        if (line != uses[name]) wrong(name " uses" uses[name] " in crates.txt, and here" line)
+        above[name]
+        rows++
+    }
+    END {
+        for (name in crates) if (!(name in above)) wrong(name " has no row")
+        for (name in above) if (!(name in crates)) wrong(name " is no crate")
+        if (!bad) print "CONTRIBUTING.md: the layers of all " rows " crates are those of crates.txt"
+        exit bad
+    }' crates.txt CONTRIBUTING.md || missing=1
 exit "$missing"

@@ -36,7 +36,7 @@ pub struct Behind<T> {
 }
 
 /// What two logs do not have in common: their heads; the calls that one accepted and the other did not, by line number; the slots and spans
-/// whose outcome differs; and behind equal outcomes, the slots and boundaries whose cells have other contents.
+/// whose outcome differs; and where the outcomes are equal, the slots and boundaries whose cells have other contents.
 ///
 /// Where first day, days or interval differ the slots are other times, and nothing but the heads is compared.
 #[derive(Clone, Debug, PartialEq, Eq)]

@@ -66,7 +66,7 @@ moved:
   2024-05-01 00:30: ours 7 F 5, theirs 0 N 0
 day 2024-05-01: ours 13 Wh, theirs 0 Wh, difference +13 Wh
 sum: ours 13 Wh, theirs 0 Wh, difference +13 Wh
-behind equal outcomes:
+other contents, equal outcomes:
   boundary 0, 2024-05-01: ours version 1, reading 10, width 4; theirs nothing came
 ";
     told(&ours, OPEN, 1, want);
@@ -128,7 +128,7 @@ accepted in theirs alone: 2
   line 2: register, boundary 0, 2024-05-01, version 1, reading 500, width 0: stands
   line 3: register, boundary 1, 2024-05-02, version 1, reading 520, width 0: stands
 moved: nothing, the files are equal
-behind equal outcomes:
+other contents, equal outcomes:
   slot 4, 2024-05-01 02:00: ours version 1, 9 Wh, status 4; theirs nothing came
   boundary 0, 2024-05-01: ours version 1, reading 0, width 0; theirs version 1, reading 500, width 0
   boundary 1, 2024-05-02: ours version 1, reading 20, width 0; theirs version 1, reading 520, width 0

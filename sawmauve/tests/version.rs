@@ -19,7 +19,11 @@ fn one_version() {
     for (file, before, after) in [
         ("sawmauve/Cargo.toml", "\nversion = \"", "\"\n"),
         ("Makefile", "\nVERSION = ", "\n"),
-        ("include/sawmauve.h", "\n#define SAWMAUVE_VERSION \"", "\"\n"),
+        (
+            "include/sawmauve.h",
+            "\n#define SAWMAUVE_VERSION \"",
+            "\"\n",
+        ),
         ("sawmauve/sawmauve.1", "\"sawmauve ", "\""),
         ("CHANGELOG.md", "\n## ", "\n"),
     ] {

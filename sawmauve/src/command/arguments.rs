@@ -88,7 +88,7 @@ impl Arguments {
     /// A line about how the verb is used.
     pub fn usage(&self, what: impl std::fmt::Display) -> Trouble {
         let verb = self.verb;
-        Trouble::line(format!("{verb}: {what} (sawmauve {verb} --help tells)"))
+        Trouble::line(format!("{verb}: {what} (see sawmauve {verb} --help)"))
     }
 
     pub fn value(&self, name: &str) -> Option<&OsStr> {

@@ -14,7 +14,7 @@ use std::path::Path;
 pub const VERB: Verb = Verb {
     name: "compare",
     takes: "OURS THEIRS [--complete] [--csv]",
-    about: "Tells whether two files are equal, or what differs",
+    about: "Says whether two files are equal, or what differs",
     help: "\
 Options:
   --complete   equal files with a missing slot, or with an open or disagreeing

@@ -75,7 +75,7 @@ fn whole_help() -> String {
     for verb in VERBS {
         text += &format!("  {:<10} {}\n", verb.name, verb.about);
     }
-    text + "\nsawmauve VERB --help tells more, sawmauve --version the version.\n" + STATUSES
+    text + "\nsawmauve VERB --help says more, sawmauve --version prints the version.\n" + STATUSES
 }
 
 fn version() -> String {
@@ -97,7 +97,7 @@ fn run_verb(verb: &Verb, given: Vec<OsString>) -> Result<Status, Trouble> {
 
 fn dispatch(mut given: Vec<OsString>) -> Result<Status, Trouble> {
     if given.is_empty() {
-        return Err(Trouble::line("a verb is missing (sawmauve --help tells)"));
+        return Err(Trouble::line("a verb is missing (see sawmauve --help)"));
     }
     let name = given.remove(0);
     let text = match name.to_str() {
@@ -105,7 +105,7 @@ fn dispatch(mut given: Vec<OsString>) -> Result<Status, Trouble> {
         Some("--version") => version(),
         word => match VERBS.into_iter().find(|verb| Some(verb.name) == word) {
             Some(verb) => return run_verb(verb, given),
-            None => return Err(Trouble::about(&name, "no verb (sawmauve --help tells)")),
+            None => return Err(Trouble::about(&name, "no verb (see sawmauve --help)")),
         },
     };
     streams::write(text.as_bytes())?;

@@ -28,7 +28,7 @@ reader, flushed and renamed: a run that fails or is interrupted leaves the old
 file. Of many logs a bad one is named and the others are published, status 2.
 Two logs with one output name are status 2 before anything is written.
 
-Standard error tells how many calls were refused, and how many of these are
+Standard error reports how many calls were refused, and how many of these are
 conflicts (10). Where none is a conflict, no order of these calls gives another
 file.
 ",
@@ -41,7 +41,7 @@ file.
     run,
 };
 
-/// A log's file, and what standard error tells of refused calls.
+/// A log's file, and what standard error reports of refused calls.
 pub struct Published {
     pub file: Vec<u8>,
     pub refused: Option<String>,

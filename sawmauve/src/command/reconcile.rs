@@ -16,7 +16,7 @@ use std::ffi::OsStr;
 pub const VERB: Verb = Verb {
     name: "reconcile",
     takes: "OURS.log THEIRS.log",
-    about: "Tells which calls one log accepted and the other did not, and what they moved",
+    about: "Lists the calls that one log accepted and the other did not, and what they moved",
     help: "\
 Written are limit and tolerance where the heads differ in these, and the calls
 that were accepted (stored, late or repeat) in one log and not in the other, by
@@ -25,7 +25,7 @@ stands in its cell or was superseded by a higher version; and where the other
 log has it refused, that answer. A conflict (10) at the highest version of a
 cell is when order matters. Then what they moved: the slots and spans whose
 outcome differs, as `compare` writes them. Then the slots and readings that
-differ behind equal outcomes: nobody looks behind an equality.
+differ although the outcomes are equal: nobody looks closer at an equality.
 
 Where nothing is listed and the heads are the same the files are equal: under
 one head equal accepted calls give equal files, in whatever order and however
@@ -167,12 +167,12 @@ pub fn reading_words(cell: &Reading) -> String {
     }
 }
 
-/// What differs behind equal outcomes.
+/// What differs although the outcomes are equal.
 fn behind_lines(times: Times, found: &Reconciliation) -> String {
     if found.slots.is_empty() && found.readings.is_empty() {
         return String::new();
     }
-    let mut text = "behind equal outcomes:\n".to_string();
+    let mut text = "other contents, equal outcomes:\n".to_string();
     for Behind { at, cells } in &found.slots {
         let (time, Pair { ours, theirs }) = (times.slot(*at), cells.map(cell_words));
         text += &format!("  slot {at}, {time}: ours {ours}; theirs {theirs}\n");

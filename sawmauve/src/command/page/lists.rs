@@ -199,7 +199,7 @@ pub fn alone(months: &Pair<Month>, calls: &[Listed], side: &str, other: &str) ->
     ) + &more
 }
 
-/// What differs behind equal outcomes.
+/// What differs although the outcomes are equal.
 pub fn behind(months: &Pair<Month>, found: &Reconciliation) -> String {
     let times = months.ours.times();
     let slots =
@@ -214,16 +214,12 @@ pub fn behind(months: &Pair<Month>, found: &Reconciliation) -> String {
     let (mut text, more) = rows(&found.slots, slots, &command(months));
     text.extend(found.readings.iter().map(readings));
     if text.is_empty() {
-        return "<p>Nothing differs behind equal outcomes.</p>\n".to_string();
+        return "<p>Where the outcomes are equal the contents are too.</p>\n".to_string();
     }
     let columns = [
         ("Slot or boundary", false),
         ("Ours", false),
         ("Theirs", false),
     ];
-    table(
-        "What stands otherwise behind equal outcomes.",
-        &columns,
-        &text,
-    ) + &more
+    table("Other contents with equal outcomes.", &columns, &text) + &more
 }

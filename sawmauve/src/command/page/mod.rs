@@ -37,7 +37,7 @@ Options:
 The page is one HTML file that asks for nothing from elsewhere. Of a log it has
 the published total and how many slots are what; a grid with a row a day and a
 cell a slot; each day's curve; the spans; the way of each slot that is not
-simply delivered, of the first 2,000, as `follow` tells it; and the refused
+simply delivered, of the first 2,000, as `follow` prints it; and the refused
 calls, conflicts first. Over 62 days a cell is a half hour and a curve a week.
 Of two logs it has the grid with the slots that differ outlined, both values,
 and what `reconcile` lists; the status is 0 also where they differ.

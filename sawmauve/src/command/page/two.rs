@@ -171,8 +171,8 @@ pub fn two(months: &Pair<Month>) -> Result<String, Error> {
         ),
         ("moved", "Days and spans", moved),
         (
-            "behind",
-            "Behind equal outcomes",
+            "contents",
+            "Other contents, equal outcomes",
             lists::behind(months, &found),
         ),
     ];

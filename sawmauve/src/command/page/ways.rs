@@ -72,7 +72,7 @@ impl Ways {
         let count = counted(self.slots.len(), "slot is", "slots are");
         let command = shell_word(month.name);
         Ok(format!(
-            "<p>{count} not simply delivered. Each opens to what <code>sawmauve follow {command}</code> tells of it.</p>\n\
+            "<p>{count} not simply delivered. Each opens to what <code>sawmauve follow {command}</code> prints of it.</p>\n\
              <div class=\"ways\">\n{}</div>\n{}",
             items,
             self.more(month)
