@@ -13,7 +13,7 @@ bad=0
 
 # run PAGE: how many commands it has; 1 where something differs
 run() {
-    rm -rf "$work/folder" "$work/shown" "$work/script" "$work/printed"
+    rm -rf "$work/folder" "$work/shown" "$work/commands" "$work/script" "$work/printed"
     mkdir "$work/folder"
     : > "$work/shown"
     cp -R examples "$work/folder/examples"
@@ -33,10 +33,12 @@ END
 }
 
 for page in ${*:-README.md CONTRIBUTING.md docs/*.md examples/*.md}; do
-    run "$page" || { echo "$page: a command of it does something else" >&2; bad=1; }
+    run "$page" || { echo "$page: what its commands print is not what it says" >&2; bad=1; }
     case " $wanted " in
         *" $page "*) [ "$count" != 0 ] || { echo "$page: no command to run" >&2; bad=1; } ;;
     esac
     [ "$count" = 0 ] || echo "$page: $count commands"
 done
+# the first page stays short
+awk 'length > 120 || FNR >= 150 { print "README.md:" FNR ": over 120 columns, or line 150"; bad = 1 } END { exit bad }' README.md >&2 || bad=1
 exit "$bad"
