@@ -8,7 +8,7 @@ use std::fs;
 use std::path::{Path, PathBuf};
 use std::process::Output;
 
-/// `compare` of two names, with options behind them.
+/// `compare` of two names, with options after them.
 fn compared(ours: impl AsRef<Path>, theirs: impl AsRef<Path>, options: &[&str]) -> Output {
     let names = [ours.as_ref(), theirs.as_ref()].map(|path| path.to_str().unwrap());
     run(&[&["compare"], &names[..], options].concat())

@@ -8,7 +8,7 @@ use std::path::Path;
 
 const OPEN: &str = "open 2024-05-01 1 30 1 0\n";
 
-/// A log that is none: every verb of a log tells the same, and nothing goes to standard output.
+/// What is not a log: every verb of a log reports the same, and nothing goes to standard output.
 #[track_caller]
 fn none(log: impl AsRef<[u8]>, told: &str) {
     let folder = Folder::new();

@@ -7,7 +7,7 @@ use std::ffi::{OsStr, OsString};
 use std::fs;
 use std::path::Path;
 
-/// A verb on a file or log, with words behind it.
+/// A verb on a file or log, with words after it.
 fn on(verb: &str, path: &Path, words: &[&str]) -> std::process::Output {
     let mut all = vec![OsString::from(verb), path.into()];
     all.extend(words.iter().map(OsString::from));

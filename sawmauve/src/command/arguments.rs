@@ -1,4 +1,4 @@
-//! The words and options behind a verb.
+//! The words and options after a verb.
 
 use super::trouble::Trouble;
 use sawmauve::number;
@@ -17,7 +17,7 @@ pub struct Arguments {
     options: Vec<(&'static str, OsString)>,
 }
 
-/// An option's name, and the value behind its `=`.
+/// An option's name, and the value after its `=`.
 fn cut(word: &OsStr) -> (&OsStr, Option<OsString>) {
     let bytes = word.as_bytes();
     match bytes.iter().position(|byte| *byte == b'=') {

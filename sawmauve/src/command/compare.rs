@@ -48,7 +48,7 @@ pub fn lacks_words(lacks: &Lacks) -> String {
     format!("slots missing {missing}, spans open {open}, disagreeing {disagreeing}")
 }
 
-/// Both of two things that were asked for; where both fail, both are told.
+/// Both of two things that were asked for; where both fail, both are reported.
 pub fn both<T>(ours: Result<T, Trouble>, theirs: Result<T, Trouble>) -> Result<Pair<T>, Trouble> {
     match (ours, theirs) {
         (Ok(ours), Ok(theirs)) => Ok(Pair { ours, theirs }),

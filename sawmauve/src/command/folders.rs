@@ -70,7 +70,7 @@ impl Meter {
         }
     }
 
-    /// The fields behind its name.
+    /// The fields after its name.
     fn fields(&self) -> String {
         match self {
             Meter::Equal(lacks) => {
@@ -109,7 +109,7 @@ fn compared(ours: &File, theirs: &File) -> Meter {
     }
 }
 
-/// A meter whose file is in both folders; what cannot be read is told.
+/// A meter whose file is in both folders; what cannot be read is reported.
 fn meter(folders: Pair<&OsStr>, name: &OsStr) -> Meter {
     let read = |folder: &&OsStr| streams::read_file(Path::new(folder).join(name).as_os_str());
     let Pair { ours, theirs } = folders.map(read);

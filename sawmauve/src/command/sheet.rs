@@ -71,7 +71,7 @@ fn run_rows(times: Times, run: &Differing) -> String {
     text
 }
 
-/// A line for each thing that differs behind the header; of equal files the header alone.
+/// A line for each thing that differs after the header; of equal files the header alone.
 pub fn rows(found: &Comparison) -> String {
     let mut text = HEADER.to_string();
     if found.is_empty() {

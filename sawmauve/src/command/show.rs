@@ -27,7 +27,7 @@ status is then 1. Of several files each line begins with the file's name.
     run,
 };
 
-/// How a file is shown: a header line, and its lines, each behind the name where there are several.
+/// How a file is shown: a header line, and its lines, each after the name where there are several.
 struct Form {
     header: &'static str,
     comma: bool,
@@ -115,7 +115,7 @@ fn front(form: &Form, name: &OsStr, several: bool) -> Vec<u8> {
     }
 }
 
-/// Adds a file's lines. A refused file is 01's line too; beside a table it is told on standard error.
+/// Adds a file's lines. A refused file is 01's line too; beside a table it is reported on standard error.
 fn add(form: &Form, name: &OsStr, several: bool, out: &mut Vec<u8>) -> Result<Status, Trouble> {
     let shown = streams::read_file(name)?.and_then(|file| (form.lines)(&file));
     let front = front(form, name, several);

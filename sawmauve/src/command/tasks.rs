@@ -1,4 +1,4 @@
-//! Many logs published on all cores, and told in the order in which they were named.
+//! Many logs published on all cores, and reported in the order in which they were named.
 
 use super::arguments::Arguments;
 use super::publish::{flushed, published, stored};
@@ -68,7 +68,7 @@ fn all_logs(words: &[OsString]) -> Result<Vec<PathBuf>, Trouble> {
     Ok(logs)
 }
 
-/// x.log becomes x.file; any other name has .file behind it.
+/// x.log becomes x.file; any other name has .file after it.
 fn file_name(log: &Path) -> Option<OsString> {
     let name = log
         .file_name()
@@ -81,7 +81,7 @@ fn file_name(log: &Path) -> Option<OsString> {
     Some(OsString::from_vec([stem, b".file"].concat()))
 }
 
-/// The tasks, where each has a place of its own, also behind symbolic links.
+/// The tasks, where each has a place of its own, also through symbolic links.
 fn tasks_of(logs: Vec<PathBuf>, folder: &Path) -> Result<Vec<Task>, Trouble> {
     let mut taken: HashMap<PathBuf, PathBuf> = HashMap::new();
     let mut tasks = Vec::new();
@@ -146,7 +146,7 @@ fn show_progress(text: &str) {
     }
 }
 
-/// Tells the reports in the order of the tasks.
+/// Writes the reports in the order of the tasks.
 fn tell_all(reports: Receiver<(usize, Report)>, all: usize) -> Told {
     let mut told = Told {
         status: Status::Done,

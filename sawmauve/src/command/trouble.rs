@@ -1,4 +1,4 @@
-//! Statuses, and the one line that tells trouble.
+//! Statuses, and the one line that reports trouble.
 
 use std::ffi::OsStr;
 use std::fmt::Display;
@@ -14,7 +14,7 @@ pub enum Status {
     Trouble = 2,
 }
 
-/// What went wrong: a line for standard error, or a reader that went away, of which nothing is told.
+/// What went wrong: a line for standard error, or a reader that went away, of which nothing is reported.
 #[derive(Debug)]
 pub enum Trouble {
     Line(Vec<u8>),
@@ -89,7 +89,7 @@ impl Trouble {
         Trouble::about(name, words(error))
     }
 
-    /// The line that tells it.
+    /// The line that reports it.
     pub fn into_line(self) -> Option<Vec<u8>> {
         match self {
             Trouble::Line(line) => Some(line),
@@ -97,7 +97,7 @@ impl Trouble {
         }
     }
 
-    /// Tells it, and answers the status.
+    /// Reports it, and answers the status.
     pub fn tell(self) -> Status {
         if let Some(line) = self.into_line() {
             tell(&line);

@@ -44,7 +44,7 @@ impl Kind {
         }
     }
 
-    /// The letter that tells it without colour.
+    /// The letter that shows it without colour.
     pub fn letter(self) -> &'static str {
         match self {
             Measured => "",
@@ -161,7 +161,7 @@ impl Cell<'_> {
         groups.iter().map(several).collect::<Vec<_>>().join("; ")
     }
 
-    /// What hovering or focusing it tells: its times and value, then quality and method.
+    /// What hovering or focusing it shows: its times and value, then quality and method.
     pub fn label(&self, times: Times, head: Head) -> String {
         let period = period(times, head, self.first, self.slots.len());
         format!("{period}, {} Wh\n{}", grouped(self.value()), self.words())

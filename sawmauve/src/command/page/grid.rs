@@ -28,7 +28,7 @@ pub fn dial(reading: Reading) -> Option<String> {
     }
 }
 
-/// Of a day, or of the boundary behind the last one.
+/// Of a day, or of the boundary after the last one.
 pub fn margin(month: &Month, day: u32) -> Margin {
     let book = &month.played.book;
     let total = month.totals.get(day as usize);
@@ -88,7 +88,7 @@ fn row(day: usize, margin: &Margin, cells: &str) -> String {
     )
 }
 
-/// The boundary behind the last day.
+/// The boundary after the last day.
 fn last_row(margin: &Margin, cells_per_day: usize) -> String {
     let Some(dial) = &margin.dial else {
         return String::new();
@@ -101,7 +101,7 @@ fn last_row(margin: &Margin, cells_per_day: usize) -> String {
     )
 }
 
-/// The table of these cells, each a whole `td`; behind the days' margins stands the last boundary's.
+/// The table of these cells, each a whole `td`; after the days' margins stands the last boundary's.
 pub fn table(margins: &[Margin], cells: &[String], cells_per_day: usize) -> String {
     let days = cells.chunks(cells_per_day).zip(margins).enumerate();
     let rows: String = days

@@ -7,7 +7,7 @@ use super::month::Month;
 /// The longest comment that is shown.
 const MOST_LETTERS: usize = 300;
 
-/// A key and its legend, with a count behind it where there is one.
+/// A key and its legend, with a count after it where there is one.
 fn key(class: &str, letter: &str, words: &str) -> String {
     format!("<li><span class=\"key {class}\" aria-hidden=\"true\">{letter}</span> {words}</li>")
 }

@@ -6,7 +6,7 @@ use std::os::unix::ffi::OsStrExt;
 const STYLE: &str = include_str!("style.css");
 const KEYS: &str = include_str!("keys.js");
 
-/// What a browser is told to load: nothing but what stands in the page.
+/// What a browser may load: nothing but what stands in the page.
 const POLICY: &str = "default-src 'none'; style-src 'unsafe-inline'; script-src 'unsafe-inline'; base-uri 'none'; form-action 'none'";
 
 /// A text in which no character is read as markup, also as an attribute's value.

@@ -1,4 +1,4 @@
-//! The lists of a page of two logs: what `reconcile` tells, as tables.
+//! The lists of a page of two logs: what `reconcile` lists, as tables.
 
 use super::super::differences::signed;
 use super::super::reconcile::{

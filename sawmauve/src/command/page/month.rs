@@ -1,4 +1,4 @@
-//! What a page tells of one log: its book, the file that it publishes, and what the library answers about them.
+//! What a page shows of one log: its book, the file that it publishes, and what the library answers about them.
 
 use super::super::times::Times;
 use super::cells::Cell;

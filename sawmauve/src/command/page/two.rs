@@ -39,7 +39,7 @@ fn margins(months: &Pair<Month>) -> Vec<Margin> {
     (0..=months.ours.head().days).map(of).collect()
 }
 
-/// What a cell that differs tells.
+/// What a cell that differs shows.
 fn label(month: &Month, cells: &Pair<Cell>) -> String {
     let period = period(
         month.times(),

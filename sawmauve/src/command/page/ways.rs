@@ -80,7 +80,7 @@ impl Ways {
     }
 }
 
-/// What is made of each slot, one behind the other, made in parts on all cores: of a slot in a long span it is dear, since its explanation
+/// What is made of each slot, one after the other, made in parts on all cores: of a slot in a long span it is dear, since its explanation
 /// sums the span.
 fn on_all_cores<F>(slots: &[u32], make: F) -> Result<String, Error>
 where
