@@ -5,10 +5,9 @@ od -An -v -t u1 -w1 "$1" | awk '
     # the number in k bytes from a place, low byte first
     function num(at, k,    n) { n = 0; while (k-- > 0) n = n * 256 + byte[at + k]; return n }
     # a line: k bytes from a place, and what they mean
-    function put(at, k, what,    i) {
-        printf "%6d: ", at
-        for (i = 0; i < k; i++) printf "%02x ", byte[at + i]
-        print " " what
+    function put(at, k, what,    i, hex) {
+        for (i = 0; i < k; i++) hex = hex sprintf(" %02x", byte[at + i])
+        printf "%6d:%-42s  %s\n", at, hex, what
     }
     function slot(i, at) {
         put(at, 6, sprintf("slot %d: value %.0f, quality %c, method %d", i, num(at, 4), byte[at + 4], byte[at + 5]))

@@ -31,7 +31,7 @@
  *   - Every call takes any numbers and any contents of its lists, and ends.
  *
  * What stays unchanged. A refused call changes nothing. A list that is const never changes. What is written to `out` stands in its
- * first bytes, as many as the answer says; the bytes after them stay as they were.
+ * first bytes; the bytes after them stay as they were.
  *
  * The file. Numbers are unsigned, low byte first: N slot records, M span records, a trailer. docs/FILE.md has the rest.
  *   slot, 6 bytes       value in Wh (4), quality 'A', 'S', 'F' or 'N' (1), method 0, 1, 2, 3, 5, 18 or 19 (1)
@@ -84,7 +84,8 @@ extern "C" {
 #define SAWMAUVE_LATE 100 /* a lower version than the cell's: nothing changes */
 #define SAWMAUVE_REPEAT 101 /* an equal version with equal content: nothing changes */
 
-/* A published file has 6 N + 14 M + 32 bytes, above every refusal's number; the longest has 400 days of 5 minutes and 400 spans. */
+/* sawmauve_publish answers the length of the file, 6 N + 14 M + 32, or a refusal, which is below the first of these. The longest file
+ * has 400 days of 5 minutes and 400 spans. */
 #define SAWMAUVE_SHORTEST 32
 #define SAWMAUVE_LONGEST 696832
 
