@@ -1,7 +1,8 @@
 #!/bin/sh
 # Runs every console block of README and docs with the build in build/ and compares what the commands write with the page.
 # Each page has a scratch folder of its own with examples/, include/ and build/, and its commands run in it in order, in one shell.
-# A command that ends in another status than 0 has `$ echo $?` after it. Wants `make` before it. Arguments: pages; without any, all.
+# A command that ends in another status than 0 has `$ echo $?` after it. Links lead to files that are there.
+# Wants `make` before it. Arguments: pages; without any, all.
 set -u
 cd "$(dirname "$0")/.."
 home=$PWD
@@ -32,8 +33,20 @@ END
     diff -u --label "$1" --label 'what its commands print' "$work/shown" "$work/printed"
 }
 
-for page in ${*:-README.md CONTRIBUTING.md docs/*.md examples/*.md}; do
+# links PAGE: 1 where a file that it links to is not there
+links() {
+    grep -o ']([^)#:]*)' "$1" | sed 's/^](//; s/)$//' | {
+        missing=0
+        while read -r to; do
+            [ -e "$(dirname "$1")/$to" ] || { echo "$1: no $to" >&2; missing=1; }
+        done
+        return "$missing"
+    }
+}
+
+for page in ${*:-README.md CHANGELOG.md CONTRIBUTING.md docs/*.md examples/*.md}; do
     run "$page" || { echo "$page: what its commands print is not what it says" >&2; bad=1; }
+    links "$page" || bad=1
     case " $wanted " in
         *" $page "*) [ "$count" != 0 ] || { echo "$page: no command to run" >&2; bad=1; } ;;
     esac
