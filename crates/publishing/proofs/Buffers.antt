@@ -11,20 +11,19 @@ use Rattle.base.specs.Lists.{upTo}
 use Rattle.base.proofs.Lists.{length-upTo}
 use Rattle.rules.specs.declared.Head.{Head}
 use Rattle.file.specs.declared.Figures.{Figures}
+use Rattle.rules.specs.declared.Outcome.{Outcome}
 use Rattle.rules.specs.declared.Span.{Span}
 use Rattle.rules.specs.Opening.{Cells, slotCount}
 use Rattle.rules.specs.Spans.{outcomeAt, outcomes, spans}
-use Rattle.rules.specs.Inner.Stretches.{beginsAt}
-use Rattle.rules.specs.Inner.Passes.{listOf, begunBefore}
+use Rattle.rules.specs.Inner.Passes.{begunBefore}
 use Rattle.rules.proofs.Bounds.{Bounded}
-use Rattle.rules.proofs.Begun.{begun-all, begun-room}
+use Rattle.rules.proofs.Begun.{begun-all}
 use Rattle.file.specs.Layout.{row, table, slotRow, spanRow, trailerRow, figuresOf, tablesOf, fileOf}
 use Rattle.publishing.specs.Publishing.{published, fileLength}
-use Rattle.publishing.specs.Inner.Publishing.{firstSlots, bufferAt, nextBytes}
+use Rattle.publishing.specs.Inner.Publishing.{firstSlots, bufferOf, bufferAt}
 use Rattle.file.specs.Inner.Writing.{written}
 use Rattle.file.proofs.Written.{length-written, written-more}
 use Rattle.file.proofs.Rows.{length-row, length-table}
-use Rattle.publishing.proofs.Totals.{slots-next, begun-next}
 
 -- the bytes of d from place a up to place m
 abbrev gap : List ℕ → ℕ → ℕ → List ℕ
@@ -91,45 +90,51 @@ written-none d at = rw add-zero (take-append-drop at d)
 
 -- the buffer of a publishing
 module _ (h : Head) (b : Cells) where
-  slot-bytes : (i : ℕ) → length (table slotRow (firstSlots h b i)) ≡ 6 * i
-  slot-bytes i = length-table slotRow 6 (λ x. refl) (firstSlots h b i) ∙ ap (λ (x : ℕ). 6 * x) (length-upTo (outcomeAt h b) 0 i)
+  slot-bytes : (os : List Outcome) → length (table slotRow os) ≡ 6 * length os
+  slot-bytes os = length-table slotRow 6 (λ x. refl) os
 
   span-bytes : (ss : List Span) → length (table (spanRow true) ss) ≡ 14 * length ss
   span-bytes ss = length-table (spanRow true) 14 (λ x. refl) ss
 
   pub buffer-first : (d : List ℕ) → bufferAt h b d 0 ≡ d
-  unfolding bufferAt upTo begunBefore table
+  unfolding bufferAt bufferOf upTo begunBefore table
   buffer-first d = rw (written-none d 0) (written-none d (6 * slotCount h))
 
-  -- one slot on
-  pub buffer-next : (w : Bounded h) (d : List ℕ) (i : ℕ) → i < slotCount h → 6 * slotCount h + 14 * length (spans h b) ≤ length d → nextBytes h b (bufferAt h b d i) i ≡ bufferAt h b d (i + 1)
-  unfolding nextBytes bufferAt
-  buffer-next w d i l k =
-      let s : List ℕ = table slotRow (firstSlots h b i) in
-      let t : List ℕ = table (spanRow true) (begunBefore h b i) in
-      let r : List ℕ = row (slotRow (outcomeAt h b i)) in
-      let u : List ℕ = table (spanRow true) (listOf (beginsAt h b i)) in
-      let m : ℕ = 6 * slotCount h in
-      let a = slot-bytes i in
-      let c = span-bytes (begunBefore h b i) in
-      let g : length r ≡ 6 = length-row (slotRow (outcomeAt h b i)) in
-      let f : m + length t ≤ length d = omega (arith, begun-room h b w i l) in
-      let p : written (written (written d 0 s) m t) (6 * i) r ≡ written (written d 0 (s ++ r)) m t = rw (sym a) (front-more d s t r m (omega arith) f) in
-      let e : s ++ r ≡ table slotRow (firstSlots h b (i + 1)) = sym (ap (table slotRow) (slots-next h b i) ∙ table-append slotRow (firstSlots h b i) (outcomeAt h b i ∷ []) ∙ ap (λ (x : List ℕ). s ++ x) (table-one slotRow (outcomeAt h b i))) in
-      let q : t ++ u ≡ table (spanRow true) (begunBefore h b (i + 1)) = sym (ap (table (spanRow true)) (begun-next h b i) ∙ table-append (spanRow true) (begunBefore h b i) (listOf (beginsAt h b i))) in
-      let n : 0 + length (s ++ r) ≤ length d = omega (arith, length-append s r) in
-      let o : m + length t ≤ length (written d 0 (s ++ r)) = rw (length-written d 0 (s ++ r) n) f in
-      rw (p, sym c) (written-more (written d 0 (s ++ r)) m t u o ∙ (rw (e, q)))
+  -- more slots, and more spans
+  pub buffer-slots : (d : List ℕ) (os rest : List Outcome) (ss : List Span) → length os + length rest ≤ slotCount h → 6 * slotCount h + 14 * length ss ≤ length d
+      → written (bufferOf h d os ss) (6 * length os) (table slotRow rest) ≡ bufferOf h d (os ++ rest) ss
+  unfolding bufferOf
+  buffer-slots d os rest ss l k =
+      let a = slot-bytes os in
+      let c = slot-bytes rest in
+      let g = span-bytes ss in
+      rw (table-append slotRow os rest, ← a)
+      (front-more d (table slotRow os) (table (spanRow true) ss) (table slotRow rest) (6 * slotCount h) (omega arith) (omega arith))
+
+  pub buffer-spans : (d : List ℕ) (os : List Outcome) (ss rest : List Span) → length os ≤ slotCount h → 6 * slotCount h + 14 * length ss ≤ length d
+      → written (bufferOf h d os ss) (6 * slotCount h + 14 * length ss) (table (spanRow true) rest) ≡ bufferOf h d os (ss ++ rest)
+  unfolding bufferOf
+  buffer-spans d os ss rest l k =
+      let a = slot-bytes os in
+      let g = span-bytes ss in
+      let n : 0 + length (table slotRow os) ≤ length d = omega arith in
+      let o : 6 * slotCount h + length (table (spanRow true) ss) ≤ length (written d 0 (table slotRow os)) =
+      rw (length-written d 0 (table slotRow os) n) (omega arith) in
+      rw (table-append (spanRow true) ss rest, ← g)
+      (written-more (written d 0 (table slotRow os)) (6 * slotCount h) (table (spanRow true) ss) (table (spanRow true) rest) o)
+
+  pub length-first : (i : ℕ) → length (firstSlots h b i) ≡ i
+  length-first i = length-upTo (outcomeAt h b) 0 i
 
   -- the trailer behind both tables ends the file
   file-written : (w : Bounded h) (d : List ℕ) → fileLength h b ≤ length d
       → written (bufferAt h b d (slotCount h)) (6 * slotCount h + 14 * length (spans h b)) (row (trailerRow (figuresOf (published h b)))) ≡ fileOf (published h b) ++ drop (fileLength h b) d
-  unfolding bufferAt fileOf tablesOf fileLength published outcomes
+  unfolding bufferAt bufferOf fileOf tablesOf fileLength published outcomes
   file-written w d k =
       let s : List ℕ = table slotRow (firstSlots h b (slotCount h)) in
       let t : List ℕ = table (spanRow true) (spans h b) in
       let u : List ℕ = row (trailerRow (figuresOf (published h b))) in
-      let a = slot-bytes (slotCount h) in
+      let a = slot-bytes (firstSlots h b (slotCount h)) ∙ ap (λ (x : ℕ). 6 * x) (length-upTo (outcomeAt h b) 0 (slotCount h)) in
       let c = span-bytes (spans h b) in
       let n : length (s ++ t) ≡ 6 * slotCount h + 14 * length (spans h b) = omega (arith, length-append s t) in
       let o = length-upTo (outcomeAt h b) 0 (slotCount h) in

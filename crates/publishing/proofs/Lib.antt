@@ -1,6 +1,7 @@
 pub mod Totals
 pub mod Buffers
-pub mod Good
+pub mod Records
+pub mod Inside
 pub mod Publishing
 pub mod Booked
 pub mod Files

@@ -29,7 +29,7 @@ use Rattle.file.specs.Layout.{one, total, row, table, slotRow, spanRow, figures
 use Rattle.publishing.specs.Publishing.{published}
 use Rattle.publishing.specs.declared.tables.Progress.{Progress}
 use Rattle.file.specs.Inner.Writing.{written}
-use Rattle.publishing.specs.Inner.Publishing.{totalsOf, addedTo, firstSlots, progressAt, nextBytes}
+use Rattle.publishing.specs.Inner.Publishing.{totalsOf, addedTo, firstSlots, progressAt, Countable}
 use Rattle.file.proofs.Lists.{total-sum}
 
 total-snoc : (g : Outcome → ℕ) (os : List Outcome) (o : Outcome) → total g (os ++ (o ∷ [])) ≡ total g os + g o
@@ -97,23 +97,6 @@ module _ (h : Head) (b : Cells) (i : ℕ) where
   unfolding begunBefore
   begun-next = rw (add-one i)
 
-  spans-next : length (begunBefore h b (i + 1)) ≡ length (begunBefore h b i) + length (listOf (beginsAt h b i))
-  spans-next = ap length begun-next ∙ length-append (begunBefore h b i) (listOf (beginsAt h b i))
-
-  pub progress-next : (p : Progress) (pass : Pass) (spans : ℕ) (totals : Totals) (o : Outcome) (g : Begins) → p ≡ progressAt h b i → o ≡ outcomeAt h b i → g ≡ beginsAt h b i
-      → pass ≡ passAt h b (i + 1) → spans ≡ p .spans + length (listOf g) → totals ≡ addedTo (p .totals) o
-      → record { pass = pass; spans = spans; totals = totals } ≡ progressAt h b (i + 1)
-  unfolding progressAt
-  progress-next p pass spans totals o g e x y u v w =
-      let m : spans ≡ length (begunBefore h b (i + 1)) = v ∙ (rw (e, y) (sym spans-next)) in
-      let n : totals ≡ totalsOf (firstSlots h b (i + 1)) = w ∙ (rw (e, x) (sym (totals-next h b i))) in
-      λ t. record { pass = u t; spans = m t; totals = n t }
-
-  pub bytes-next : (d d₁ d₂ : List ℕ) (p : Progress) (place : ℕ) (o : Outcome) (g : Begins) → p ≡ progressAt h b i → o ≡ outcomeAt h b i → g ≡ beginsAt h b i → place ≡ 6 * slotCount h
-      → d₁ ≡ written d (6 * i) (row (slotRow o)) → d₂ ≡ written d₁ (place + 14 * p .spans) (table (spanRow true) (listOf g)) → d₂ ≡ nextBytes h b d i
-  unfolding progressAt nextBytes
-  bytes-next d d₁ d₂ p place o g e x y z u v = v ∙ (rw (u, e, x, y, z))
-
   -- where a progress stands
   module _ (p : Progress) (e : p ≡ progressAt h b i) where
     pub progress-place : p .pass .walk .at ≡ i
@@ -142,3 +125,21 @@ module _ (h : Head) (b : Cells) (t : Totals) (e : t ≡ totalsOf (outcomes h b))
       → record { first = first; days = h .days; interval = h .interval; spans = spans₀; actual = t .actual; substituted = t .substituted + t .agreed; none = t .none; sum = t .sum; layout = 3 } ≡ figuresOf (published h b)
   unfolding figuresOf published totalsOf
   figures-found first spans₀ x y = rw (x, y, e)
+
+-- the totals of the slots so far take one slot more
+pub countable : (h : Head) (b : Cells) (i : ℕ) (w : Bounded h) → AgreedLow (b .agreed) → WidthsLow (b .widths) → i ≤ slotCount h
+    → (t : Totals) → t ≡ totalsOf (firstSlots h b i) → Countable t
+unfolding totalsOf
+countable h b i w low narrow l t e =
+    let x : t .actual ≡ total (one isA) (firstSlots h b i) = ap (λ (q : Totals). q .actual) e in
+    let y : t .substituted ≡ total (one isS) (firstSlots h b i) = ap (λ (q : Totals). q .substituted) e in
+    let f : t .agreed ≡ total (one isF) (firstSlots h b i) = ap (λ (q : Totals). q .agreed) e in
+    let z : t .none ≡ total (one isN) (firstSlots h b i) = ap (λ (q : Totals). q .none) e in
+    let s : t .sum ≡ total (λ o. o .value) (firstSlots h b i) = ap (λ (q : Totals). q .sum) e in
+    record {
+      actual = omega (arith, count-high h w, count-low h b i isA);
+      substituted = omega (arith, count-high h w, count-low h b i isS);
+      agreed = omega (arith, count-high h w, count-low h b i isF);
+      none = omega (arith, count-high h w, count-low h b i isN);
+      sum = omega (arith, count-high h w, sum-low h b i w low narrow);
+    }

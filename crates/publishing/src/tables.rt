@@ -6,8 +6,10 @@ use rules::Quality;
 use rules::filling;
 use rules::linear;
 use rules::opening;
+use rules::outage;
 use rules::pass;
 use rules::pass::Pass;
+use rules::stretch;
 use rules::stretch::Begins;
 use rules::tests;
 use rules::walk::Walk;
@@ -18,12 +20,12 @@ ghost use lib.ListN.{length};
 ghost use Rattle.rules.specs.declared.Head.{Head as DeclaredHead};
 ghost use Rattle.rules.specs.Opening.{Cells, slotCount};
 ghost use Rattle.rules.specs.Spans.{outcomes};
-ghost use Rattle.rules.specs.Lent.{lentCells};
+ghost use Rattle.rules.specs.Lent.{lentSlots, lentAgreed, lentCells};
 ghost use Rattle.rules.specs.Inner.Passes.{listOf};
 ghost use Rattle.file.specs.Layout.{table, spanRow};
 ghost use Rattle.file.specs.Inner.Writing.{written};
-ghost use Rattle.publishing.specs.Inner.Publishing.{totalsOf, addedTo, goodOn, progressAt, bufferAt, Countable, Roomy, Next, PutNext};
-ghost use Rattle.publishing.specs.Inner.Publishing.{Further, PutGood};
+ghost use Rattle.publishing.specs.Inner.Publishing.{totalsOf, addedTo, progressAt, bufferAt, Countable, Roomy, Next};
+ghost use Rattle.publishing.specs.Inner.Publishing.{PutFrom, PutTo, Entering, PutInside, PutStretch};
 
 // The counts of each quality and the sum of the slots so far.
 pub struct Totals {
@@ -38,6 +40,13 @@ pub struct Totals {
 pub struct Progress {
     pub pass: Pass,
     pub spans: usize,
+    pub totals: Totals,
+}
+
+// Where the records of direct slots end, whether outage zero applies to the last of them, and the totals with them.
+pub struct DirectPut {
+    pub end: usize,
+    pub outage: bool,
     pub totals: Totals,
 }
 
@@ -114,8 +123,164 @@ fn put_begun(out: &mut [u8], at: usize, count: usize, begins: Begins) -> usize
     }
 }
 
-// One slot: its record, and that of the span that begins at it.
-fn put_next(
+// The records of the direct slots from slot `from` on, up to slot `to` at most.
+fn put_direct(
+    head: Head,
+    values: &[u32],
+    versions: &[u32],
+    statuses: &[u8],
+    agreed: &[u32],
+    agreed_versions: &[u32],
+    out: &mut [u8],
+    from: usize,
+    to: usize,
+    before: bool,
+    so_far: Totals,
+) -> DirectPut
+    requires { ⌜
+        (let s = lentSlots values versions statuses in
+        PutFrom head s (lentAgreed agreed «agreed_versions») (now out) from to before «so_far»)
+        ⌝ }
+    ensures { λ r. ⌜
+        (let s = lentSlots (values .entry) (versions .entry) (statuses .entry) in
+        let a = lentAgreed (agreed .entry) («agreed_versions» .entry) in
+        PutTo head s a (now (out .entry)) (now (out .exit)) from to «so_far» r)
+        ⌝ }
+{
+    let mut outage = before;
+    let mut totals = so_far;
+    let mut at = from;
+    while at < to {
+        if tests::is_good(head, values, versions, statuses, at) {
+            let good = filling::delivered(values[at]);
+            writer::put_slot(out, 6 * at, good);
+            outage = false;
+            totals = add(totals, good);
+        } else {
+            if agreed_versions[at] == 0 {
+                return DirectPut {
+                    end: at,
+                    outage: outage,
+                    totals: totals,
+                };
+            }
+            let settled = filling::by_agreement(agreed[at]);
+            writer::put_slot(out, 6 * at, settled);
+            outage = outage::outage_zero(versions, statuses, at, outage);
+            totals = add(totals, settled);
+        }
+        at += 1;
+    }
+    DirectPut {
+        end: at,
+        outage: outage,
+        totals: totals,
+    }
+}
+
+// The records of the slots of a stretch, from its first slot on.
+fn put_inside(
+    head: Head,
+    values: &[u32],
+    versions: &[u32],
+    statuses: &[u8],
+    holidays: &[u8],
+    readings: &[u32],
+    reads: &[u32],
+    agreed: &[u32],
+    agreed_versions: &[u32],
+    widths: &[u16],
+    out: &mut [u8],
+    from: Progress,
+) -> Progress
+    requires { ⌜
+        (let b = lentCells values versions statuses holidays readings reads agreed «agreed_versions» widths in
+        Entering head b (now out) from)
+        ⌝ }
+    ensures { λ r. ⌜
+        (let b = lentCells (values .entry) (versions .entry) (statuses .entry) (holidays .entry) (readings .entry) (reads .entry)
+        (agreed .entry) («agreed_versions» .entry) (widths .entry) in
+        PutInside head b (now (out .entry)) (now (out .exit)) from r)
+        ⌝ }
+{
+    let pass = from.pass;
+    let walk = pass.walk;
+    let mut at = walk.at;
+    let mut outage = walk.outage;
+    let mut line = walk.line;
+    let mut stretch = pass.stretch;
+    let mut totals = from.totals;
+    let until = stretch.until;
+    while at < until {
+        let put = put_direct(
+            head,
+            values,
+            versions,
+            statuses,
+            agreed,
+            agreed_versions,
+            out,
+            at,
+            until,
+            outage,
+            totals,
+        );
+        if at < put.end {
+            outage = put.outage;
+            line = linear::bare(0);
+            totals = put.totals;
+            at = put.end;
+        } else {
+            outage = outage::outage_zero(versions, statuses, at, outage);
+            line = linear::line_on(
+                head,
+                values,
+                versions,
+                statuses,
+                agreed_versions,
+                at,
+                outage,
+                line,
+            );
+            let shaped = filling::unscaled(
+                head,
+                values,
+                versions,
+                statuses,
+                holidays,
+                agreed,
+                agreed_versions,
+                at,
+                outage,
+                line,
+            );
+            let slot = shaped.outcome;
+            let fitted = stretch::fit(slot, shaped.shape, stretch);
+            let outcome = fitted.outcome;
+            writer::put_slot(out, 6 * at, outcome);
+            stretch = fitted.next;
+            totals = add(totals, outcome);
+            at += 1;
+        }
+    }
+    let walked = Walk {
+        at: at,
+        outage: outage,
+        line: line,
+    };
+    let next = Pass {
+        walk: walked,
+        stretch: stretch,
+    };
+    Progress {
+        pass: next,
+        spans: from.spans,
+        totals: totals,
+    }
+}
+
+// The stretch that a slot lies in, from that slot on: the record of the span that begins there, and those of its slots.
+fn put_stretch(
     head: Head,
     values: &[u32],
     versions: &[u32],
@@ -137,12 +302,13 @@ fn put_next(
     ensures { λ r. ⌜
         (let b = lentCells (values .entry) (versions .entry) (statuses .entry) (holidays .entry) (readings .entry) (reads .entry)
         (agreed .entry) («agreed_versions» .entry) (widths .entry) in
-        PutNext head b (now (out .entry)) (now (out .exit)) here r)
+        PutStretch head b (now (out .entry)) (now (out .exit)) here r)
         ⌝ }
 {
     let pass = here.pass;
-    let at = pass.walk.at;
-    let stepped = pass::step(
+    let walk = pass.walk;
+    let carried = pass.stretch;
+    let entered = stretch::enter(
         head,
         values,
         versions,
@@ -153,89 +319,36 @@ fn put_next(
         agreed,
         agreed_versions,
         widths,
-        pass,
+        walk,
+        carried,
     );
-    let slot = stepped.outcome;
-    let begins = stepped.begins;
-    writer::put_slot(out, 6 * at, slot);
+    let begins = entered.begins;
     let spans = put_begun(out, table, here.spans, begins);
+    let stretch = entered.stretch;
+    let inside = Pass {
+        walk: walk,
+        stretch: stretch,
+    };
     let totals = here.totals;
-    let next = stepped.next;
-    Progress {
-        pass: next,
+    let from = Progress {
+        pass: inside,
         spans: spans,
-        totals: add(totals, slot),
-    }
-}
-
-// The progress behind a good slot of the carried stretch.
-fn good_on(here: Progress, slot: Outcome) -> Progress
-    requires { ⌜ Countable (here .totals) × (here .pass .walk .at ≤ 115_200) ⌝ }
-    ensures { λ r. ⌜ r ≡ goodOn here slot ⌝ }
-{
-    let pass = here.pass;
-    let walk = pass.walk;
-    let carried = pass.stretch;
-    let so_far = here.totals;
-    let next = Walk {
-        at: walk.at + 1,
-        outage: false,
-        line: linear::bare(0),
+        totals: totals,
     };
-    let on = Pass {
-        walk: next,
-        stretch: carried,
-    };
-    Progress {
-        pass: on,
-        spans: here.spans,
-        totals: add(so_far, slot),
-    }
-}
-
-// The records of the good slots that follow in the carried stretch.
-fn put_good(
-    head: Head,
-    values: &[u32],
-    versions: &[u32],
-    statuses: &[u8],
-    holidays: &[u8],
-    readings: &[u32],
-    reads: &[u32],
-    agreed: &[u32],
-    agreed_versions: &[u32],
-    widths: &[u16],
-    out: &mut [u8],
-    from: Progress,
-) -> Progress
-    requires { ⌜
-        (let b = lentCells values versions statuses holidays readings reads agreed «agreed_versions» widths in
-        Further head b (now out) from)
-        ⌝ }
-    ensures { λ r. ⌜
-        (let b = lentCells (values .entry) (versions .entry) (statuses .entry) (holidays .entry) (readings .entry) (reads .entry)
-        (agreed .entry) («agreed_versions» .entry) (widths .entry) in
-        PutGood head b (now (out .entry)) (now (out .exit)) from r)
-        ⌝ }
-{
-    let n = opening::slot_count(head);
-    let pass = from.pass;
-    let until = pass.stretch.until;
-    let mut here = from;
-    let mut at = pass.walk.at;
-    while at < n {
-        if at == until {
-            return here;
-        }
-        if !tests::is_good(head, values, versions, statuses, at) {
-            return here;
-        }
-        let good = filling::delivered(values[at]);
-        writer::put_slot(out, 6 * at, good);
-        here = good_on(here, good);
-        at += 1;
-    }
-    here
+    put_inside(
+        head,
+        values,
+        versions,
+        statuses,
+        holidays,
+        readings,
+        reads,
+        agreed,
+        agreed_versions,
+        widths,
+        out,
+        from,
+    )
 }
 
 // Both tables, the span table from byte `table` on; the totals of all slots.
@@ -267,7 +380,7 @@ pub fn put_tables(
     let mut here = begin();
     let mut i = 0;
     while i < n {
-        let stepped = put_next(
+        here = put_stretch(
             head,
             values,
             versions,
@@ -281,20 +394,6 @@ pub fn put_tables(
             out,
             table,
             here,
-        );
-        here = put_good(
-            head,
-            values,
-            versions,
-            statuses,
-            holidays,
-            readings,
-            reads,
-            agreed,
-            agreed_versions,
-            widths,
-            out,
-            stepped,
         );
         let pass = here.pass;
         i = pass.walk.at;

@@ -1,5 +1,5 @@
 -- One slot of the pass: its outcome in the stretch that it lies in, and the stretch that is carried on.
-use mathlib.Core.Bool.{Bool, true, false, cond, and-true, and-false}
+use mathlib.Core.Bool.{Bool, true, false, cond, _&&_, and-true, and-false}
 use mathlib.Core.Option.{Option, none, some}
 use mathlib.Core.Path.{_≡_, refl, sym, ap, _∙_}
 use Prim.Native.Nat.{ℕ, suc, _+_, _-_, _*_, _/_, _≤_, _<_, zero-le}
@@ -12,17 +12,13 @@ use Rattle.base.proofs.Sums.{sum-grows, any-some}
 use Rattle.rules.specs.declared.Head.{Head}
 use Rattle.rules.specs.declared.Outcome.{Outcome}
 use Rattle.rules.specs.declared.Quality.the-variants.{S}
-use Rattle.rules.specs.declared.walk.Filled.{Filled}
-use Rattle.rules.specs.declared.stretch.Entered.{Entered}
 use Rattle.rules.specs.declared.stretch.Stretch.{Stretch}
 use Rattle.rules.specs.Opening.{Cells, slotsPerDay, slotCount}
 use Rattle.rules.specs.Filling.{filledAt, shapeAt}
 use Rattle.rules.specs.Spans.{isS, lastRead, nextRead, filled, shape, start, slotsIn, stateOf, T, allZero, e, E, C, P, newValue, inSpan, between, outcomeAt}
 use Rattle.rules.specs.Inner.Lent.{WidthsLow}
 use Rattle.rules.specs.Inner.Summaries.{scaledBy, Scales}
-use Rattle.rules.specs.Inner.Stretches.{unscaledTo, scalingAt, spanStretch, stretchOf, stretchOn, stretchAt, carriedAt, scales, fitOutcome, fitNext, Scalable, beginsAt}
-use Rattle.rules.specs.Inner.Walks.{walkAt}
-use Rattle.rules.specs.Inner.Passes.{passAt, settled, SteppedAt}
+use Rattle.rules.specs.Inner.Stretches.{unscaledTo, scalingAt, spanStretch, stretchOf, stretchOn, stretchAt, carriedAt, scales, fitOutcome, fitNext, Scalable}
 use Rattle.rules.proofs.Bounds.{Bounded, cap, cap-low, shapes-all}
 use Rattle.rules.proofs.Boundaries.{last-tells, next-tells}
 use Rattle.rules.proofs.Forms.{filled-form, method-low}
@@ -181,17 +177,26 @@ module _ (h : Head) (w : Bounded h) (b : Cells) (i : ℕ) where
       }
 
   -- slot i itself
-  pub step-fits : WidthsLow (b .widths) → Scalable (filledAt h (b .slots) (b .agreed) (b .holidays) i) (shapeAt h (b .slots) (b .agreed) (b .holidays) i) (stretchAt h b i)
+  step-fits : WidthsLow (b .widths) → Scalable (filledAt h (b .slots) (b .agreed) (b .holidays) i) (shapeAt h (b .slots) (b .agreed) (b .holidays) i) (stretchAt h b i)
   step-fits wide = record { method-low = method-low (filled-form h (b .slots) (b .agreed) (b .holidays) i); scales = scaled-well wide slot }
 
-  module _ (entered : Entered) (new : Filled) (begins : entered .begins ≡ beginsAt h b i) (here : entered .stretch ≡ stretchAt h b i) (outcome : new .outcome ≡ filledAt h (b .slots) (b .agreed) (b .holidays) i) (shaped : new .shape ≡ shapeAt h (b .slots) (b .agreed) (b .holidays) i) (next : new .next ≡ walkAt h (b .slots) (b .agreed .versions) (i + 1)) where
-    carried : fitNext (new .outcome) (new .shape) (entered .stretch) ≡ carriedAt h b (i + 1)
-    carried = (λ t. fitNext (outcome t) (shaped t) (here t)) ∙ fit-next slot ∙ ap (carriedAt h b) (sym (add-one i))
+  -- the slot and its shape, in the stretch that it lies in
+  module _ (o : Outcome) (x : ℕ) (here : Stretch) (inside : here ≡ stretchAt h b i) (filled : o ≡ filledAt h (b .slots) (b .agreed) (b .holidays) i)
+      (shaped : x ≡ shapeAt h (b .slots) (b .agreed) (b .holidays) i) where
+    pub step-outcome : fitOutcome o x here ≡ outcomeAt h b i
+    step-outcome = (λ t. fitOutcome (filled t) (shaped t) (inside t)) ∙ fit-outcome slot
 
-    pub step-done : SteppedAt h b i (settled entered new)
-    unfolding passAt
-    step-done = record {
-      outcome = (λ t. fitOutcome (outcome t) (shaped t) (here t)) ∙ fit-outcome slot;
-      begins = begins;
-      next = λ t. record { walk = next t; stretch = carried t };
-    }
+    pub step-carried : fitNext o x here ≡ carriedAt h b (i + 1)
+    step-carried = (λ t. fitNext (filled t) (shaped t) (inside t)) ∙ fit-next slot ∙ ap (carriedAt h b) (sym (add-one i))
+
+    pub step-scalable : WidthsLow (b .widths) → Scalable o x here
+    step-scalable wide = rw (filled, shaped, inside) (step-fits wide)
+
+-- a stretch keeps its end
+pub fit-until : (o : Outcome) (x : ℕ) (here : Stretch) → fitNext o x here .until ≡ here .until
+unfolding fitNext
+fit-until o x here = go (isS (o .quality) && scales here)
+  where
+    go : (t : Bool) → cond t (record { until = here .until; by = scaledBy x (here .by) .next }) here .until ≡ here .until
+    go true = refl
+    go false = refl

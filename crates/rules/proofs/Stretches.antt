@@ -5,7 +5,7 @@ use mathlib.Core.Logic.{_⊎_, inl, inr, ⊎-elim}
 use mathlib.Core.Option.{Option, none, some}
 use mathlib.Core.Path.{_≡_, refl, sym, ap, _∙_}
 use Prim.Native.Nat.{ℕ, zero, suc, _+_, _-_, _*_, _/_, _%_, _≤_, _<_}
-use native.Mathlib.Nat.{div-add-mod', mod-lt, mul-div-cancel, zero-div, zero-mul, div-eq-of-lt-le, suc-mul, eq-or-lt-of-le}
+use native.Mathlib.Nat.{div-add-mod', mod-lt, mul-div-cancel, zero-div, zero-mul, div-eq-of-lt-le, div-lt-iff-lt-mul, suc-mul, mul-comm, mul-le-mul, eq-or-lt-of-le, le-refl}
 use native.Mathlib.Numerals.{add-one}
 use native.Mathlib.Omega.{arith}
 use borrow.Author.Tests.{eq-eqb, ne-eqb}
@@ -181,6 +181,23 @@ module _ (h : Head) (w : Bounded h) (b : Cells) where
   pub stretch-some : (i last : ℕ) → lastRead r (i / n) ≡ cond (isRead r (i / n)) (some (i / n)) none → nextRead r (i / n + 1) (h .days - i / n) ≡ some last → stretchFrom h b (i / n) last i ≡ stretchAt h b i
   unfolding stretchAt stretchOn stretchOf stretchFrom
   stretch-some i last f e = rw (f, e) (⊎-elim (λ t. rw t) (λ t. rw t) (either (isRead r (i / n))))
+
+  in-book : (last : ℕ) → last ≤ h .days → last * n ≤ slotCount h
+  unfolding slotCount
+  in-book last l = rw (mul-comm n (h .days)) (mul-le-mul l (le-refl n))
+
+  -- a stretch ends behind its slots, and in the book
+  pub stretch-ahead : (i : ℕ) → i < slotCount h → (i < stretchAt h b i .until) × (stretchAt h b i .until ≤ slotCount h)
+  unfolding stretchAt stretchOn
+  stretch-ahead i l = go (nextRead r (i / n + 1) (h .days - i / n)) refl
+    where
+      go : (o : Option ℕ) → nextRead r (i / n + 1) (h .days - i / n) ≡ o
+          → (i < stretchOf h b (lastRead r (i / n)) o i .until) × (stretchOf h b (lastRead r (i / n)) o i .until ≤ slotCount h)
+      go none e = rw (until-end (lastRead r (i / n)) i) (l, le-refl _)
+      go (some last) e =
+          let t = next-tells r (h .days - i / n) (i / n + 1) last e in
+          let m : last ≤ h .days = omega (arith, t .low, t .high) in
+          rw (until-last (lastRead r (i / n)) last i) (div-lt-iff-lt-mul positive .0 (omega (arith, t .low)), in-book last m)
 
 -- the search over a list of D + 1 boundaries, behind day d
 pub next-behind : (h : Head) (r : List ℕ) (d : ℕ) (o : Option ℕ) → length r ≡ suc (h .days) → nextRead r (d + 1) (length r - (d + 1)) ≡ o → nextRead r (d + 1) (h .days - d) ≡ o

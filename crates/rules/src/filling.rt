@@ -211,7 +211,7 @@ pub fn delivered(value: u32) -> Outcome
 }
 
 // The outcome of an agreed slot.
-fn by_agreement(value: u32) -> Outcome
+pub fn by_agreement(value: u32) -> Outcome
     ensures { λ r. ⌜ r ≡ agreedOf value ⌝ }
 {
     Outcome {

@@ -1,8 +1,8 @@
 -- What the functions that publish know between two slots.
-use mathlib.Core.Bool.{true, false}
+use mathlib.Core.Bool.{Bool, true}
 use mathlib.Core.Path.{_≡_}
 use mathlib.Core.List.{List, [], _∷_}
-use Prim.Native.Nat.{ℕ, _+_, _*_, _≤_, _<_}
+use Prim.Native.Nat.{ℕ, zero, suc, _+_, _-_, _*_, _≤_, _<_}
 use lib.Dec.{ltb}
 use lib.ListN.{length}
 use Rattle.base.specs.Lists.{upTo}
@@ -10,17 +10,19 @@ use Rattle.base.specs.Refusals.{unless}
 use Rattle.base.specs.Refusals.Rule.{rule}
 use Rattle.rules.specs.declared.Head.{Head}
 use Rattle.rules.specs.declared.Outcome.{Outcome}
-use Rattle.rules.specs.Opening.{Cells, headOk, slotCount}
+use Rattle.rules.specs.declared.Span.{Span}
+use Rattle.rules.specs.Opening.{Slots, Agreed, Cells, headOk, slotCount}
 use Rattle.rules.specs.Spans.{isA, isS, isF, isN, outcomeAt, spans}
 use Rattle.rules.specs.Inner.Lent.{Whole}
-use Rattle.rules.specs.Inner.Stretches.{beginsAt}
-use Rattle.rules.specs.Inner.Walks.{bareLine}
-use Rattle.rules.specs.Inner.Passes.{passAt, listOf, begunBefore}
+use Rattle.rules.specs.Inner.Stretches.{stretchAt}
+use Rattle.rules.specs.Inner.Walks.{walkAt, directAt, directOf, DirectFrom, DirectTo}
+use Rattle.rules.specs.Inner.Passes.{passAt, begunBefore}
 use Rattle.book.specs.Cells.{Book, cellsFit, cellsOk}
 use Rattle.publishing.specs.declared.Published.{Published}
 use Rattle.publishing.specs.declared.tables.Totals.{Totals}
 use Rattle.publishing.specs.declared.tables.Progress.{Progress}
-use Rattle.file.specs.Layout.{one, total, row, table, slotRow, spanRow}
+use Rattle.publishing.specs.declared.tables.DirectPut.{DirectPut}
+use Rattle.file.specs.Layout.{one, total, table, slotRow, spanRow}
 use Rattle.publishing.specs.Publishing.{published, fileLength, publishAnswer, bytesAfter, publishAfter}
 use Rattle.publishing.specs.declared.Published.the-variants.{Length, Refused}
 use Rattle.file.specs.Inner.Writing.{written}
@@ -53,13 +55,14 @@ pub record Countable (t : Totals) : Type 0 where
   pub none : t .none ≤ 115_200
   pub sum : t .sum ≤ 11_520_000_000_000
 
--- behind a good slot of the carried stretch: in no run, the stretch as it was
-abbrev pub goodOn : Progress → Outcome → Progress
-goodOn p o = record {
-  pass = record { walk = record { at = p .pass .walk .at + 1; outage = false; line = bareLine 0 }; stretch = p .pass .stretch };
-  spans = p .spans;
-  totals = addedTo (p .totals) o;
-}
+-- the totals with the k direct slots from slot `from`
+unfoldable pub directTotals : Head → Slots → Agreed → Totals → ℕ → ℕ → Totals
+directTotals h s a t from zero = t
+directTotals h s a t from (suc k) = addedTo (directTotals h s a t from k) (directOf h s a (from + k))
+
+-- their records
+abbrev pub directRecords : Head → Slots → Agreed → ℕ → ℕ → List ℕ
+directRecords h s a from k = table slotRow (upTo (directOf h s a) from k)
 
 -- the outcomes of the first i slots
 abbrev pub firstSlots : Head → Cells → ℕ → List Outcome
@@ -69,16 +72,17 @@ unfoldable pub progressAt : Head → Cells → ℕ → Progress
 progressAt h b i =
     record { pass = passAt h b i; spans = length (begunBefore h b i); totals = totalsOf (firstSlots h b i) }
 
--- a buffer d with the records of the first i slots, and of the spans that begin at them
-unfoldable pub bufferAt : Head → Cells → List ℕ → ℕ → List ℕ
-bufferAt h b d i =
-    written (written d 0 (table slotRow (firstSlots h b i))) (6 * slotCount h) (table (spanRow true) (begunBefore h b i))
+-- a buffer d with the records of these slots and these spans
+unfoldable pub bufferOf : Head → List ℕ → List Outcome → List Span → List ℕ
+bufferOf h d os ss = written (written d 0 (table slotRow os)) (6 * slotCount h) (table (spanRow true) ss)
 
--- d with the records of slot i and of the span that begins at it
-unfoldable pub nextBytes : Head → Cells → List ℕ → ℕ → List ℕ
-nextBytes h b d i =
-    written (written d (6 * i) (row (slotRow (outcomeAt h b i)))) (6 * slotCount h + 14 * length (begunBefore h b i))
-    (table (spanRow true) (listOf (beginsAt h b i)))
+-- of the first i slots, and of the spans that begin at them
+unfoldable pub bufferAt : Head → Cells → List ℕ → ℕ → List ℕ
+bufferAt h b d i = bufferOf h d (firstSlots h b i) (begunBefore h b i)
+
+-- of the first i slots, and of the spans that begin at the first k
+unfoldable pub bufferIn : Head → Cells → List ℕ → ℕ → ℕ → List ℕ
+bufferIn h b d i k = bufferOf h d (firstSlots h b i) (begunBefore h b k)
 
 -- cells that publishing refuses for a short buffer alone
 pub record Sound (h : Head) (b : Cells) : Type 0 where
@@ -102,27 +106,47 @@ pub record Roomy (h : Head) (b : Cells) (d : List ℕ) : Type 0 where
   pub whole : Whole h b
   pub room : 6 * slotCount h + 14 * length (spans h b) + 32 ≤ length d
 
--- before slot `pass .fills .at`, with the span table from byte `table` on
+-- before slot `pass .walk .at`, with the span table from byte `table` on
 pub record Next (h : Head) (b : Cells) (d : List ℕ) (table : ℕ) (here : Progress) : Type 0 where
   pub roomy : Roomy h b d
   pub place : table ≡ 6 * slotCount h
   pub inside : here .pass .walk .at < slotCount h
   pub known : here ≡ progressAt h b (here .pass .walk .at)
 
--- one slot on: its record and that of the span that begins at it are written
-pub record PutNext (h : Head) (b : Cells) (d e : List ℕ) (here next : Progress) : Type 0 where
-  pub bytes : e ≡ nextBytes h b d (here .pass .walk .at)
-  pub known : next ≡ progressAt h b (here .pass .walk .at + 1)
+-- room for the records up to slot `to`, and totals that stay in their numbers as long as slots are direct
+pub record PutFrom (h : Head) (s : Slots) (a : Agreed) (d : List ℕ) (from to : ℕ) (before : Bool) (t : Totals) : Type 0 where
+  pub direct : DirectFrom h s a from to before
+  pub room : 6 * to ≤ length d
+  pub countable : (k : ℕ) → from + k ≤ to → ((i : ℕ) → i < from + k → from ≤ i → directAt h s a i ≡ true) → Countable (directTotals h s a t from k)
 
--- before a slot, or behind the last
-pub record Further (h : Head) (b : Cells) (d : List ℕ) (here : Progress) : Type 0 where
+-- the records of the direct slots are written
+pub record PutTo (h : Head) (s : Slots) (a : Agreed) (d e : List ℕ) (from to : ℕ) (t : Totals) (r : DirectPut) : Type 0 where
+  pub direct : DirectTo h s a from to (r .end) (r .outage)
+  pub totals : r .totals ≡ directTotals h s a t from (r .end - from)
+  pub bytes : e ≡ written d (6 * from) (directRecords h s a from (r .end - from))
+
+-- before a slot, with the stretch that it lies in
+pub record Entering (h : Head) (b : Cells) (d : List ℕ) (here : Progress) : Type 0 where
   pub roomy : Roomy h b d
-  pub inside : here .pass .walk .at ≤ slotCount h
-  pub known : here ≡ progressAt h b (here .pass .walk .at)
+  pub inside : here .pass .walk .at < slotCount h
+  pub walk : here .pass .walk ≡ walkAt h (b .slots) (b .agreed .versions) (here .pass .walk .at)
+  pub stretch : here .pass .stretch ≡ stretchAt h b (here .pass .walk .at)
+  pub totals : here .totals ≡ totalsOf (firstSlots h b (here .pass .walk .at))
 
--- some slots on: their records are written, in a buffer that held those of the slots before
-pub record PutGood (h : Head) (b : Cells) (d e : List ℕ) (here next : Progress) : Type 0 where
-  pub further : here .pass .walk .at ≤ next .pass .walk .at
+-- behind its last slot: the records of its slots are written, in a buffer that held those of the slots before and of the spans begun
+pub record PutInside (h : Head) (b : Cells) (d e : List ℕ) (here next : Progress) : Type 0 where
+  pub further : here .pass .walk .at < next .pass .walk .at
+  pub inside : next .pass .walk .at ≤ slotCount h
+  pub pass : next .pass ≡ passAt h b (next .pass .walk .at)
+  pub spans : next .spans ≡ here .spans
+  pub begun : begunBefore h b (next .pass .walk .at) ≡ begunBefore h b (here .pass .walk .at + 1)
+  pub totals : next .totals ≡ totalsOf (firstSlots h b (next .pass .walk .at))
+  pub bytes : (x : List ℕ) → length x ≡ length d → d ≡ bufferIn h b x (here .pass .walk .at) (here .pass .walk .at + 1)
+      → e ≡ bufferIn h b x (next .pass .walk .at) (here .pass .walk .at + 1)
+
+-- some slots on, in a buffer that held the records of the slots and spans before
+pub record PutStretch (h : Head) (b : Cells) (d e : List ℕ) (here next : Progress) : Type 0 where
+  pub further : here .pass .walk .at < next .pass .walk .at
   pub inside : next .pass .walk .at ≤ slotCount h
   pub known : next ≡ progressAt h b (next .pass .walk .at)
   pub bytes : (x : List ℕ) → length x ≡ length d → d ≡ bufferAt h b x (here .pass .walk .at) → e ≡ bufferAt h b x (next .pass .walk .at)
