@@ -1,4 +1,3 @@
-pub mod Searches
 pub mod Passing
 pub mod Holding
 pub mod Telling

@@ -29,7 +29,7 @@ use Rattle.rules.proofs.Places.{span-end}
 use Rattle.rules.proofs.Scaling.{running}
 use Rattle.rules.proofs.Steps.{weight, whole-low, step-fits, step-done}
 use Rattle.explain.specs.declared.Rule.{Rule}
-use Rattle.explain.specs.declared.Found.{Found}
+use Rattle.rules.specs.declared.filling.References.{References}
 use Rattle.explain.specs.declared.Shares.{Shares}
 use Rattle.explain.specs.declared.held.Held.{Held}
 use Rattle.explain.specs.Explain.{ruleAt, isLine, noLine, lineOf, foundOf, spannedBy, noShares, sharesBy, earlier, later, explanationOf}
@@ -128,7 +128,7 @@ module _ (h : Head) (w : Bounded h) (b : Cells) (i : ℕ) where
       go none none p q = shares-none _ refl
 
   -- the whole explanation
-  module _ (cause : Cause) (new : Filled) (found : Found) (held : Held)
+  module _ (cause : Cause) (new : Filled) (found : References) (held : Held)
       (c : cause ≡ causeAt h (b .slots) i) (outcome : new .outcome ≡ o) (shaped : new .shape ≡ x) (next : new .next ≡ walkAt h (b .slots) (b .agreed .versions) (i + 1))
       (f : found ≡ foundOf (ruleOf (new .outcome)) h (b .slots) (b .holidays) i)
       (span : held .span ≡ spannedBy h b (earlier b d) (later h b d)) (by : held .by ≡ stretchAt h b i .by) where

@@ -19,12 +19,12 @@ use Rattle.rules.specs.Spans.{isS, lastRead, nextRead, range, actualSum, R, sta
 use Rattle.book.specs.Cells.{Book, bookFits, bookOk}
 use Rattle.explain.specs.declared.Rule.{Rule}
 use Rattle.explain.specs.declared.Rule.the-variants.{Delivered, Agreed as Settled, OutageZero, Linear, SameDay, Nothing}
-use Rattle.explain.specs.declared.Found.{Found}
+use Rattle.rules.specs.declared.filling.References.{References}
 use Rattle.explain.specs.declared.Spanned.{Spanned}
 use Rattle.explain.specs.declared.Shares.{Shares}
 use Rattle.explain.specs.declared.Explanation.{Explanation}
 use Rattle.explain.specs.declared.Explained.{Explained}
-use Rattle.explain.specs.References.{referenceDays, inFour}
+use Rattle.rules.specs.References.{referenceDays, inFour}
 
 -- the rule that applied: a good slot is delivered; one with a cause has its agreed value, or else the first rule that applies
 unfoldable pub ruleAt : Head → Slots → Agreed → List ℕ → ℕ → Rule
@@ -67,10 +67,10 @@ lineOf applied h s agreed i =
     noLine
 
 -- for a same-day fill the days and values of the references and their number
-abbrev pub noneFound : Found
+abbrev pub noneFound : References
 noneFound = record { days = 0 ∷ 0 ∷ 0 ∷ 0 ∷ []; values = 0 ∷ 0 ∷ 0 ∷ 0 ∷ []; count = 0 }
 
-unfoldable pub foundOf : Rule → Head → Slots → List ℕ → ℕ → Found
+unfoldable pub foundOf : Rule → Head → Slots → List ℕ → ℕ → References
 foundOf applied h s holidays i =
     cond (isSameDay applied)
     (record {

@@ -1,4 +1,3 @@
-pub mod References
 pub mod Explain
 pub mod Inner
 pub mod Naming

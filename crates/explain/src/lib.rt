@@ -2,13 +2,13 @@
 mod back;
 mod held;
 pub mod naming;
-mod references;
 mod told;
 
 use book::sound;
 use rules::Head;
 use rules::Outcome;
 use rules::Quality;
+use rules::filling::References;
 use rules::linear;
 use rules::linear::Line;
 use rules::opening;
@@ -33,13 +33,6 @@ pub enum Rule {
     Linear,
     SameDay,
     Nothing,
-}
-
-// The references of a same-day fill: the days and values of the first `count`, nearest day first, and zeros behind them.
-pub struct Found {
-    pub days: [u32; 4],
-    pub values: [u32; 4],
-    pub count: usize,
 }
 
 // The span that a slot lies in: its boundaries, lowest and highest advance, R, V and state.
@@ -69,7 +62,7 @@ pub struct Explanation {
     pub rule: Rule,
     pub filled: Outcome,
     pub line: Line,
-    pub found: Found,
+    pub found: References,
     pub span: Spanned,
     pub shares: Shares,
     pub outcome: Outcome,

@@ -1,13 +1,13 @@
 // What is told of a slot: the rule that applied, its line, its shares and its outcome.
 use crate::Explanation;
-use crate::Found;
 use crate::Rule;
 use crate::Shares;
 use crate::held::Held;
-use crate::references;
 use rules::Head;
 use rules::Outcome;
 use rules::Quality;
+use rules::filling;
+use rules::filling::References;
 use rules::linear;
 use rules::linear::Line;
 use rules::spans;
@@ -98,10 +98,10 @@ fn is_same_day(rule: Rule) -> bool
     }
 }
 
-pub fn none_found() -> Found
+pub fn none_found() -> References
     ensures { λ r. ⌜ r ≡ noneFound ⌝ }
 {
-    Found {
+    References {
         days: [0u32; 4],
         values: [0u32; 4],
         count: 0,
@@ -117,7 +117,7 @@ pub fn found_by(
     statuses: &[u8],
     holidays: &[u8],
     slot: usize,
-) -> Found
+) -> References
     requires { ⌜ Lent head (lentSlots values versions statuses) (now holidays) × (slot < slotCount head) ⌝ }
     ensures { λ r. ⌜
         (let s = lentSlots (values .entry) (versions .entry) (statuses .entry) in
@@ -127,7 +127,7 @@ pub fn found_by(
     if !is_same_day(rule) {
         return none_found();
     }
-    references::find(head, values, versions, statuses, holidays, slot)
+    filling::find_references(head, values, versions, statuses, holidays, slot)
 }
 
 pub fn no_shares() -> Shares
@@ -162,7 +162,7 @@ fn shares_by(quality: Quality, by: Scaling, reached: u64) -> Shares
 }
 
 // A filled slot in its span.
-pub fn tell_with(cause: Cause, filled: Filled, found: Found, held: Held) -> Explanation
+pub fn tell_with(cause: Cause, filled: Filled, found: References, held: Held) -> Explanation
     requires { ⌜ Scalable (filled .outcome) (filled .shape) (scaledTo (held .by)) ⌝ }
     ensures { λ r. ⌜ r ≡ toldWith cause filled found held ⌝ }
 {

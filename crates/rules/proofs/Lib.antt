@@ -7,7 +7,9 @@ pub mod Fillings
 pub mod Small
 pub mod Forms
 pub mod Shapes
+pub mod Weekly
 pub mod References
+pub mod Searches
 pub mod Outages
 pub mod Lines
 pub mod Boundaries

@@ -40,6 +40,13 @@ take-few zero xs = zero-le
 take-few (suc n) [] = zero-le
 take-few (suc n) (x ∷ xs) = omega (arith, take-few n xs)
 
+pub references-few : (h : Head) (s : Slots) (holidays : List ℕ) (i : ℕ) → length (references h s holidays i) ≤ 4
+unfolding references
+references-few h s holidays i =
+    let d = i / slotsPerDay h in
+    let first = firstBack h holidays d in
+    take-few 4 (weeksBack h s holidays first i (weeksWithin first (farthestBack holidays d)))
+
 -- a slot that is not S has none
 shape-only : {o : Outcome} → Filled o → (xs : List ℕ) → shapeIn o (shapeOf o xs) ≡ shapeOf o xs
 unfolding shapeOf
@@ -67,13 +74,6 @@ module _ (h : Head) (s : Slots) (a : Agreed) (holidays : List ℕ) (i : ℕ) whe
   unfolding shapeAt
   shape-of-s = shape-only (filled-form h s a holidays i) found
 
-  found-few : length found ≤ 4
-  unfolding references
-  found-few =
-      let d = i / slotsPerDay h in
-      let first = firstBack h holidays d in
-      take-few 4 (weeksBack h s holidays first i (weeksWithin first (farthestBack holidays d)))
-
   found-some : filledAt h s a holidays i .method ≡ 3 → 1 ≤ length found
   unfolding fromReferences
   found-some =
@@ -84,4 +84,4 @@ module _ (h : Head) (s : Slots) (a : Agreed) (holidays : List ℕ) (i : ℕ) whe
   -- the shape of a same-day slot times the number of its references is 12 × their sum
   pub same-day-whole : filledAt h s a holidays i .method ≡ 3 → shapeAt h s a holidays i * length found ≡ 12 * sumOf found
   unfolding shapeAt shapeOf
-  same-day-whole e = rw e (shape-whole (length found) (sumOf found) (found-some e) found-few)
+  same-day-whole e = rw e (shape-whole (length found) (sumOf found) (found-some e) (references-few h s holidays i))

@@ -5,5 +5,6 @@ pub mod Limits
 pub mod Tests
 pub mod Weeks
 pub mod Filling
+pub mod References
 pub mod Spans
 pub mod Inner

@@ -9,18 +9,20 @@ use crate::tests;
 use crate::weeks;
 ghost use mathlib.Core.Bool.{false};
 ghost use mathlib.Core.Path.{_≡_};
-ghost use Prim.Native.Nat.{_+_, _*_, _/_, _<_, _≤_};
-ghost use lib.ListN.{take};
+ghost use Prim.Native.Nat.{_+_, _*_, _<_, _≤_};
+ghost use lib.ListN.{take, length};
 ghost use Rattle.base.specs.Lists.{sumOf};
-ghost use Rattle.rules.specs.Opening.{slotsPerDay, slotCount};
+ghost use Rattle.rules.specs.Opening.{slotCount};
 ghost use Rattle.rules.specs.Tests.{goodAt};
 ghost use Rattle.rules.specs.Filling.{isReference, references, meanOf, fromReferences, isOutageZero, filledAt, shapeOf, shapeAt};
+ghost use Rattle.rules.specs.References.{referenceDays, inFour};
 ghost use Rattle.rules.specs.Lent.{lentSlots, lentAgreed};
 ghost use Rattle.rules.specs.Inner.Lent.{Lent, Settled};
 ghost use Rattle.rules.specs.Inner.Walks.{actualOf, agreedOf, lineAt, lineBefore};
 
-// Up to four values of the same position on earlier weeks, nearest first.
+// Up to four values of the same position on earlier weeks, nearest first, and their days.
 pub struct References {
+    pub days: [u32; 4],
     pub values: [u32; 4],
     pub count: usize,
 }
@@ -45,17 +47,16 @@ pub struct Lined {
     pub line: Line,
 }
 
-// Slot `at`, of day `day`, can be a reference.
-pub fn is_reference(
+// Slot `at` can be a reference.
+fn is_reference(
     head: Head,
     values: &[u32],
     versions: &[u32],
     statuses: &[u8],
     holidays: &[u8],
-    day: usize,
     at: usize,
 ) -> bool
-    requires { ⌜ Lent head (lentSlots values versions statuses) (now holidays) × (at < slotCount head) × (day ≡ at / slotsPerDay head) ⌝ }
+    requires { ⌜ Lent head (lentSlots values versions statuses) (now holidays) × (at < slotCount head) ⌝ }
     ensures { λ r. ⌜ r ≡ isReference head (lentSlots (values .entry) (versions .entry) (statuses .entry)) (now (holidays .entry)) at ⌝ }
 {
     if !tests::is_good(head, values, versions, statuses, at) {
@@ -64,7 +65,7 @@ pub fn is_reference(
     if tests::outage_bit(statuses[at]) {
         return false;
     }
-    holidays[day] == 0
+    holidays[opening::day_of(head, at)] == 0
 }
 
 // The references of slot `slot`: the search stops at the fourth.
@@ -79,30 +80,27 @@ pub fn find_references(
     requires { ⌜ Lent head (lentSlots values versions statuses) (now holidays) × (slot < slotCount head) ⌝ }
     ensures { λ r. ⌜
         (let s = lentSlots (values .entry) (versions .entry) (statuses .entry) in
-        (r .count ≤ 4) × (take (r .count) (r .values) ≡ references head s (now (holidays .entry)) slot))
+        let xs = references head s (now (holidays .entry)) slot in
+        (r .days ≡ inFour (referenceDays head s (now (holidays .entry)) slot)) × (r .values ≡ inFour xs) × (r .count ≡ length xs))
         ⌝ }
 {
     let n = opening::slots_per_day(head);
     let week = 7 * n;
     let mut found = [0u32; 4];
+    let mut days = [0u32; 4];
     let mut count: usize = 0;
-    let mut at = slot;
-    let mut day = slot / n;
-    let way = weeks::way_back(head, holidays, day);
-    let mut days = way.first;
-    let mut step = days * n;
+    let way = weeks::way_back(head, holidays, opening::day_of(head, slot));
     let mut left = way.weeks;
+    let mut at = slot + week - way.first * n;
     'weeks: loop {
         if left == 0 {
             break 'weeks;
         }
-        at -= step;
-        day -= days;
-        step = week;
-        days = 7;
+        at -= week;
         left -= 1;
-        if is_reference(head, values, versions, statuses, holidays, day, at) {
+        if is_reference(head, values, versions, statuses, holidays, at) {
             found[count] = values[at];
+            days[count] = opening::day_of(head, at) as u32;
             count += 1;
             if count == 4 {
                 break 'weeks;
@@ -110,6 +108,7 @@ pub fn find_references(
         }
     }
     References {
+        days: days,
         values: found,
         count: count,
     }

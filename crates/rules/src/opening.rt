@@ -7,7 +7,7 @@ use crate::MOST_TOLERANCE;
 use calendar::DAY_COUNT;
 ghost use mathlib.Core.Path.{_≡_};
 ghost use mathlib.Core.Bool.{true};
-ghost use Prim.Native.Nat.{_+_, _≤_};
+ghost use Prim.Native.Nat.{_+_, _/_, _≤_};
 ghost use lib.Dec.{leb};
 ghost use Rattle.calendar.specs.Calendar.{isDate, dayCount};
 ghost use Rattle.rules.specs.Numbers.{mostDays};
@@ -86,6 +86,20 @@ pub fn slots_per_day(head: Head) -> usize
     ensures { λ r. ⌜ r ≡ slotsPerDay head ⌝ }
 {
     (DAY_MINUTES / head.interval) as usize
+}
+
+// The day of a slot: a division by each of the three numbers of slots a day is a multiplication.
+pub fn day_of(head: Head, slot: usize) -> usize
+    requires { ⌜ headOk head ≡ true ⌝ }
+    ensures { λ r. ⌜ r ≡ slot / slotsPerDay head ⌝ }
+{
+    if head.interval == 30 {
+        return slot / 48;
+    }
+    if head.interval == 15 {
+        return slot / 96;
+    }
+    slot / 288
 }
 
 // Slots of the book.

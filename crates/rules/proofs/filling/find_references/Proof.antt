@@ -1,82 +1,237 @@
--- `filling::find_references`. The loop's invariant is `Searching`; its measure is the weeks left.
-use mathlib.Core.Path.{sym, _∙_}
+-- `filling::find_references`. Before each week the search stands, and what is kept of each reference so far is its value and its day.
+use mathlib.Core.List.{List}
+use mathlib.Core.Path.{_≡_, refl, sym, ap, _∙_}
+use Prim.Native.Nat.{ℕ, _+_, _-_, _*_, _/_, _≤_, _<_}
 use native.Mathlib.Nat.{mul-le-mul}
 use native.Mathlib.Omega.{arith}
 use borrow.Author.Needs.{needs}
+use lib.ListN.{length}
+use Rattle.rules.specs.declared.Head.{Head}
+use Rattle.rules.specs.Opening.{Slots, slotsPerDay, slotCount}
+use Rattle.rules.specs.References.{inFour}
 use Rattle.rules.specs.Lent.{slots}
-use Rattle.rules.proofs.Bounds.{bounded, count-high, day-below}
-use Rattle.rules.proofs.References.{Searching, search-starts, search-spent, day-inside, slot-inside, day-on, search-passed, search-found, search-ended}
+use Rattle.rules.specs.Inner.Ways.{valueOf, InBook}
+use Rattle.rules.specs.Weeks.{firstBack, farthestBack}
+use Rattle.rules.proofs.Bounds.{Bounded, bounded, count-high, day-below}
+use Rattle.rules.proofs.References.{values-each}
+use Rattle.rules.proofs.Searches.{Keeping, Standing, begin-fits, stands-first, keeps-none, slot-inside, stands-on, keeps-passed, keeps-found}
+use Rattle.rules.proofs.Searches.{keeps-spent, keeps-full}
 use Rattle.rules.proofs.filling.find_references.Statement.{statement}
 use Rattle.rules.proofs.filling.find_references.Tie as tie
 
+record Held (h : Head) (s : Slots) (holidays : List ℕ) (slot week : ℕ) (found days : List ℕ) (count left at : ℕ) : Type 0 where
+  standing : Standing h slot week count at left
+  values : Keeping (valueOf s) h s holidays slot found count at left
+  dates : Keeping (λ j. j / slotsPerDay h) h s holidays slot days count at left
+
 abbrev Inv-weeks : tie.InvT-weeks
-Inv-weeks head values versions statuses holidays slot n week found₀ count₀ at₀ day₀ days₀ step₀ left₀ found count at day days step left = Searching head (slots values versions statuses) holidays slot week found count at day days step left
+Inv-weeks head values versions statuses holidays slot n week found₀ days₀ count₀ left₀ at₀ found days count left at =
+    Held head (slots values versions statuses) holidays slot week found days count left at
 
 abbrev μ-weeks : tie.MeasureT-weeks
-μ-weeks head values versions statuses holidays slot n week found₀ count₀ at₀ day₀ days₀ step₀ left₀ found count at day days step left = left
+μ-weeks head values versions statuses holidays slot n week found₀ days₀ count₀ left₀ at₀ found days count left at = left
+
+-- ---- Places
+
+abbrev At-weeks : Type 0
+At-weeks = tie.At-weeks Inv-weeks μ-weeks
+
+abbrev entry : tie.After-slots-per-day Inv-weeks μ-weeks → tie.Start Inv-weeks μ-weeks
+entry c = c .before .before .before .before .before
+
+abbrev led : tie.After-way-back Inv-weeks μ-weeks → tie.After-slots-per-day Inv-weeks μ-weeks
+led c = c .before .before
+
+abbrev start : At-weeks → tie.Start Inv-weeks μ-weeks
+start c = entry (led (c .before .before))
+
+abbrev turn : tie.After-is-reference Inv-weeks μ-weeks → tie.In-weeks Inv-weeks μ-weeks
+turn c = c .before
+
+abbrev found : tie.After-day-of2 Inv-weeks μ-weeks → tie.After-is-reference Inv-weeks μ-weeks
+found c = c .before .before .before
+
+abbrev lent : tie.Start Inv-weeks μ-weeks → Slots
+lent c = let a = c .args in slots (a .values .now) (a .versions .now) (a .statuses .now)
+
+bounds : (c : tie.Start Inv-weeks μ-weeks) → Bounded (c .args .head)
+bounds c = bounded (c .args .head) (c .pre .0 .fitted .head)
+
+most : (c : tie.Start Inv-weeks μ-weeks) → slotCount (c .args .head) ≤ 115_200
+most c = count-high (c .args .head) (bounds c)
+
+-- a week of slots, and the first days back, with the weeks that lie in the book
+week : (c : tie.After-slots-per-day Inv-weeks μ-weeks) → 7 * c .slots-per-day .result ≡ 7 * slotsPerDay (entry c .args .head)
+week c = ap (λ (x : ℕ). 7 * x) (c .slots-per-day .ensures)
+
+first : (c : tie.After-way-back Inv-weeks μ-weeks) → let a = entry (led c) .args in
+    c .way-back .result .first ≡ firstBack (a .head) (a .holidays .now) (a .slot / slotsPerDay (a .head))
+first c = rw (c .before .day-of .ensures) at (c .way-back .ensures .0)
+
+weeks : (c : tie.After-way-back Inv-weeks μ-weeks) → let a = entry (led c) .args in let d = a .slot / slotsPerDay (a .head) in
+    InBook (c .way-back .result .first) (farthestBack (a .holidays .now) d) d (c .way-back .result .weeks)
+weeks c = rw (c .before .day-of .ensures) at (c .way-back .ensures .1)
+
+-- where the search begins
+begins : (c : tie.After-struct-known Inv-weeks μ-weeks) → let at = led (c .before) in let r = c .before .way-back .result in
+    entry at .args .slot + 7 * at .slots-per-day .result - r .first * at .slots-per-day .result
+    ≡ entry at .args .slot + 7 * at .slots-per-day .result - r .first * slotsPerDay (entry at .args .head)
+begins c =
+    let at = led (c .before) in
+    ap (λ (x : ℕ). entry at .args .slot + 7 * at .slots-per-day .result - c .before .way-back .result .first * x) (at .slots-per-day .ensures)
+
+-- the slot of this week lies in the book
+inside : (c : tie.In-weeks Inv-weeks μ-weeks) → let at = c .before in
+    at .weeks .at - 7 * led (at .before .before) .slots-per-day .result < slotCount (start at .args .head)
+inside c = omega (arith, c .before .weeks .inv .standing .near, start (c .before) .pre .1)
+
+-- ---- Needs
 
 slots-per-day-requires : tie.Need-slots-per-day-requires Inv-weeks μ-weeks
 slots-per-day-requires c κs = search needs
 
 mul-week : tie.Need-mul-week Inv-weeks μ-weeks
-mul-week c = rw (c .slots-per-day .ensures) (omega (arith, bounded (c .before .before .before .before .before .args .head) (c .before .before .before .before .before .pre .0 .fitted .head)))
+mul-week c = rw (c .slots-per-day .ensures) (omega (arith, bounds (entry c)))
 
-div-day : tie.Need-div-day Inv-weeks μ-weeks
-div-day c = rw (c .slots-per-day .ensures) (omega (arith, bounded (c .before .before .before .before .before .args .head) (c .before .before .before .before .before .pre .0 .fitted .head)))
+day-of-requires : tie.Need-day-of-requires Inv-weeks μ-weeks
+day-of-requires c κs = entry c .pre .0 .fitted .head
 
 way-back-requires : tie.Need-way-back-requires Inv-weeks μ-weeks
-way-back-requires c κs = (c .before .before .before .before .before .pre .0 .fitted .head, c .before .before .before .before .before .pre .0 .holidays, rw (c .slots-per-day .ensures) (day-below _ (bounded (c .before .before .before .before .before .args .head) (c .before .before .before .before .before .pre .0 .fitted .head)) _ (c .before .before .before .before .before .pre .1)))
+way-back-requires c κs =
+    let at = entry (c .before) in
+    (at .pre .0 .fitted .head, at .pre .0 .holidays, rw (c .day-of .ensures) (day-below (at .args .head) (bounds at) (at .args .slot) (at .pre .1)))
 
-mul-step : tie.Need-mul-step Inv-weeks μ-weeks
-mul-step c = rw (c .before .slots-per-day .ensures) (omega (arith, mul-le-mul (c .way-back .ensures .1 .short) (bounded (c .before .before .before .before .before .before .args .head) (c .before .before .before .before .before .before .pre .0 .fitted .head) .day-high)))
+add-at : tie.Need-add-at Inv-weeks μ-weeks
+add-at c = let at = entry (led c) in rw (led c .slots-per-day .ensures) (omega (arith, bounds at, at .pre .1, most at))
 
-weeks-holds : tie.Need-weeks-holds Inv-weeks μ-weeks
-weeks-holds c = search-starts _ (bounded (c .before .before .before .before .before .before .args .head) (c .before .before .before .before .before .before .pre .0 .fitted .head)) _ _ _ _ _ _ _ _ (rw (c .before .slots-per-day .ensures)) (rw (c .before .slots-per-day .ensures)) (rw (c .before .slots-per-day .ensures)) (c .way-back .ensures .0) (c .way-back .ensures .1)
+mul-at : tie.Need-mul-at Inv-weeks μ-weeks
+mul-at c =
+    let at = led (c .before) in
+    rw (at .slots-per-day .ensures) (omega (arith, mul-le-mul (c .before .way-back .ensures .1 .short) (bounds (entry at) .day-high)))
 
 sub-at : tie.Need-sub-at Inv-weeks μ-weeks
-sub-at c = slot-inside _ (bounded (c .before .before .before .before .before .before .before .before .args .head) (c .before .before .before .before .before .before .before .before .pre .0 .fitted .head)) _ _ _ _ (c .before .weeks .inv) (c .weeks-test .left)
+sub-at c =
+    let at = led (c .before) in
+    let s = entry at in
+    let fits = begin-fits (s .args .head) (bounds s) (s .args .slot) _ (week at) (s .args .holidays .now) _ _ (first (c .before)) (weeks (c .before)) in
+    let same = ap (λ (x : ℕ). c .before .way-back .result .first * x) (at .slots-per-day .ensures) in
+    omega (arith, fits, same)
 
-sub-day : tie.Need-sub-day Inv-weeks μ-weeks
-sub-day c = day-inside _ (bounded (c .before .before .before .before .before .before .before .before .args .head) (c .before .before .before .before .before .before .before .before .pre .0 .fitted .head)) _ _ _ _ (c .before .weeks .inv) (c .weeks-test .left)
+weeks-holds : tie.Need-weeks-holds Inv-weeks μ-weeks
+weeks-holds c =
+    let at = led (c .before) in
+    let s = entry at in
+    let a = s .args in
+    let h = a .head in
+    let f = first (c .before) in
+    let b = weeks (c .before) in
+    record {
+      standing = stands-first h (bounds s) (a .slot) _ (week at) (a .holidays .now) _ _ f b _ (begins c);
+      values = keeps-none h (bounds s) (a .slot) _ (week at) (a .holidays .now) _ _ f b _ (begins c) _ (lent s);
+      dates = keeps-none h (bounds s) (a .slot) _ (week at) (a .holidays .now) _ _ f b _ (begins c) _ (lent s);
+    }
+
+sub-at-2 : tie.Need-sub-at-2 Inv-weeks μ-weeks
+sub-at-2 c =
+    let at = c .before in
+    slot-inside (start at .args .head) (bounds (start at)) _ _ (at .weeks .inv .standing .seven) (at .weeks .inv .standing) (c .weeks-test .left)
 
 sub-left : tie.Need-sub-left Inv-weeks μ-weeks
-sub-left c = omega arith
+sub-left c = omega (arith, c .weeks-test .left)
 
 is-reference-requires : tie.Need-is-reference-requires Inv-weeks μ-weeks
-is-reference-requires c κs = (c .before .before .before .before .before .before .before .before .pre .0, omega arith, day-on _ (bounded (c .before .before .before .before .before .before .before .before .args .head) (c .before .before .before .before .before .before .before .before .pre .0 .fitted .head)) _ _ _ _ (c .before .weeks .inv) (c .weeks-test .left))
+is-reference-requires c κs = (start (c .before) .pre .0, inside c)
 
 mul-found : tie.Need-mul-found Inv-weeks μ-weeks
-mul-found c = omega (arith, count-high (c .before .before .before .before .before .before .before .before .before .before .args .head) (bounded (c .before .before .before .before .before .before .before .before .before .before .args .head) (c .before .before .before .before .before .before .before .before .before .before .pre .0 .fitted .head)), c .before .before .before .before .before .before .before .before .before .before .pre .1, c .before .before .before .weeks .inv .near)
+mul-found c = omega (arith, inside (turn (c .before)), most (start (turn (c .before) .before)))
 
 shared-slice-read-found : tie.Need-shared-slice-read-found Inv-weeks μ-weeks
-shared-slice-read-found c = omega arith
+shared-slice-read-found c =
+    let turned = turn (c .before .before) in
+    omega (arith, inside turned, start (turned .before) .pre .0 .fitted .values)
 
 mul-found-2 : tie.Need-mul-found-2 Inv-weeks μ-weeks
-mul-found-2 c = omega arith
+mul-found-2 c = omega (arith, turn (c .before .before) .before .weeks .inv .standing .room)
 
 array-write-found : tie.Need-array-write-found Inv-weeks μ-weeks
-array-write-found c = omega arith
+array-write-found c = omega (arith, turn (c .before .before) .before .weeks .inv .standing .room)
+
+day-of-requires-2 : tie.Need-day-of-requires-2 Inv-weeks μ-weeks
+day-of-requires-2 c κs = start (turn (c .before .before) .before) .pre .0 .fitted .head
+
+cast-days : tie.Need-cast-days Inv-weeks μ-weeks
+cast-days c =
+    let turned = turn (found c) in
+    let at = start (turned .before) in
+    rw (c .day-of2 .ensures)
+    (record { fits = omega (arith, day-below (at .args .head) (bounds at) _ (inside turned), bounds at .days-high) })
+
+mul-days : tie.Need-mul-days Inv-weeks μ-weeks
+mul-days c = omega (arith, turn (found c) .before .weeks .inv .standing .room)
+
+array-write-days : tie.Need-array-write-days Inv-weeks μ-weeks
+array-write-days c = omega (arith, turn (found c) .before .weeks .inv .standing .room)
 
 add-count : tie.Need-add-count Inv-weeks μ-weeks
-add-count c = omega arith
+add-count c = omega (arith, turn (found c) .before .weeks .inv .standing .room)
 
 weeks-less : tie.Need-weeks-less Inv-weeks μ-weeks
-weeks-less c = omega arith
+weeks-less c = omega (arith, turn (found (c .before)) .weeks-test .left)
 
 weeks-again : tie.Need-weeks-again Inv-weeks μ-weeks
-weeks-again c = search-found _ (bounded (c .before .before .before .before .before .before .before .before .before .before .before .before .args .head) (c .before .before .before .before .before .before .before .before .before .before .before .before .pre .0 .fitted .head)) _ _ _ _ (c .before .before .before .before .before .weeks .inv) (c .before .before .before .before .weeks-test .left) (sym (c .before .before .before .is-reference .ensures) ∙ c .before .before .if1 .taken) (c .if2 .left)
+weeks-again c =
+    let is = found (c .before) in
+    let turned = turn is in
+    let held = turned .before .weeks .inv in
+    let s = start (turned .before) in
+    let yes = sym (is .is-reference .ensures) ∙ c .before .before .before .if1 .taken in
+    let seven = held .standing .seven in
+    let more = turned .weeks-test .left in
+    record {
+      standing = stands-on (s .args .head) (bounds s) _ _ seven (held .standing) more _ (omega (arith, held .standing .room, c .if2 .left));
+      values = keeps-found (s .args .head) (bounds s) _ _ seven (held .standing) more (held .values) _ refl yes;
+      dates = keeps-found (s .args .head) (bounds s) _ _ seven (held .standing) more (held .dates) _ (c .before .day-of2 .ensures) yes;
+    }
 
 weeks-less-2 : tie.Need-weeks-less-2 Inv-weeks μ-weeks
-weeks-less-2 c = omega arith
+weeks-less-2 c = omega (arith, turn (c .before) .weeks-test .left)
 
 weeks-again-2 : tie.Need-weeks-again-2 Inv-weeks μ-weeks
-weeks-again-2 c = search-passed _ (bounded (c .before .before .before .before .before .before .before .before .before .before .args .head) (c .before .before .before .before .before .before .before .before .before .before .pre .0 .fitted .head)) _ _ _ _ (c .before .before .before .weeks .inv) (c .before .before .weeks-test .left) (sym (c .before .is-reference .ensures) ∙ c .if1 .left)
+weeks-again-2 c =
+    let turned = turn (c .before) in
+    let held = turned .before .weeks .inv in
+    let s = start (turned .before) in
+    let no = sym (c .before .is-reference .ensures) ∙ c .if1 .left in
+    let seven = held .standing .seven in
+    let more = turned .weeks-test .left in
+    record {
+      standing = stands-on (s .args .head) (bounds s) _ _ seven (held .standing) more _ (held .standing .room);
+      values = keeps-passed (s .args .head) (bounds s) _ _ seven (held .standing) more (held .values) no;
+      dates = keeps-passed (s .args .head) (bounds s) _ _ seven (held .standing) more (held .dates) no;
+    }
 
 returns : tie.Need-returns Inv-weeks μ-weeks
-returns c = (omega arith, search-spent _ (bounded (c .before .before .before .before .before .before .before .before .args .head) (c .before .before .before .before .before .before .before .before .pre .0 .fitted .head)) _ _ _ _ (c .before .weeks .inv) (c .weeks-test .taken))
+returns c =
+    let held = c .before .weeks .inv in
+    let at = start (c .before) in
+    let v = keeps-spent (held .values) (held .standing .room) (c .weeks-test .taken) in
+    let d = keeps-spent (held .dates) (held .standing .room) (c .weeks-test .taken) in
+    let e = values-each (at .args .head) (lent at) (at .args .holidays .now) (at .args .slot) in
+    (d .0, v .0 ∙ ap inFour e, v .1 ∙ ap length e)
 
 returns-2 : tie.Need-returns-2 Inv-weeks μ-weeks
-returns-2 c = (omega arith, search-ended _ (bounded (c .before .before .before .before .before .before .before .before .before .before .before .before .args .head) (c .before .before .before .before .before .before .before .before .before .before .before .before .pre .0 .fitted .head)) _ _ _ _ (c .before .before .before .before .before .weeks .inv) (c .before .before .before .before .weeks-test .left) (sym (c .before .before .before .is-reference .ensures) ∙ c .before .before .if1 .taken) (c .if2 .taken))
+returns-2 c =
+    let is = found (c .before) in
+    let turned = turn is in
+    let held = turned .before .weeks .inv in
+    let s = start (turned .before) in
+    let yes = sym (is .is-reference .ensures) ∙ c .before .before .before .if1 .taken in
+    let seven = held .standing .seven in
+    let more = turned .weeks-test .left in
+    let v = keeps-full (keeps-found (s .args .head) (bounds s) _ _ seven (held .standing) more (held .values) _ refl yes) (c .if2 .taken) in
+    let d = keeps-full (keeps-found (s .args .head) (bounds s) _ _ seven (held .standing) more (held .dates) _ (c .before .day-of2 .ensures) yes) (c .if2 .taken) in
+    let e = values-each (s .args .head) (lent s) (s .args .holidays .now) (s .args .slot) in
+    (d .0, v .0 ∙ ap inFour e, v .1 ∙ ap length e)
 
 pub find-references-spec : {M : Type 1} → statement M
 find-references-spec =
@@ -86,18 +241,23 @@ find-references-spec =
     μ-weeks
     slots-per-day-requires
     mul-week
-    div-day
+    day-of-requires
     way-back-requires
-    mul-step
-    weeks-holds
+    add-at
+    mul-at
     sub-at
-    sub-day
+    weeks-holds
+    sub-at-2
     sub-left
     is-reference-requires
     mul-found
     shared-slice-read-found
     mul-found-2
     array-write-found
+    day-of-requires-2
+    cast-days
+    mul-days
+    array-write-days
     add-count
     weeks-less
     weeks-again

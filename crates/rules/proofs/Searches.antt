@@ -4,7 +4,7 @@ use mathlib.Core.List.{List, [], _∷_, _++_, map, append-assoc, append-nil}
 use mathlib.Core.Logic.{⊎-elim}
 use mathlib.Core.Path.{_≡_, refl, sym, ap, _∙_}
 use Prim.Native.Nat.{ℕ, zero, suc, _+_, _-_, _*_, _/_, _≤_, _<_}
-use native.Mathlib.Nat.{le-refl, add-mul-div-right, le-div-iff-mul-le, div-lt-iff-lt-mul}
+use native.Mathlib.Nat.{add-mul, add-mul-div-right, le-div-iff-mul-le, div-lt-iff-lt-mul}
 use native.Mathlib.Numerals.{add-one}
 use native.Mathlib.Omega.{arith}
 use borrow.Author.Tests.{lt-ltb, le-ltb, ltb-true, ltb-false}
@@ -12,28 +12,14 @@ use lib.Dec.{lit<, ltb}
 use lib.ListN.{length, getD, take, set, length-set, List·getD-eq-default}
 use lib.Seq.{take-suc-set, take-nil, getD-take, getD-set-other, length-take-le, ext-getD}
 use Rattle.base.proofs.Logic.{either}
 use Rattle.rules.specs.declared.Head.{Head}
 use Rattle.rules.specs.Opening.{Slots, slotsPerDay}
 use Rattle.rules.specs.Weeks.{firstBack, farthestBack, weeksWithin}
-use Rattle.rules.specs.Filling.{isReference, references}
-use Rattle.rules.specs.Inner.Ways.{searched, InBook}
+use Rattle.rules.specs.Filling.{isReference}
+use Rattle.rules.specs.Inner.Ways.{InBook}
 use Rattle.rules.proofs.Bounds.{Bounded}
-use Rattle.rules.proofs.References.{references-searched}
-use Rattle.explain.specs.References.{eachWeek, eachReference, inFour}
-
--- of the references' values it is `searched`, and so `references`
-module _ (h : Head) (s : Slots) (holidays : List ℕ) where
-  abbrev valueOf : ℕ → ℕ
-  valueOf j = getD (s .values) j 0
-
-  values-back : (days j k : ℕ) → eachWeek valueOf h s holidays days j k ≡ searched h s holidays days j k
-  unfolding eachWeek searched
-  values-back days j zero = refl
-  values-back days j (suc k) = rw (values-back 7 (j - days * slotsPerDay h) k)
-
-  pub values-each : (i : ℕ) → eachReference valueOf h s holidays i ≡ references h s holidays i
-  unfolding eachReference
-  values-each i = rw (references-searched h s holidays i, values-back (firstBack h holidays (i / slotsPerDay h)) i (weeksWithin (firstBack h holidays (i / slotsPerDay h)) (farthestBack holidays (i / slotsPerDay h))))
+use Rattle.rules.proofs.Weekly.{each-none, each-out, each-found, each-passed}
+use Rattle.rules.specs.References.{eachWeek, eachReference, inFour}
 
 take-map : (f : ℕ → ℕ) (k : ℕ) (xs : List ℕ) → take k (map f xs) ≡ map f (take k xs)
 take-map f zero xs = refl
@@ -60,32 +46,6 @@ module _ (f : ℕ → ℕ) (h : Head) (s : Slots) (holidays : List ℕ) where
       let first = firstBack h holidays (i / slotsPerDay h) in
       let k = weeksWithin first (farthestBack holidays (i / slotsPerDay h)) in
       ap (take 4) (weeks-map first i k) ∙ take-map f 4 (eachWeek (λ j. j) h s holidays first i k)
-
--- where the search ends, and one week of it
-module _ (f : ℕ → ℕ) (h : Head) (s : Slots) (holidays : List ℕ) (days j : ℕ) where
-  abbrev earlier : ℕ
-  earlier = j - days * slotsPerDay h
-
-  each-none : eachWeek f h s holidays days j 0 ≡ []
-  unfolding eachWeek
-  each-none = refl
-
-  each-out : (k : ℕ) → j < days * slotsPerDay h → eachWeek f h s holidays days j k ≡ []
-  unfolding eachWeek
-  each-out zero p = refl
-  each-out (suc k) p = simp (lt-ltb _ _ p)
-
-  module _ (k : ℕ) (more : k ≡ 0 → ⊥) (inside : days * slotsPerDay h ≤ j) where
-    one-more : k ≡ suc (k - 1)
-    one-more = omega (arith, more)
-
-    each-found : isReference h s holidays earlier ≡ true → eachWeek f h s holidays days j k ≡ f earlier ∷ eachWeek f h s holidays 7 earlier (k - 1)
-    unfolding eachWeek
-    each-found e = ap (eachWeek f h s holidays days j) one-more ∙ simp (le-ltb _ _ inside, e)
-
-    each-passed : isReference h s holidays earlier ≡ false → eachWeek f h s holidays days j k ≡ eachWeek f h s holidays 7 earlier (k - 1)
-    unfolding eachWeek
-    each-passed e = ap (eachWeek f h s holidays days j) one-more ∙ simp (le-ltb _ _ inside, e)
 
 module _ (h : Head) (w : Bounded h) where
   abbrev n : ℕ
@@ -159,21 +119,18 @@ four-places l xs c four low zeros e =
     at (suc (suc (suc zero))) p = each 3
     at (suc (suc (suc (suc k)))) p = absurd (omega arith)
 
--- what is kept of the references found so far, where the rest are `days` days before slot `at` and in the weeks before
-pub record Keeping (f : ℕ → ℕ) (h : Head) (s : Slots) (holidays : List ℕ) (slot : ℕ) (found : List ℕ) (count at days weeks : ℕ) : Type 0 where
+-- what is kept of the references found so far, where the rest are a week before slot `at` and in the weeks before
+pub record Keeping (f : ℕ → ℕ) (h : Head) (s : Slots) (holidays : List ℕ) (slot : ℕ) (found : List ℕ) (count at weeks : ℕ) : Type 0 where
   pub four : length found ≡ 4
   pub zeros : (k : ℕ) → count ≤ k → getD found k 0 ≡ 0
-  pub rest : kept found count (eachWeek f h s holidays days at weeks) ≡ eachReference f h s holidays slot
+  pub rest : kept found count (eachWeek f h s holidays 7 at weeks) ≡ eachReference f h s holidays slot
 
--- where the search stands: `step` slots are `days` days, and slot `at` lies in day `day`
-pub record Standing (h : Head) (slot week count at day days step weeks : ℕ) : Type 0 where
+-- where the search stands: all its weeks lie in the book
+pub record Standing (h : Head) (slot week count at weeks : ℕ) : Type 0 where
   pub room : count < 4
-  pub near : at ≤ slot
-  pub on : day ≡ at / slotsPerDay h
-  pub short : days ≤ 7
-  pub reach : days + 7 * weeks ≤ day + 7
+  pub near : at ≤ slot + week
+  pub reach : 7 * weeks ≤ at / slotsPerDay h
   pub seven : week ≡ 7 * slotsPerDay h
-  pub long : step ≡ days * slotsPerDay h
 
 zero-four : (k : ℕ) → _≡_ {A = ℕ} (getD (0 ∷ 0 ∷ 0 ∷ 0 ∷ []) k 0) 0
 zero-four zero = refl
@@ -182,61 +139,101 @@ zero-four (suc (suc zero)) = refl
 zero-four (suc (suc (suc zero))) = refl
 zero-four (suc (suc (suc (suc k)))) = refl
 
-module _ (h : Head) (w : Bounded h) (slot week : ℕ) where
-  module _ (holidays : List ℕ) (day first step weeks : ℕ) (d : day ≡ slot / slotsPerDay h) (e : first ≡ firstBack h holidays day) (b : InBook first (farthestBack holidays day) day weeks) where
-    pub stands-first : week ≡ 7 * slotsPerDay h → step ≡ first * slotsPerDay h → Standing h slot week 0 slot day first step weeks
-    stands-first v l =
-        record { room = lit< tt; near = le-refl slot; on = d; short = b .short; reach = b .inside; seven = v; long = l }
+module _ (h : Head) (w : Bounded h) (slot week : ℕ) (seven : week ≡ 7 * slotsPerDay h) where
+  -- the search begins a week behind the first slot that it looks at
+  module _ (holidays : List ℕ) (first weeks : ℕ) (e : first ≡ firstBack h holidays (slot / n h w))
+      (b : InBook first (farthestBack holidays (slot / n h w)) (slot / n h w) weeks) where
+    parts : 7 * n h w ≡ first * n h w + (7 - first) * n h w
+    parts = let p : 7 ≡ first + (7 - first) = omega (arith, b .short) in ap (λ (x : ℕ). x * n h w) p ∙ add-mul first (7 - first) (n h w)
 
-    pub keeps-none : (f : ℕ → ℕ) (s : Slots) → Keeping f h s holidays slot (0 ∷ 0 ∷ 0 ∷ 0 ∷ []) 0 slot first weeks
-    unfolding kept eachReference
-    keeps-none f s =
-        let g = each-enough h w f s holidays weeks (weeksWithin first (farthestBack holidays day)) first slot (rw d at (b .inside)) (b .within) (λ x. rw d at (b .all x)) in
-        record { four = refl; zeros = λ k _. zero-four k; rest = rw (← d, ← e, g) }
+    pub begin-fits : first * n h w ≤ slot + week
+    begin-fits = omega (arith, parts, seven)
 
-  module _ {count at day days step weeks : ℕ} (i : Standing h slot week count at day days step weeks) (more : weeks ≡ 0 → ⊥) where
+    module _ (begin : ℕ) (begins : begin ≡ slot + week - first * n h w) where
+      begin-day : begin / n h w ≡ slot / n h w + (7 - first)
+      begin-day =
+          let p : begin ≡ slot + (7 - first) * n h w = omega (arith, parts, seven, begins) in
+          ap (λ (x : ℕ). x / n h w) p ∙ add-mul-div-right slot (7 - first) (positive h w)
+
+      pub stands-first : Standing h slot week 0 begin weeks
+      stands-first =
+          record { room = lit< tt; near = omega (arith, begins); reach = omega (arith, begin-day, b .inside, b .short); seven = seven }
+
+      -- both look at the same slots
+      begins-same : (f : ℕ → ℕ) (s : Slots) (k : ℕ) → eachWeek f h s holidays first slot k ≡ eachWeek f h s holidays 7 begin k
+      unfolding eachWeek
+      begins-same f s zero = refl
+      begins-same f s (suc k) =
+          let same : begin - 7 * n h w ≡ slot - first * n h w = omega (arith, parts, seven, begins) in
+          ⊎-elim
+          (λ t.
+          let l = ltb-true slot (first * n h w) t in
+          rw (t, lt-ltb begin (7 * n h w) (omega (arith, parts, seven, begins))))
+          (λ t.
+          let l = ltb-false slot (first * n h w) t in
+          rw (t, le-ltb begin (7 * n h w) (omega (arith, parts, seven, begins)), same))
+          (either (ltb slot (first * n h w)))
+
+      pub keeps-none : (f : ℕ → ℕ) (s : Slots) → Keeping f h s holidays slot (0 ∷ 0 ∷ 0 ∷ 0 ∷ []) 0 begin weeks
+      unfolding kept eachReference
+      keeps-none f s =
+          let g = each-enough h w f s holidays weeks (weeksWithin first (farthestBack holidays (slot / n h w))) first slot (b .inside) (b .within) (b .all) in
+          record { four = refl; zeros = λ k _. zero-four k; rest = rw (← e, g, begins-same f s weeks) }
+
+  module _ {count at weeks : ℕ} (i : Standing h slot week count at weeks) (more : weeks ≡ 0 → ⊥) where
     abbrev next : ℕ
-    next = at - step
+    next = at - week
 
-    pub day-inside : days ≤ day
-    day-inside = omega (arith, i .reach)
+    within : 7 * n h w ≤ at
+    within = days-low h w 7 at (omega (arith, i .reach, more))
 
-    within : days * slotsPerDay h ≤ at
-    within = days-low h w days at (rw (i .on) at day-inside)
+    pub slot-inside : week ≤ at
+    slot-inside = rw seven within
 
-    pub slot-inside : step ≤ at
-    slot-inside = rw (i .long) within
+    next-day : at / n h w ≡ next / n h w + 7
+    next-day = rw seven (days-on h w 7 at within)
 
-    pub day-on : day - days ≡ next / slotsPerDay h
-    day-on = rw (i .long, i .on) (omega (arith, days-on h w days at within))
-
-    pub stands-on : (c : ℕ) → c < 4 → Standing h slot week c next (day - days) 7 week (weeks - 1)
+    pub stands-on : (c : ℕ) → c < 4 → Standing h slot week c next (weeks - 1)
     stands-on c l =
-        record { room = l; near = omega arith; on = day-on; short = le-refl 7; reach = omega (arith, i .reach); seven = i .seven; long = i .seven }
+        record { room = l; near = omega (arith, i .near); reach = omega (arith, i .reach, next-day, more); seven = seven }
 
-    module _ {f : ℕ → ℕ} {s : Slots} {holidays found : List ℕ} (k : Keeping f h s holidays slot found count at days weeks) where
-      pub keeps-passed : isReference h s holidays next ≡ false → Keeping f h s holidays slot found count next 7 (weeks - 1)
+    module _ {f : ℕ → ℕ} {s : Slots} {holidays found : List ℕ} (k : Keeping f h s holidays slot found count at weeks) where
+      pub keeps-passed : isReference h s holidays next ≡ false → Keeping f h s holidays slot found count next (weeks - 1)
       keeps-passed e =
-          let e′ : isReference h s holidays (at - days * slotsPerDay h) ≡ false = rw (i .long) at e in
-          record { four = k .four; zeros = k .zeros; rest = rw (i .long, ← each-passed f h s holidays days at weeks more within e′) (k .rest) }
+          let e′ : isReference h s holidays (at - 7 * n h w) ≡ false = rw seven at e in
+          record { four = k .four; zeros = k .zeros; rest = rw (seven, ← each-passed f h s holidays 7 at weeks more within e′) (k .rest) }
 
-      pub keeps-found : (v : ℕ) → v ≡ f next → isReference h s holidays next ≡ true → Keeping f h s holidays slot (set found count v) (count + 1) next 7 (weeks - 1)
+      pub keeps-found : (v : ℕ) → v ≡ f next → isReference h s holidays next ≡ true → Keeping f h s holidays slot (set found count v) (count + 1) next (weeks - 1)
       keeps-found v q e =
-          let e′ : isReference h s holidays (at - days * slotsPerDay h) ≡ true = rw (i .long) at e in
+          let e′ : isReference h s holidays (at - 7 * n h w) ≡ true = rw seven at e in
           let p : count < length found = omega (arith, k .four, i .room) in
           record {
             four = simp length-set (k .four);
             zeros = λ j l. getD-set-other found count j v 0 (λ z. omega arith) ∙ k .zeros j (omega arith);
-            rest = rw (q, i .long) (sym (kept-more found _ count _ (i .room) p) ∙ (rw (each-found f h s holidays days at weeks more within e′) at (k .rest)));
+            rest = rw (q, seven) (sym (kept-more found _ count _ (i .room) p) ∙ (rw (each-found f h s holidays 7 at weeks more within e′) at (k .rest)));
           }
 
 -- the search is over: four places, and their number
-module _ {f : ℕ → ℕ} {h : Head} {s : Slots} {holidays : List ℕ} {slot : ℕ} {found : List ℕ} {count at days weeks : ℕ} (k : Keeping f h s holidays slot found count at days weeks) where
+module _ {f : ℕ → ℕ} {h : Head} {s : Slots} {holidays : List ℕ} {slot : ℕ} {found : List ℕ} {count at weeks : ℕ}
+    (k : Keeping f h s holidays slot found count at weeks) where
   pub keeps-spent : count < 4 → weeks ≡ 0 → (found ≡ inFour (eachReference f h s holidays slot)) × (count ≡ length (eachReference f h s holidays slot))
   keeps-spent l z =
-      let e : kept found count (eachWeek f h s holidays days at 0) ≡ eachReference f h s holidays slot = rw z at (k .rest) in
-      four-places found _ count (k .four) (omega arith) (k .zeros) (sym (kept-nil found count) ∙ (rw (each-none f h s holidays days at) at e))
+      let e : kept found count (eachWeek f h s holidays 7 at 0) ≡ eachReference f h s holidays slot = rw z at (k .rest) in
+      four-places found _ count (k .four) (omega arith) (k .zeros) (sym (kept-nil found count) ∙ (rw (each-none f h s holidays 7 at) at e))
 
   pub keeps-full : count ≡ 4 → (found ≡ inFour (eachReference f h s holidays slot)) × (count ≡ length (eachReference f h s holidays slot))
   keeps-full z =
-      four-places found _ count (k .four) (omega arith) (k .zeros) (sym (kept-full found (eachWeek f h s holidays days at weeks) count z) ∙ k .rest)
+      four-places found _ count (k .four) (omega arith) (k .zeros) (sym (kept-full found (eachWeek f h s holidays 7 at weeks) count z) ∙ k .rest)
+
+-- the first places of four are the list that is in them
+out-of-four : (xs : List ℕ) → length xs ≤ 4 → take (length xs) (inFour xs) ≡ xs
+unfolding inFour
+out-of-four [] l = refl
+out-of-four (a ∷ []) l = refl
+out-of-four (a ∷ b ∷ []) l = refl
+out-of-four (a ∷ b ∷ c ∷ []) l = refl
+out-of-four (a ∷ b ∷ c ∷ d ∷ []) l = refl
+out-of-four (a ∷ b ∷ c ∷ d ∷ e ∷ xs) l = absurd (omega arith)
+
+pub first-places : (found xs : List ℕ) (count : ℕ) → found ≡ inFour xs → count ≡ length xs → length xs ≤ 4 → take count found ≡ xs
+first-places found xs count e f l = rw (e, f) (out-of-four xs l)
