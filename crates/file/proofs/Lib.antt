@@ -7,6 +7,7 @@ pub mod Records
 pub mod Layouts
 pub mod SpanRecords
 pub mod Counts
+pub mod Tallies
 pub mod Head
 pub mod Inside
 pub mod States

@@ -1,13 +1,16 @@
 // The format of the published file: its reader, and the writing of its records (01, The published file).
+mod counting;
 pub mod fields;
 mod slots;
 mod spans;
 mod trailer;
 pub mod writer;
 
+use crate::counting::Counted;
 ghost use mathlib.Core.Path.{_≡_};
-ghost use Rattle.file.specs.Reader.{layoutFits, tablesOk, figuresOk, readFile, tablesPart};
-ghost use Rattle.file.specs.Inner.Reading.{Ready};
+ghost use Rattle.base.specs.Lists.{every};
+ghost use Rattle.file.specs.Reader.{fileSlots, layoutFits, tablesOk, readFile, tablesPart};
+ghost use Rattle.file.specs.Inner.Reading.{Ready, metBy, countedIn, countTests};
 
 // The figures of a file's trailer: first day number, D, L, M, counts of A, of S and F, and of N slots, sum, layout.
 pub struct Figures {
@@ -29,11 +32,11 @@ pub enum Verdict {
 }
 
 // The records, the spans, and what lies outside them.
-fn tables_ok(file: &[u8], g: Figures) -> bool
-    requires { ⌜ Ready (now file) g ⌝ }
+fn tables_ok(file: &[u8], g: Figures, found: Counted) -> bool
+    requires { ⌜ Ready (now file) g × (metBy found ≡ countedIn (now file) (fileSlots g)) ⌝ }
     ensures { λ r. ⌜ r ≡ tablesOk (now (file .entry)) g ⌝ }
 {
-    if !slots::records_ok(file, trailer::slot_count(g)) {
+    if !counting::forms_ok(found) {
         return false;
     }
     if !spans::spans_ok(file, g) {
@@ -59,11 +62,9 @@ fn layout_fits(layout: u32, agreed: usize) -> bool
 }
 
 // The counts, the layout and the sum are those of the slots.
-fn figures_ok(file: &[u8], g: Figures) -> bool
-    requires { ⌜ Ready (now file) g ⌝ }
-    ensures { λ r. ⌜ r ≡ figuresOk (now (file .entry)) g ⌝ }
+fn figures_ok(found: Counted, g: Figures) -> bool
+    ensures { λ r. ⌜ r ≡ every (countTests (metBy found) g) ⌝ }
 {
-    let found = slots::totals(file, trailer::slot_count(g));
     let actual = g.actual as usize;
     if found.actual != actual {
         return false;
@@ -94,10 +95,11 @@ pub fn read(file: &[u8]) -> Verdict
     if !trailer::trailer_ok(file, g) {
         return Verdict::Refused(8);
     }
-    if !tables_ok(file, g) {
+    let found = counting::totals(file, trailer::slot_count(g));
+    if !tables_ok(file, g, found) {
         return Verdict::Refused(9);
     }
-    if !figures_ok(file, g) {
+    if !figures_ok(found, g) {
         return Verdict::Refused(9);
     }
     Verdict::Accepted(g)

@@ -1,25 +1,31 @@
 -- What the functions of the reader know of a file.
 use mathlib.Core.Path.{_≡_}
-use mathlib.Core.Bool.{Bool, true, cond, _||_}
-use mathlib.Core.List.{List}
+use mathlib.Core.Bool.{Bool, true, false, cond, _&&_, _||_}
+use mathlib.Core.List.{List, [], _∷_}
 use Prim.Native.Nat.{ℕ, _+_, _*_, _^_, _≤_}
+use lib.Dec.{eqb, leb}
 use lib.ListN.{length}
-use Rattle.base.specs.Lists.{sum, any, every, count}
+use Rattle.base.specs.Numbers.{eightDigits}
+use Rattle.base.specs.Lists.{sum, all, any, every, count}
 use Rattle.rules.specs.declared.Quality.{Quality}
 use Rattle.rules.specs.declared.Quality.the-variants.{A, S, F, N}
 use Rattle.rules.specs.Numbers.{mostDays}
 use Rattle.file.specs.declared.Figures.{Figures}
-use Rattle.file.specs.declared.slots.Counted.{Counted}
+use Rattle.file.specs.declared.counting.Counted.{Counted}
 use Rattle.file.specs.declared.slots.Kind.{Kind}
 use Rattle.file.specs.declared.slots.Kind.the-variants.{Substituted, None, Scaled, Unscaled}
 use Rattle.file.specs.declared.slots.SlotRecord.{SlotRecord}
 use Rattle.file.specs.declared.slots.Tally.{Tally}
 use Rattle.file.specs.Layout.{slotWidth, spanTableBytes, trailerWidth}
-use Rattle.file.specs.Reader.{slotAt, headFieldTests, fileSlots, ofQuality, isForm, scaled, unscaled}
+use Rattle.file.specs.Reader.{slotAt, headFieldTests, fileSlots, ofQuality, isForm, recordOk, scaled, unscaled, layoutFits}
 
 -- (A,0)
 abbrev pub isPlain : SlotRecord → Bool
 isPlain r = isForm A 0 r
+
+-- (A,0) or (F,5)
+abbrev pub isKindless : SlotRecord → Bool
+isKindless r = isPlain r || isForm F 5 r
 
 -- a record is of a kind
 abbrev pub isKind : Kind → SlotRecord → Bool
@@ -56,23 +62,52 @@ talliedIn bs a k = record {
 abbrev pub one : Quality → SlotRecord → ℕ
 one q r = cond (ofQuality q r) 1 0
 
--- the counts and the sum with one slot more; F counts with S and by itself
-abbrev pub countedWith : Counted → SlotRecord → Counted
-countedWith c r = record {
-  actual = c .actual + one A r;
-  substituted = c .substituted + (one S r + one F r);
-  agreed = c .agreed + one F r;
-  none = c .none + one N r;
-  sum = c .sum + r .value;
+-- (A,1), or a record of no form: not (A,0), nor of another letter of a quality
+pub record IsRest (r : SlotRecord) : Type 0 where
+  pub plain : isPlain r ≡ false
+  pub none : r .letter ≡ 78 → ⊥
+  pub substituted : r .letter ≡ 83 → ⊥
+  pub agreed : r .letter ≡ 70 → ⊥
+
+-- what the slots so far have: forms, counts and sum
+pub record Met : Type 0 where
+  pub formed : Bool
+  pub actual : ℕ
+  pub substituted : ℕ
+  pub agreed : ℕ
+  pub none : ℕ
+  pub sum : ℕ
+
+-- the highest value of an F stands for them all
+abbrev pub metBy : Counted → Met
+metBy c = record {
+  formed = c .formed && leb (c .highest) eightDigits;
+  actual = c .actual;
+  substituted = c .substituted;
+  agreed = c .agreed;
+  none = c .none;
+  sum = c .sum;
+}
+
+-- with one slot more; F counts with S and by itself
+abbrev pub countedWith : Met → SlotRecord → Met
+countedWith m r = record {
+  formed = m .formed && recordOk r;
+  actual = m .actual + one A r;
+  substituted = m .substituted + (one S r + one F r);
+  agreed = m .agreed + one F r;
+  none = m .none + one N r;
+  sum = m .sum + r .value;
 }
 
 -- how many of the first k slots are of a quality
 abbrev pub countIn : List ℕ → Quality → ℕ → ℕ
 countIn bs q k = count (λ i. ofQuality q (slotAt bs i)) 0 k
 
--- the counts and the sum of the first k slots
-unfoldable pub countedIn : List ℕ → ℕ → Counted
+-- what the first k slots have
+unfoldable pub countedIn : List ℕ → ℕ → Met
 countedIn bs k = record {
+  formed = all (λ i. recordOk (slotAt bs i)) 0 k;
   actual = countIn bs A k;
   substituted = countIn bs S k + countIn bs F k;
   agreed = countIn bs F k;
@@ -81,12 +116,22 @@ countedIn bs k = record {
 }
 
 -- counts and a sum of at most k slots
-pub record Within (k : ℕ) (c : Counted) : Type 0 where
-  pub actual : c .actual ≤ k
-  pub substituted : c .substituted ≤ 2 * k
-  pub agreed : c .agreed ≤ k
-  pub none : c .none ≤ k
-  pub sum : c .sum ≤ 2 ^ 32 * k
+pub record Within (k : ℕ) (m : Met) : Type 0 where
+  pub actual : m .actual ≤ k
+  pub substituted : m .substituted ≤ 2 * k
+  pub agreed : m .agreed ≤ k
+  pub none : m .none ≤ k
+  pub sum : m .sum ≤ 2 ^ 32 * k
+
+-- the figures are those of the slots
+abbrev pub countTests : Met → Figures → List Bool
+countTests m g =
+    eqb (m .actual) (g .actual)
+    ∷ eqb (m .substituted) (g .substituted)
+    ∷ eqb (m .none) (g .none)
+    ∷ layoutFits (g .layout) (m .agreed)
+    ∷ eqb (m .sum) (g .sum)
+    ∷ []
 
 -- a file that is not refused with 8
 pub record Ready (bs : List ℕ) (g : Figures) : Type 0 where

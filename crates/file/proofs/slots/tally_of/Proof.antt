@@ -6,7 +6,7 @@ use native.Mathlib.Omega.{arith}
 use borrow.Author.Needs.{needs}
 use Rattle.file.specs.declared.slots.Tally.{Tally}
 use Rattle.file.specs.Inner.Reading.{talliedWith, talliedIn}
-use Rattle.file.proofs.Counts.{tallied-none, tallied-on}
+use Rattle.file.proofs.Tallies.{tallied-none, tallied-on}
 use Rattle.file.proofs.slots.tally_of.Statement.{statement}
 use Rattle.file.proofs.slots.tally_of.Tie as tie
 

@@ -1,12 +1,12 @@
--- `file::slots::tally_with`: a plain slot adds its value alone.
+-- `file::slots::tally_with`: a slot of no kind adds its value alone.
 use Prim.Native.Nat.{_+_}
 use mathlib.Core.Path.{sym, _∙_}
 use borrow.Author.Needs.{needs}
-use Rattle.file.proofs.Counts.{tallied-plain}
+use Rattle.file.proofs.Tallies.{tallied-kindless}
 use Rattle.file.proofs.slots.tally_with.Statement.{statement}
 use Rattle.file.proofs.slots.tally_with.Tie as tie
 
-abbrev before : tie.After-is-plain → tie.Start
+abbrev before : tie.After-is-kindless → tie.Start
 before c = c .before .before .before
 
 cast-sum : tie.Need-cast-sum
@@ -15,13 +15,13 @@ cast-sum c = search needs
 add-sum : tie.Need-add-sum
 add-sum c = search needs
 
-is-plain-requires : tie.Need-is-plain-requires
-is-plain-requires c κs = search needs
+is-kindless-requires : tie.Need-is-kindless-requires
+is-kindless-requires c κs = search needs
 
 returns : tie.Need-returns
 returns c =
     let args = before (c .before) .args in
-    tallied-plain (args .slot) (sym (c .before .is-plain .ensures) ∙ c .if1 .taken) (args .found)
+    tallied-kindless (args .slot) (sym (c .before .is-kindless .ensures) ∙ c .if1 .taken) (args .found)
 
 also-requires : tie.Need-also-requires
 also-requires c κs = search needs
@@ -50,7 +50,7 @@ tally-with-spec =
     (tie.spec
     cast-sum
     add-sum
-    is-plain-requires
+    is-kindless-requires
     returns
     also-requires
     also-requires-2

@@ -1,9 +1,9 @@
--- `file::slots::one` meets its contract.
+-- `file::counting::one` meets its contract.
 use mathlib.Core.Path.{refl}
 use native.Mathlib.Omega.{arith}
 use borrow.Author.Tests.{eq-eqb, ne-eqb}
-use Rattle.file.proofs.slots.one.Statement.{statement}
-use Rattle.file.proofs.slots.one.Tie as tie
+use Rattle.file.proofs.counting.one.Statement.{statement}
+use Rattle.file.proofs.counting.one.Tie as tie
 
 returns : tie.Need-returns
 returns c = rw (eq-eqb _ _ (c .if1 .taken)) (refl, omega arith)

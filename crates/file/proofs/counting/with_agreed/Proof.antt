@@ -1,0 +1,40 @@
+-- `file::counting::with_agreed`: F counts with S and by itself, and the highest value stands for them all.
+use borrow.Author.Needs.{needs}
+use Rattle.file.proofs.Counts.{met-agreed}
+use Rattle.file.proofs.counting.with_agreed.Statement.{statement}
+use Rattle.file.proofs.counting.with_agreed.Tie as tie
+
+abbrev highest : tie.After-struct-known5 → tie.After-higher
+highest c = c .before .before .before .before
+
+abbrev start : tie.After-higher → tie.Start
+start c = c .before .before .before
+
+both-requires : tie.Need-both-requires
+both-requires c κs = search needs
+
+higher-requires : tie.Need-higher-requires
+higher-requires c κs = search needs
+
+add-t6 : tie.Need-add-t6
+add-t6 c = search needs
+
+add-t7 : tie.Need-add-t7
+add-t7 c = search needs
+
+cast-t8 : tie.Need-cast-t8
+cast-t8 c = search needs
+
+add-t9 : tie.Need-add-t9
+add-t9 c = search needs
+
+returns : tie.Need-returns
+returns c =
+    let high = highest c in
+    let s = start high in
+    met-agreed (s .args .found) (s .args .slot) (s .pre .1) (high .before .both .result) (high .before .both .ensures) (high .higher .result)
+    (high .higher .ensures)
+
+pub with-agreed-spec : {M : Type 1} → statement M
+with-agreed-spec =
+    tie.close (tie.spec both-requires higher-requires add-t6 add-t7 cast-t8 add-t9 returns)

@@ -1,0 +1,40 @@
+-- `file::counting::with_rest`: (A,1) has its form, and A counts.
+use mathlib.Core.Bool.{Bool, _&&_}
+use mathlib.Core.Path.{ap, _∙_}
+use borrow.Author.Needs.{needs}
+use Rattle.file.proofs.Counts.{met-rest}
+use Rattle.file.proofs.counting.with_rest.Statement.{statement}
+use Rattle.file.proofs.counting.with_rest.Tie as tie
+
+abbrev start : tie.After-both → tie.Start
+start c = c .before .before
+
+is-zero-requires : tie.Need-is-zero-requires
+is-zero-requires c κs = search needs
+
+both-requires : tie.Need-both-requires
+both-requires c κs = search needs
+
+one-requires : tie.Need-one-requires
+one-requires c κs = search needs
+
+add-t6 : tie.Need-add-t6
+add-t6 c = search needs
+
+cast-t7 : tie.Need-cast-t7
+cast-t7 c = search needs
+
+add-t8 : tie.Need-add-t8
+add-t8 c = search needs
+
+returns : tie.Need-returns
+returns c =
+    let one = c .before .before .before in
+    let tested = one .before in
+    let s = start tested in
+    let same = tested .both .ensures ∙ ap (λ (b : Bool). s .args .found .formed && b) (tested .before .is-zero .ensures) in
+    met-rest (s .args .found) (s .args .slot) (s .pre .1) (tested .both .result) same (one .one .result) (one .one .ensures .0)
+
+pub with-rest-spec : {M : Type 1} → statement M
+with-rest-spec =
+    tie.close (tie.spec is-zero-requires both-requires one-requires add-t6 cast-t7 add-t8 returns)

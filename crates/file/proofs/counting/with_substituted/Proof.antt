@@ -1,0 +1,36 @@
+-- `file::counting::with_substituted`: S has its form by its method.
+use mathlib.Core.Bool.{Bool, _&&_}
+use mathlib.Core.Path.{ap, _∙_}
+use borrow.Author.Needs.{needs}
+use Rattle.file.proofs.Counts.{met-substituted}
+use Rattle.file.proofs.counting.with_substituted.Statement.{statement}
+use Rattle.file.proofs.counting.with_substituted.Tie as tie
+
+abbrev start : tie.After-both → tie.Start
+start c = c .before .before
+
+is-filling-requires : tie.Need-is-filling-requires
+is-filling-requires c κs = search needs
+
+both-requires : tie.Need-both-requires
+both-requires c κs = search needs
+
+add-t5 : tie.Need-add-t5
+add-t5 c = search needs
+
+cast-t6 : tie.Need-cast-t6
+cast-t6 c = search needs
+
+add-t7 : tie.Need-add-t7
+add-t7 c = search needs
+
+returns : tie.Need-returns
+returns c =
+    let tested = c .before .before .before in
+    let s = start tested in
+    let same = tested .both .ensures ∙ ap (λ (b : Bool). s .args .found .formed && b) (tested .before .is-filling .ensures) in
+    met-substituted (s .args .found) (s .args .slot) (s .pre .1) (tested .both .result) same
+
+pub with-substituted-spec : {M : Type 1} → statement M
+with-substituted-spec =
+    tie.close (tie.spec is-filling-requires both-requires add-t5 cast-t6 add-t7 returns)
