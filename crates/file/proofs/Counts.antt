@@ -29,8 +29,12 @@ use Rattle.file.proofs.Records.{form-A, form-S, form-N, form-F, form-no
 pub form-one : (l m k n : ℕ) → l < 256 → k < 256 → eqb (l + 256 * m) (k + 256 * n) ≡ (eqb l k && eqb m n)
 form-one l m k n a b =
     together (eqb (l + 256 * m) (k + 256 * n)) (eqb l k && eqb m n)
-    (λ e. let same = eqb-true (l + 256 * m) (k + 256 * n) e in both (eqb l k) (eqb m n) (eq-eqb l k (omega (arith, same))) (eq-eqb m n (omega (arith, same))))
-    (λ e. let p = and-parts (eqb l k) (eqb m n) e in eq-eqb (l + 256 * m) (k + 256 * n) (omega (arith, eqb-true l k (p .0), eqb-true m n (p .1))))
+    (λ e.
+    let same = eqb-true (l + 256 * m) (k + 256 * n) e in
+    both (eqb l k) (eqb m n) (eq-eqb l k (omega (arith, same))) (eq-eqb m n (omega (arith, same))))
+    (λ e.
+    let p = and-parts (eqb l k) (eqb m n) e in
+    eq-eqb (l + 256 * m) (k + 256 * n) (omega (arith, eqb-true l k (p .0), eqb-true m n (p .1))))
 
 -- the higher of two is below a limit when both are
 pub high-right : (a b : ℕ) → a < b → (m : ℕ) → leb b m ≡ (leb a m && leb b m)
@@ -94,16 +98,17 @@ module _ (bs : List ℕ) where
   formed-on i =
       together (all formed 0 i && formed i) (all formed 0 (i + 1))
       (λ e.
-          let here = and-parts (all formed 0 i) (formed i) e in
-          at-all formed (i + 1) (below-more (λ x. formed x ≡ true) i (all-at formed i (here .0)) (here .1)))
+      let here = and-parts (all formed 0 i) (formed i) e in
+      at-all formed (i + 1) (below-more (λ x. formed x ≡ true) i (all-at formed i (here .0)) (here .1)))
       (λ e.
-          let each = all-at formed (i + 1) e in
-          both (all formed 0 i) (formed i) (at-all formed i (λ x l. each x (omega arith))) (each i (omega arith)))
+      let each = all-at formed (i + 1) e in
+      both (all formed 0 i) (formed i) (at-all formed i (λ x l. each x (omega arith))) (each i (omega arith)))
 
   pub counted-on : (i : ℕ) → countedWith (countedIn bs i) (slotAt bs i) ≡ countedIn bs (i + 1)
   unfolding countedIn
   counted-on i =
-      let filled : countIn bs S i + countIn bs F i + (one S (slotAt bs i) + one F (slotAt bs i)) ≡ countIn bs S (i + 1) + countIn bs F (i + 1) =
+      let r = slotAt bs i in
+      let filled : countIn bs S i + countIn bs F i + (one S r + one F r) ≡ countIn bs S (i + 1) + countIn bs F (i + 1) =
       omega (arith, count-on S i, count-on F i) in
       λ k. record {
         formed = formed-on i k;
@@ -116,15 +121,22 @@ module _ (bs : List ℕ) where
 
 -- ---- A slot by its letter
 
+-- a record counts so often as A, S, F and N
+record Ones (r : SlotRecord) (a s f n : ℕ) : Type 0 where
+  actual : one A r ≡ a
+  substituted : one S r ≡ s
+  agreed : one F r ≡ f
+  none : one N r ≡ n
+
 module _ (r : SlotRecord) where
-  -- it counts for its own quality and for no other
-  counts-one : (q : Quality) → r .letter ≡ letter q → one q r ≡ 1
-  counts-one q e = rw (eq-eqb (r .letter) (letter q) e)
+  -- of the letter l
+  ones : (l : ℕ) → r .letter ≡ l → Ones r (cond (eqb l 65) 1 0) (cond (eqb l 83) 1 0) (cond (eqb l 70) 1 0) (cond (eqb l 78) 1 0)
+  ones l e = record { actual = rw e; substituted = rw e; agreed = rw e; none = rw e }
 
   counts-none : (q : Quality) → (r .letter ≡ letter q → ⊥) → one q r ≡ 0
   counts-none q differs = rw (ne-eqb (r .letter) (letter q) differs)
 
-  -- a record that is not plain, of no letter but A
+  -- not plain, and of no letter but A
   rest-form : IsRest r → recordOk r ≡ (eqb (r .letter) 65 && eqb (r .method) 1 && eqb (r .value) 0)
   rest-form rest =
       ⊎-elim
@@ -132,78 +144,71 @@ module _ (r : SlotRecord) where
       (λ a. form-none r (eqb-false _ _ a) (rest .substituted) (rest .none) (rest .agreed) ∙ rw a)
       (either (eqb (r .letter) 65))
 
-  plain-form : isPlain r ≡ true → recordOk r ≡ true
+  plain-form : isPlain r ≡ true → (r .letter ≡ 65) × (recordOk r ≡ true)
   plain-form plain =
       let p = and-parts (ofQuality A r) (eqb (r .method) 0) plain in
-      form-A r (eqb-true _ _ (p .0)) ∙ rw (p .1)
+      let a = eqb-true (r .letter) 65 (p .0) in
+      (a, form-A r a ∙ rw (p .1))
 
 -- what is met with one slot more, for each way of the code
 module _ (c : Counted) (r : SlotRecord) where
+  -- these counts, and the sum with r
+  abbrev more : Bool → ℕ → ℕ → ℕ → ℕ → ℕ → Counted
+  more f h a s g n = record { formed = f; highest = h; actual = a; substituted = s; agreed = g; none = n; sum = c .sum + r .value }
+
+  met-by : (f : Bool) (h a s g n : ℕ) → (f && leb h eightDigits) ≡ (metBy c .formed && recordOk r)
+      → a ≡ c .actual + one A r → s ≡ c .substituted + (one S r + one F r) → g ≡ c .agreed + one F r → n ≡ c .none + one N r
+      → metBy (more f h a s g n) ≡ countedWith (metBy c) r
+  met-by f h a s g n ef ea es eg en = λ k. record {
+    formed = ef k;
+    actual = ea k;
+    substituted = es k;
+    agreed = eg k;
+    none = en k;
+    sum = c .sum + r .value;
+  }
+
   -- a form without a limit
-  formed-with : (form : Bool) → recordOk r ≡ form → (formed : Bool) → formed ≡ (c .formed && form)
-      → (formed && leb (c .highest) eightDigits) ≡ (metBy c .formed && recordOk r)
-  formed-with form o formed e = rw (e, o) (beside (c .formed) form (leb (c .highest) eightDigits))
+  formed-with : (form : Bool) → recordOk r ≡ form → (f : Bool) → f ≡ (c .formed && form)
+      → (f && leb (c .highest) eightDigits) ≡ (metBy c .formed && recordOk r)
+  formed-with form o f e = rw (e, o) (beside (c .formed) form (leb (c .highest) eightDigits))
 
   pub met-plain : isPlain r ≡ true
-      → metBy (record { formed = c .formed; highest = c .highest; actual = c .actual + 1; substituted = c .substituted; agreed = c .agreed; none = c .none; sum = c .sum + r .value })
-      ≡ countedWith (metBy c) r
+      → metBy (more (c .formed) (c .highest) (c .actual + 1) (c .substituted) (c .agreed) (c .none)) ≡ countedWith (metBy c) r
   met-plain plain =
-      let l : r .letter ≡ 65 = eqb-true _ _ (and-parts (ofQuality A r) (eqb (r .method) 0) plain .0) in
-      let form : metBy c .formed ≡ (metBy c .formed && recordOk r) = rw (plain-form r plain, and-true) in
-      let a : c .actual + 1 ≡ c .actual + one A r = omega (arith, counts-one r A l) in
-      let s : c .substituted ≡ c .substituted + (one S r + one F r) =
-          omega (arith, counts-none r S (λ e. omega arith), counts-none r F (λ e. omega arith)) in
-      let f : c .agreed ≡ c .agreed + one F r = omega (arith, counts-none r F (λ e. omega arith)) in
-      let n : c .none ≡ c .none + one N r = omega (arith, counts-none r N (λ e. omega arith)) in
-      λ k. record { formed = form k; actual = a k; substituted = s k; agreed = f k; none = n k; sum = c .sum + r .value }
+      let p = plain-form r plain in
+      let o = ones r 65 (p .0) in
+      met-by (c .formed) (c .highest) _ _ _ _ (rw (p .1, and-true)) (omega arith) (omega arith) (omega arith) (omega arith)
 
-  pub met-none : r .letter ≡ 78 → (formed : Bool) → formed ≡ (c .formed && (eqb (r .letter) 78 && eqb (r .method) 0 && eqb (r .value) 0))
-      → metBy (record { formed = formed; highest = c .highest; actual = c .actual; substituted = c .substituted; agreed = c .agreed; none = c .none + 1; sum = c .sum + r .value })
-      ≡ countedWith (metBy c) r
-  met-none l formed e =
-      let form = formed-with (eqb (r .letter) 78 && eqb (r .method) 0 && eqb (r .value) 0) (form-N r l ∙ rw l) formed e in
-      let a : c .actual ≡ c .actual + one A r = omega (arith, counts-none r A (λ e. omega arith)) in
-      let s : c .substituted ≡ c .substituted + (one S r + one F r) =
-          omega (arith, counts-none r S (λ e. omega arith), counts-none r F (λ e. omega arith)) in
-      let f : c .agreed ≡ c .agreed + one F r = omega (arith, counts-none r F (λ e. omega arith)) in
-      let n : c .none + 1 ≡ c .none + one N r = omega (arith, counts-one r N l) in
-      λ k. record { formed = form k; actual = a k; substituted = s k; agreed = f k; none = n k; sum = c .sum + r .value }
+  pub met-none : r .letter ≡ 78 → (f : Bool) → f ≡ (c .formed && (eqb (r .letter) 78 && eqb (r .method) 0 && eqb (r .value) 0))
+      → metBy (more f (c .highest) (c .actual) (c .substituted) (c .agreed) (c .none + 1)) ≡ countedWith (metBy c) r
+  met-none l f e =
+      let o = ones r 78 l in
+      met-by f (c .highest) _ _ _ _ (formed-with _ (form-N r l ∙ rw l) f e) (omega arith) (omega arith) (omega arith) (omega arith)
 
-  pub met-substituted : r .letter ≡ 83 → (formed : Bool) → formed ≡ (c .formed && (eqb (r .method) 2 || (eqb (r .method) 3 || isScaled (r .method))))
-      → metBy (record { formed = formed; highest = c .highest; actual = c .actual; substituted = c .substituted + 1; agreed = c .agreed; none = c .none; sum = c .sum + r .value })
-      ≡ countedWith (metBy c) r
-  met-substituted l formed e =
-      let form = formed-with (eqb (r .method) 2 || (eqb (r .method) 3 || isScaled (r .method))) (form-S r l) formed e in
-      let a : c .actual ≡ c .actual + one A r = omega (arith, counts-none r A (λ e. omega arith)) in
-      let s : c .substituted + 1 ≡ c .substituted + (one S r + one F r) =
-          omega (arith, counts-one r S l, counts-none r F (λ e. omega arith)) in
-      let f : c .agreed ≡ c .agreed + one F r = omega (arith, counts-none r F (λ e. omega arith)) in
-      let n : c .none ≡ c .none + one N r = omega (arith, counts-none r N (λ e. omega arith)) in
-      λ k. record { formed = form k; actual = a k; substituted = s k; agreed = f k; none = n k; sum = c .sum + r .value }
+  pub met-substituted : r .letter ≡ 83 → (f : Bool) → f ≡ (c .formed && (eqb (r .method) 2 || (eqb (r .method) 3 || isScaled (r .method))))
+      → metBy (more f (c .highest) (c .actual) (c .substituted + 1) (c .agreed) (c .none)) ≡ countedWith (metBy c) r
+  met-substituted l f e =
+      let o = ones r 83 l in
+      met-by f (c .highest) _ _ _ _ (formed-with _ (form-S r l) f e) (omega arith) (omega arith) (omega arith) (omega arith)
 
-  pub met-agreed : r .letter ≡ 70 → (formed : Bool) → formed ≡ (c .formed && eqb (r .method) 5)
-      → (highest : ℕ) → leb highest eightDigits ≡ (leb (c .highest) eightDigits && leb (r .value) eightDigits)
-      → metBy (record { formed = formed; highest = highest; actual = c .actual; substituted = c .substituted + 1; agreed = c .agreed + 1; none = c .none; sum = c .sum + r .value })
-      ≡ countedWith (metBy c) r
-  met-agreed l formed e highest high =
-      let form : (formed && leb highest eightDigits) ≡ (metBy c .formed && recordOk r) =
-          rw (e, high, form-F r l) (beside-two (c .formed) (eqb (r .method) 5) (leb (c .highest) eightDigits) (leb (r .value) eightDigits)) in
-      let a : c .actual ≡ c .actual + one A r = omega (arith, counts-none r A (λ e. omega arith)) in
-      let s : c .substituted + 1 ≡ c .substituted + (one S r + one F r) =
-          omega (arith, counts-none r S (λ e. omega arith), counts-one r F l) in
-      let f : c .agreed + 1 ≡ c .agreed + one F r = omega (arith, counts-one r F l) in
-      let n : c .none ≡ c .none + one N r = omega (arith, counts-none r N (λ e. omega arith)) in
-      λ k. record { formed = form k; actual = a k; substituted = s k; agreed = f k; none = n k; sum = c .sum + r .value }
+  pub met-agreed : r .letter ≡ 70 → (f : Bool) → f ≡ (c .formed && eqb (r .method) 5)
+      → (h : ℕ) → leb h eightDigits ≡ (leb (c .highest) eightDigits && leb (r .value) eightDigits)
+      → metBy (more f h (c .actual) (c .substituted + 1) (c .agreed + 1) (c .none)) ≡ countedWith (metBy c) r
+  met-agreed l f e h high =
+      let o = ones r 70 l in
+      let form : (f && leb h eightDigits) ≡ (metBy c .formed && recordOk r) =
+      rw (e, high, form-F r l) (beside-two (c .formed) (eqb (r .method) 5) (leb (c .highest) eightDigits) (leb (r .value) eightDigits)) in
+      met-by f h _ _ _ _ form (omega arith) (omega arith) (omega arith) (omega arith)
 
-  pub met-rest : IsRest r → (formed : Bool) → formed ≡ (c .formed && (eqb (r .letter) 65 && eqb (r .method) 1 && eqb (r .value) 0)) → (i : ℕ) → i ≡ one A r
-      → metBy (record { formed = formed; highest = c .highest; actual = c .actual + i; substituted = c .substituted; agreed = c .agreed; none = c .none; sum = c .sum + r .value })
-      ≡ countedWith (metBy c) r
-  met-rest rest formed e i same =
-      let form = formed-with (eqb (r .letter) 65 && eqb (r .method) 1 && eqb (r .value) 0) (rest-form r rest) formed e in
-      let s : c .substituted ≡ c .substituted + (one S r + one F r) = omega (arith, counts-none r S (rest .substituted), counts-none r F (rest .agreed)) in
-      let f : c .agreed ≡ c .agreed + one F r = omega (arith, counts-none r F (rest .agreed)) in
-      let n : c .none ≡ c .none + one N r = omega (arith, counts-none r N (rest .none)) in
-      λ k. record { formed = form k; actual = c .actual + same k; substituted = s k; agreed = f k; none = n k; sum = c .sum + r .value }
+  pub met-rest : IsRest r → (f : Bool) → f ≡ (c .formed && (eqb (r .letter) 65 && eqb (r .method) 1 && eqb (r .value) 0))
+      → (i : ℕ) → i ≡ one A r
+      → metBy (more f (c .highest) (c .actual + i) (c .substituted) (c .agreed) (c .none)) ≡ countedWith (metBy c) r
+  met-rest rest f e i same =
+      let s = counts-none r S (rest .substituted) in
+      let g = counts-none r F (rest .agreed) in
+      let n = counts-none r N (rest .none) in
+      met-by f (c .highest) _ _ _ _ (formed-with _ (rest-form r rest) f e) (omega arith) (omega arith) (omega arith) (omega arith)
 
 -- ---- The figures
 

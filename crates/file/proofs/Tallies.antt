@@ -9,13 +9,10 @@ use lib.Dec.{eqb}
 use Rattle.base.specs.Lists.{sum, any}
 use Rattle.base.proofs.Logic.{and-parts, or-parts}
 use Rattle.base.proofs.Sums.{sum-more, any-more}
-use Rattle.rules.specs.declared.Quality.{Quality}
 use Rattle.rules.specs.declared.Quality.the-variants.{A, F}
-use Rattle.file.specs.declared.slots.Kind.{Kind}
 use Rattle.file.specs.declared.slots.Kind.the-variants.{Substituted, None, Scaled, Unscaled}
 use Rattle.file.specs.declared.slots.SlotRecord.{SlotRecord}
 use Rattle.file.specs.declared.slots.Tally.{Tally}
-use Rattle.file.specs.Layout.{letter}
 use Rattle.file.specs.Reader.{ofQuality, isForm, slotAt}
 use Rattle.file.specs.Inner.Reading.{isPlain, isKindless, isKind, kindAt, talliedWith, talliedIn}
 
@@ -43,8 +40,10 @@ module _ (r : SlotRecord) where
       let m : r .method ≡ 5 = eqb-true _ _ (p .1) in
       record { none = rw l; scaled = rw m; unscaled = rw l; substituted = rw l }
 
-  pub tallied-kindless : isKindless r ≡ true → (t : Tally)
-      → record { none = t .none; scaled = t .scaled; unscaled = t .unscaled; substituted = t .substituted; sum = t .sum + r .value } ≡ talliedWith t r
+  abbrev summed : Tally → Tally
+  summed t = record { none = t .none; scaled = t .scaled; unscaled = t .unscaled; substituted = t .substituted; sum = t .sum + r .value }
+
+  pub tallied-kindless : isKindless r ≡ true → (t : Tally) → summed t ≡ talliedWith t r
   tallied-kindless e t =
       let no = ⊎-elim plain-kindless agreed-kindless (or-parts (isPlain r) (isForm F 5 r) e) in
       let n : t .none ≡ (t .none || isKind None r) = rw (no .none, or-false) in

@@ -46,7 +46,8 @@ tables-passed : (c : tie.Else3) → let t = trailer (totals c) .before in tables
 tables-passed c = sym (c .before .tables-ok .ensures) ∙ not-false _ (c .if3 .left)
 
 -- what was told of the figures is told of the file's
-figures-told : (c : tie.After-figures-ok) → let t = trailer (totals (c .before)) .before in c .figures-ok .result ≡ figuresOk (bytes t) (figures t)
+figures-told : (c : tie.After-figures-ok) → let t = trailer (totals (c .before)) .before in
+    c .figures-ok .result ≡ figuresOk (bytes t) (figures t)
 figures-told c =
     let all = totals (c .before) in
     let t = trailer all .before in

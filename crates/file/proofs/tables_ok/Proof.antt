@@ -26,10 +26,12 @@ second c = c .before .before
 counted : (s : tie.Start) → metBy (s .args .found) .formed ≡ all (λ i. recordOk (slotAt (s .args .file .now) i)) 0 (fileSlots (s .args .g))
 counted s = forms-counted (s .args .file .now) (fileSlots (s .args .g)) (metBy (s .args .found)) (s .pre .1)
 
-forms : (c : tie.Else1) → let s = start (c .before) in all (λ i. recordOk (slotAt (s .args .file .now) i)) 0 (fileSlots (s .args .g)) ≡ true
+forms : (c : tie.Else1) → let s = start (c .before) in
+    all (λ i. recordOk (slotAt (s .args .file .now) i)) 0 (fileSlots (s .args .g)) ≡ true
 forms c = sym (counted (start (c .before))) ∙ sym (c .before .forms-ok .ensures) ∙ not-false _ (c .if1 .left)
 
-spans : (c : tie.Else2) → let s = start (first c .before) in all (spanOk (tablesAt (s .args .file .now) (s .args .g))) 0 (s .args .g .spans) ≡ true
+spans : (c : tie.Else2) → let s = start (first c .before) in
+    all (spanOk (tablesAt (s .args .file .now) (s .args .g))) 0 (s .args .g .spans) ≡ true
 spans c = sym (c .before .spans-ok .ensures) ∙ not-false _ (c .if2 .left)
 
 states : (c : tie.Else3) → let s = start (first (second c) .before) in

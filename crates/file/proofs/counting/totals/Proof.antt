@@ -44,7 +44,8 @@ slot-at-requires c κs = search needs
 with-slot-requires : tie.Need-with-slot-requires Inv-loop μ-loop
 with-slot-requires c κs =
     let at = turn c in
-    within-more (at .loop .i) 115_200 (metBy (at .loop .found)) (at .loop .inv .low) (omega (arith, c .before .loop-test .taken, start at .pre .1))
+    within-more (at .loop .i) 115_200 (metBy (at .loop .found)) (at .loop .inv .low)
+    (omega (arith, c .before .loop-test .taken, start at .pre .1))
 
 add-i : tie.Need-add-i Inv-loop μ-loop
 add-i c = search needs

@@ -32,8 +32,8 @@ returns : tie.Need-returns
 returns c =
     let high = highest c in
     let s = start high in
-    met-agreed (s .args .found) (s .args .slot) (s .pre .1) (high .before .both .result) (high .before .both .ensures) (high .higher .result)
-    (high .higher .ensures)
+    let tested = high .before .both in
+    met-agreed (s .args .found) (s .args .slot) (s .pre .1) (tested .result) (tested .ensures) (high .higher .result) (high .higher .ensures)
 
 pub with-agreed-spec : {M : Type 1} → statement M
 with-agreed-spec =

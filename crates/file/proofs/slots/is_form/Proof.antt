@@ -23,7 +23,9 @@ add-result-2 : tie.Need-add-result-2
 add-result-2 c = search needs
 
 returns : tie.Need-returns
-returns c = let a = c .before .before .args in form-one (a .slot .letter) (a .slot .method) (a .letter) (a .method) (search needs) (search needs)
+returns c =
+    let a = c .before .before .args in
+    form-one (a .slot .letter) (a .slot .method) (a .letter) (a .method) (search needs) (search needs)
 
 pub is-form-spec : {M : Type 1} → statement M
 is-form-spec =
