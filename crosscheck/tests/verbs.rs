@@ -2,7 +2,7 @@
 
 use std::process::{Command, Output};
 
-const VERBS: [&str; 13] = [
+const VERBS: [&str; 14] = [
     "compare",
     "dials",
     "strips",
@@ -16,6 +16,7 @@ const VERBS: [&str; 13] = [
     "reconcile",
     "dates",
     "bench",
+    "work",
 ];
 
 fn crosscheck(words: &[&str]) -> Output {
@@ -47,11 +48,12 @@ fn wrong_arguments_are_2_and_told() {
     let mut wrong = vec![vec![], vec!["compared"], vec!["dates", "one", "two"]];
     let verbs = VERBS.iter().filter(|&&verb| verb != "dates");
     wrong.extend(verbs.clone().map(|&verb| vec![verb, "--sead", "1"]));
-    let seeded = verbs.filter(|&&verb| verb != "bench");
+    let seeded = verbs.filter(|&&verb| verb != "bench" && verb != "work");
     wrong.extend(seeded.clone().map(|&verb| vec![verb, "--seed"]));
     wrong.extend(seeded.map(|&verb| vec![verb, "--seed", "one"]));
     wrong.push(vec!["nem12", "--export", "export"]);
     wrong.push(vec!["dials", "--all", "--seed", "1"]);
+    wrong.push(vec!["work", "read", "ordinary", "third", "1"]);
     for words in wrong {
         let output = crosscheck(&words);
         assert_eq!(output.status.code(), Some(2), "{words:?}");

@@ -20,7 +20,7 @@ struct Verb {
 /// The options of the smaller comparisons.
 const TRIES: &str = "[--seed S] [--tries N] [--from I] [--trace]";
 
-const VERBS: [Verb; 13] = [
+const VERBS: [Verb; 14] = [
     Verb {
         name: "compare",
         options: compare::OPTIONS,
@@ -98,6 +98,12 @@ const VERBS: [Verb; 13] = [
         options: "",
         what: "times of both builds",
         run: bench::run,
+    },
+    Verb {
+        name: "work",
+        options: bench::work::OPTIONS,
+        what: "a measurement's work, for counting its instructions",
+        run: bench::work::run,
     },
 ];
 

@@ -1,0 +1,153 @@
+//! The books that are timed, and the log.
+
+use crosscheck::compare::side::{Answer, Second, Side};
+use crosscheck::second::head::{DIAL, Head};
+use crosscheck::second::lists::{Agreement, Delivery, Lists, RegisterRead};
+
+#[derive(Clone, Copy, Debug, PartialEq, Eq)]
+pub enum Kind {
+    Ordinary,
+    AllGap,
+    AlternateGaps,
+    Lines,
+    NoReferences,
+    SomeAgreed,
+    AllAgreed,
+}
+
+pub const KINDS: [(Kind, &str); 7] = [
+    (Kind::Ordinary, "ordinary"),
+    (Kind::AllGap, "all gap"),
+    (Kind::AlternateGaps, "alternate gaps"),
+    (Kind::Lines, "two-hour lines"),
+    (Kind::NoReferences, "no references"),
+    (Kind::SomeAgreed, "some agreed"),
+    (Kind::AllAgreed, "all agreed"),
+];
+
+/// A book as its calls, and as the lists and the file they come to.
+pub struct Sample {
+    pub head: Head,
+    pub slots: usize,
+    pub days: usize,
+    pub deliveries: Vec<Delivery>,
+    pub lists: Lists,
+    pub file: Vec<u8>,
+}
+
+impl Kind {
+    fn delivered(self, slot: usize, interval: u32) -> bool {
+        let longest = 120 / interval as usize;
+        match self {
+            // Single losses and, now and then, a short run.
+            Kind::Ordinary | Kind::SomeAgreed => slot % 97 != 40 && slot % 1009 > 4,
+            Kind::AllGap | Kind::AllAgreed => false,
+            Kind::AlternateGaps => slot.is_multiple_of(2),
+            // Each run as long as a line may be.
+            Kind::Lines => slot.is_multiple_of(longest + 1),
+            // The same positions are lost every day, more than two hours: no line, no weeks.
+            Kind::NoReferences => slot.is_multiple_of(2 * longest),
+        }
+    }
+
+    /// Whether office and skipper settled the slot.
+    fn agreed(self, slot: usize, interval: u32) -> bool {
+        match self {
+            Kind::SomeAgreed => !self.delivered(slot, interval) && slot.is_multiple_of(2),
+            Kind::AllAgreed => true,
+            _ => false,
+        }
+    }
+}
+
+/// What the meter would have shown, delivered or not.
+fn value(slot: usize, slots_a_day: usize) -> u32 {
+    let position = slot % slots_a_day;
+    let daytime = position.min(slots_a_day - position);
+    (20 + 3 * daytime + slot * 7 % 11) as u32
+}
+
+impl Sample {
+    pub fn new(kind: Kind, days: u32, interval: u32) -> Sample {
+        let head = Head {
+            year: 2024,
+            month: 1,
+            day: 1,
+            days,
+            interval,
+            limit: 70_000,
+            tolerance: 10,
+        };
+        let shape = head.shape().expect("a head in bounds");
+        let day = shape.slots_a_day;
+        let deliveries: Vec<Delivery> = (0..shape.slots)
+            .filter(|&slot| kind.delivered(slot, interval))
+            .map(|slot| Delivery {
+                slot: slot as u32,
+                version: 1,
+                value: value(slot, day),
+                status: 0,
+            })
+            .collect();
+        let mut lists = Lists::zeroed(shape.slots, shape.days);
+        for &delivery in &deliveries {
+            Second.deliver(head, &mut lists, delivery);
+        }
+        for slot in (0..shape.slots).filter(|&slot| kind.agreed(slot, interval)) {
+            let agreement = Agreement {
+                slot: slot as u32,
+                version: 1,
+                value: value(slot, day),
+            };
+            Second.agree(head, &mut lists, agreement);
+        }
+        if matches!(kind, Kind::Ordinary | Kind::SomeAgreed | Kind::AllAgreed) {
+            read_weekly(head, &mut lists, day);
+        }
+        let mut file = vec![0; 6 * shape.slots + 14 * shape.days + 32];
+        match Second.publish(head, &lists, &mut file) {
+            Answer::Length(length) => file.truncate(length as usize),
+            other => panic!("a sample is not published: {other:?}"),
+        }
+        Sample {
+            head,
+            slots: shape.slots,
+            days: shape.days,
+            deliveries,
+            lists,
+            file,
+        }
+    }
+}
+
+fn read_weekly(head: Head, lists: &mut Lists, slots_a_day: usize) {
+    let days = head.days as usize;
+    let mut total = 0;
+    for boundary in 0..=days {
+        if boundary % 7 == 0 || boundary == days {
+            let read = RegisterRead {
+                boundary: boundary as u32,
+                version: 1,
+                reading: total % DIAL,
+                width: 0,
+            };
+            Second.register(head, lists, read);
+        }
+        let slots = boundary * slots_a_day..(boundary + 1) * slots_a_day;
+        total += slots.map(|slot| value(slot, slots_a_day)).sum::<u32>();
+    }
+}
+
+/// The log that opens the sample's book and delivers each of its slots.
+pub fn log_of(sample: &Sample) -> String {
+    let day = sample.slots / sample.days;
+    let head = sample.head;
+    let deliveries =
+        (0..sample.slots).map(|slot| format!("delivery {slot} 1 {} 0\n", value(slot, day)));
+    std::iter::once(format!(
+        "open 2024-01-01 {} {} 2 10\n",
+        head.days, head.interval
+    ))
+    .chain(deliveries)
+    .collect()
+}
