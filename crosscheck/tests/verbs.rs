@@ -87,3 +87,16 @@ fn a_short_run_of_each_finds_no_difference() {
     );
     assert_eq!(status(&["explain", "--slots", "20"]), Some(0));
 }
+
+#[test]
+fn work_tells_its_items() {
+    for (call, items) in [
+        ("read", "115200\n"),
+        ("play", "115201\n"),
+        ("deliver", "0\n"),
+    ] {
+        let output = crosscheck(&["work", call, "all agreed", "second", "1"]);
+        assert_eq!(output.status.code(), Some(0), "{call}");
+        assert_eq!(String::from_utf8(output.stdout).unwrap(), items, "{call}");
+    }
+}

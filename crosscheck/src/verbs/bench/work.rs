@@ -79,16 +79,14 @@ fn done(call: Call, kind: Kind, host: bool, repeats: usize) -> usize {
     let mut out = vec![0; sample.file.len()];
     let mut lists = Lists::zeroed(sample.slots, sample.days);
     match call {
-        Call::Publish => {
-            (0..repeats).for_each(|_| drop(black_box(publish(&sample, side, &mut out))))
-        }
-        Call::Read => (0..repeats).for_each(|_| drop(black_box(read(&sample, side)))),
-        Call::Straight => (0..repeats).for_each(|_| straight(&sample, &mut out)),
+        Call::Publish => times(repeats, || publish(&sample, side, &mut out)),
+        Call::Read => times(repeats, || read(&sample, side)),
+        Call::Straight => times(repeats, || straight(&sample, &mut out)),
         Call::Deliver => {
-            for _ in 0..repeats {
+            times(repeats, || {
                 lists.clear();
                 deliver(&sample, side, &mut lists);
-            }
+            });
             return sample.deliveries.len();
         }
         Call::Play => return played(&sample, &mut lists, host, repeats),
@@ -96,13 +94,19 @@ fn done(call: Call, kind: Kind, host: bool, repeats: usize) -> usize {
     sample.slots
 }
 
+fn times<T>(repeats: usize, mut work: impl FnMut() -> T) {
+    for _ in 0..repeats {
+        black_box(work());
+    }
+}
+
 /// The lines of the log, after playing it so many times.
 fn played(sample: &Sample, lists: &mut Lists, host: bool, repeats: usize) -> usize {
     let log = samples::log_of(sample);
     let play = if host { host::play } else { logs::SECOND.play };
     let mut answers = vec![0; sample.slots + 1];
-    for _ in 0..repeats {
-        play(black_box(log.as_bytes()), lists, &mut answers);
-    }
+    times(repeats, || {
+        play(black_box(log.as_bytes()), lists, &mut answers)
+    });
     answers.len()
 }
