@@ -8,7 +8,8 @@ use borrow.Author.Tests.{le-leb}
 use lib.ListN.{getD}
 use Rattle.base.specs.Lists.{sum}
 use Rattle.calendar.specs.declared.Date.{Date}
-use Rattle.calendar.specs.Calendar.{leap, monthLengths, monthLength, yearLength, daysBeforeMonth, daysBeforeYear, dayNumber, isDate, dateOf}
+use Rattle.calendar.specs.Calendar.{leap, monthLengths, monthLength, yearLength, daysBeforeMonth, daysBeforeYear, dayNumber, isDate}
+use Rattle.calendar.specs.Calendar.{dateOf}
 use Rattle.calendar.proofs.Bounds.{bounded}
 use Rattle.calendar.proofs.Places.{within, below, found}
 
@@ -56,7 +57,10 @@ module _ (p : Passed) where
   date-after : dateOf (numberAfter p) ≡ dateAfter p
   unfolding dateOf
   date-after =
-      rw (found yearLength (p .years) 99 2000 (daysOfYear p) (p .years-high) in-year, found (monthLength (2000 + p .years)) (p .months) 11 1 (p .days) (p .months-high) (p .days-high))
+      rw (
+        found yearLength (p .years) 99 2000 (daysOfYear p) (p .years-high) in-year,
+        found (monthLength (2000 + p .years)) (p .months) 11 1 (p .days) (p .months-high) (p .days-high),
+      )
 
   number-after : dayNumber (2000 + p .years) (1 + p .months) (p .days + 1) ≡ numberAfter p
   unfolding dayNumber daysBeforeYear daysBeforeMonth
@@ -68,9 +72,17 @@ module _ (p : Passed) where
       let y = 2000 + p .years in
       let m = 1 + p .months in
       let d = p .days + 1 in
-      rw (le-leb 2000 y (omega arith), le-leb y 2099 (omega arith), le-leb 1 m (omega arith), le-leb m 12 (omega arith), le-leb 1 d (omega arith), le-leb d (monthLength y m) (omega arith))
+      rw (
+        le-leb 2000 y (omega arith),
+        le-leb y 2099 (omega arith),
+        le-leb 1 m (omega arith),
+        le-leb m 12 (omega arith),
+        le-leb 1 d (omega arith),
+        le-leb d (monthLength y m) (omega arith),
+      )
 
-each-date : (P : ℕ → ℕ → ℕ → Type 0) → ((p : Passed) → P (2000 + p .years) (1 + p .months) (p .days + 1)) → (y m d : ℕ) → isDate y m d ≡ true → P y m d
+each-date : (P : ℕ → ℕ → ℕ → Type 0) → ((p : Passed) → P (2000 + p .years) (1 + p .months) (p .days + 1)) → (y m d : ℕ)
+    → isDate y m d ≡ true → P y m d
 each-date P f y m d e =
     let b = bounded y m d e in
     let ey : 2000 + (y - 2000) ≡ y = omega arith in
@@ -112,12 +124,16 @@ date-of-number =
     each-date (λ y m d. dateOf (dayNumber y m d) ≡ record { year = y; month = m; day = d })
     (λ p. rw (number-after p) (date-after p))
 
-pub number-of-date : (n : ℕ) → n < 36_525 → (isDate (dateOf n .year) (dateOf n .month) (dateOf n .day) ≡ true) × (dayNumber (dateOf n .year) (dateOf n .month) (dateOf n .day) ≡ n)
+pub number-of-date : (n : ℕ) → n < 36_525
+    → (isDate (dateOf n .year) (dateOf n .month) (dateOf n .day) ≡ true)
+    × (dayNumber (dateOf n .year) (dateOf n .month) (dateOf n .day) ≡ n)
 number-of-date =
-    each-number (λ n. (isDate (dateOf n .year) (dateOf n .month) (dateOf n .day) ≡ true) × (dayNumber (dateOf n .year) (dateOf n .month) (dateOf n .day) ≡ n))
+    each-number (λ n. (isDate (dateOf n .year) (dateOf n .month) (dateOf n .day) ≡ true)
+    × (dayNumber (dateOf n .year) (dateOf n .month) (dateOf n .day) ≡ n))
     (λ p. rw (date-after p) (is-date-after p, number-after p))
 
-pub one-date : (y m d y′ m′ d′ : ℕ) → isDate y m d ≡ true → isDate y′ m′ d′ ≡ true → dayNumber y m d ≡ dayNumber y′ m′ d′ → (y ≡ y′) × (m ≡ m′) × (d ≡ d′)
+pub one-date : (y m d y′ m′ d′ : ℕ) → isDate y m d ≡ true → isDate y′ m′ d′ ≡ true → dayNumber y m d ≡ dayNumber y′ m′ d′
+    → (y ≡ y′) × (m ≡ m′) × (d ≡ d′)
 one-date y m d y′ m′ d′ p q e =
     let s = sym (date-of-number y m d p) ∙ ap dateOf e ∙ date-of-number y′ m′ d′ q in
     (ap (λ (x : Date). x .year) s, ap (λ (x : Date). x .month) s, ap (λ (x : Date). x .day) s)

@@ -10,7 +10,8 @@ use Rattle.calendar.specs.Calendar.{weekday, toSunday}
 
 pub one-to-seven : (n : ℕ) → (1 ≤ toSunday n) × (toSunday n ≤ 7)
 unfolding toSunday
-one-to-seven n = ⊎-elim (λ e. rw e (omega arith, omega arith)) (λ e. rw e (omega (arith, eqb-false), omega arith)) (either (eqb (weekday n) 0))
+one-to-seven n =
+    ⊎-elim (λ e. rw e (omega arith, omega arith)) (λ e. rw e (omega (arith, eqb-false), omega arith)) (either (eqb (weekday n) 0))
 
 pub on-a-sunday : (n : ℕ) → toSunday n ≤ n → weekday (n - toSunday n) ≡ 0
 unfolding toSunday

@@ -10,16 +10,22 @@ use Rattle.calendar.proofs.Closed.{at-least-28}
 use Rattle.calendar.proofs.is_date.Statement.{statement}
 use Rattle.calendar.proofs.is_date.Tie as tie
 
+-- ---- Places
+
+abbrev passed1 : tie.Else4 → tie.Else1
+passed1 c = c .before .before .before
+
 abbrev start5 : tie.Else5 → tie.Start
 start5 c = c .before .before .before .before .before
 
 -- the five tests before the day's last one
-before-last : (c : tie.Else5) → let a = start5 c .args in isDate (a .year) (a .month) (a .day) ≡ leb (a .day) (monthLength (a .year) (a .month))
+before-last : (c : tie.Else5)
+    → let a = start5 c .args in isDate (a .year) (a .month) (a .day) ≡ leb (a .day) (monthLength (a .year) (a .month))
 unfolding isDate
 before-last c =
     let past3 = c .before .before in
     simp (
-      le-leb _ _ (past3 .before .before .if1 .left),
+      le-leb _ _ (passed1 (c .before) .if1 .left),
       le-leb _ _ (past3 .before .if2 .left),
       le-leb _ _ (past3 .if3 .left),
       le-leb _ _ (c .before .if4 .left),
@@ -42,13 +48,24 @@ returns-4 : tie.Need-returns-4
 unfolding isDate
 returns-4 c =
     let b = c .before in
-    simp (le-leb _ _ (b .before .before .if1 .left), le-leb _ _ (b .before .if2 .left), le-leb _ _ (b .if3 .left), lt-leb _ _ (c .if4 .taken))
+    simp (
+      le-leb _ _ (b .before .before .if1 .left),
+      le-leb _ _ (b .before .if2 .left),
+      le-leb _ _ (b .if3 .left),
+      lt-leb _ _ (c .if4 .taken),
+    )
 
 returns-5 : tie.Need-returns-5
 unfolding isDate
 returns-5 c =
     let b = c .before .before in
-    simp (le-leb _ _ (b .before .before .if1 .left), le-leb _ _ (b .before .if2 .left), le-leb _ _ (b .if3 .left), le-leb _ _ (c .before .if4 .left), lt-leb _ _ (c .if5 .taken))
+    simp (
+      le-leb _ _ (passed1 (c .before) .if1 .left),
+      le-leb _ _ (b .before .if2 .left),
+      le-leb _ _ (b .if3 .left),
+      le-leb _ _ (c .before .if4 .left),
+      lt-leb _ _ (c .if5 .taken),
+    )
 
 returns-6 : tie.Need-returns-6
 returns-6 c =

@@ -37,7 +37,14 @@ returns-5 c =
     let h : c .before .before .args .month < 13 = omega arith in
     let p = c .match .rest .0 .1 in
     let q = c .match .rest .1 in
-    simp (month-length, ne-eqb _ 2 p, ne-eqb _ 4 (λ e. q (inl e)), ne-eqb _ 6 (λ e. q (inr (inl e))), ne-eqb _ 9 (λ e. q (inr (inr (inl e)))), ne-eqb _ 11 (λ e. q (inr (inr (inr e)))))
+    simp (
+      month-length,
+      ne-eqb _ 2 p,
+      ne-eqb _ 4 (λ e. q (inl e)),
+      ne-eqb _ 6 (λ e. q (inr (inl e))),
+      ne-eqb _ 9 (λ e. q (inr (inr (inl e)))),
+      ne-eqb _ 11 (λ e. q (inr (inr (inr e)))),
+    )
 
 pub month-length-spec : {M : Type 1} → statement M
 month-length-spec =
