@@ -135,8 +135,14 @@ reading-four (w ∷ x ∷ y ∷ []) l = absurd (omega arith)
 reading-four (w ∷ x ∷ y ∷ z ∷ []) l = omega arith
 reading-four (w ∷ x ∷ y ∷ z ∷ v ∷ vs) l = absurd (omega arith)
 
+-- the same of four values that are those of its bytes
+pub reading-made : (bs : List ℕ) (v0 v1 v2 v3 : ℕ) → length bs ≡ 4 → v0 ≡ pair bs 0 → v1 ≡ pair bs 1 → v2 ≡ pair bs 2 → v3 ≡ pair bs 3
+    → readingOf bs ≡ v0 + 100 * v1 + 10_000 * (v2 + 100 * v3)
+reading-made bs v0 v1 v2 v3 four p q r s = reading-four bs four ∙ rw (p, q, r, s)
+
 -- ---- One byte after the other
 
-pub above-next : (bs : List ℕ) (i : ℕ) → i < length bs → aboveNine (drop i bs) ≡ (aboveNine (getD bs i 0 ∷ []) || aboveNine (drop (i + 1) bs))
+pub above-next : (bs : List ℕ) (i : ℕ) → i < length bs
+    → aboveNine (drop i bs) ≡ (aboveNine (getD bs i 0 ∷ []) || aboveNine (drop (i + 1) bs))
 unfolding aboveNine
 above-next bs i h = rw (add-one i, drop-cons bs i 0, or-false)

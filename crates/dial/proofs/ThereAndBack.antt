@@ -27,7 +27,8 @@ read-form : (bytes : List ℕ) (reading : ℕ) → unpackAnswer bytes ≡ unpack
 unfolding unpackAnswer
 read-form bytes reading e =
     let (same, kept) =
-    unless-answered unpacked.Refused (λ a. a ≡ unpacked.Reading reading) (λ n r. let z : _≡_ {A = ℕ} 0 1 = cc in omega arith) (unpackRules bytes) _ e in
+    unless-answered unpacked.Refused (λ a. a ≡ unpacked.Reading reading) (λ n r. let z : _≡_ {A = ℕ} 0 1 = cc in omega arith)
+    (unpackRules bytes) _ e in
     let digits : aboveNine bytes ≡ false = kept 1 in
     let long : length bytes ≡ 4 = eqb-true _ _ (not-false _ (kept 0)) in
     let read : readingOf bytes ≡ reading = cc in
@@ -60,7 +61,8 @@ pub packed-then-unpacked : PackedThenUnpacked
 unfolding packAnswer packAfter
 packed-then-unpacked reading bytes e =
     let (_, kept) =
-    unless-answered performed.Refused (λ a. a ≡ performed.Done) (λ n r. let z : _≡_ {A = ℕ} 0 1 = cc in omega arith) (packRules reading bytes) _ e in
+    unless-answered performed.Refused (λ a. a ≡ performed.Done) (λ n r. let z : _≡_ {A = ℕ} 0 1 = cc in omega arith)
+    (packRules reading bytes) _ e in
     ap (λ (a : Performed). unpackAnswer (bytesAfter a reading bytes)) e ∙ form-read reading (ltb-false _ _ (kept 1))
 
 -- there and back from bytes, into any four

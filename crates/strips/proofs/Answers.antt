@@ -43,7 +43,8 @@ module _ (interval : ℕ) (given out : List ℕ) where
   accepts laid after e f g = rw (e, f) (refl, g)
 
   -- what an accepted call is given
-  pub sized : intervalOk interval ≡ true → lengthsOk (perDay interval) (length given) (length out) ≡ true → Sized (perDay interval) given out
+  pub sized : intervalOk interval ≡ true → lengthsOk (perDay interval) (length given) (length out) ≡ true
+      → Sized (perDay interval) given out
   unfolding lengthsOk
   sized e f =
       let (whole, room) = and-parts (wholeDays (perDay interval) (length given)) (eqb (length out) (length given) && true) f in

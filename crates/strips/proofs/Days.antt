@@ -42,7 +42,8 @@ module _ (n : ℕ) (positive : 0 < n) (g : ℕ → ℕ) where
   running-later i l =
       let q : i / n ≡ suc ((i - n) / n) = div-eq-sub-div positive l ∙ add-one ((i - n) / n) in
       let r : i % n ≡ (i - n) % n = mod-eq-sub-mod l in
-      let here : (0 + suc ((i - n) / n)) * n + (i - n) % n ≡ i = rw zero-add (ap₂ (λ (x y : ℕ). x * n + y) (sym q) (sym r) ∙ div-add-mod' i n) in
+      let here : (0 + suc ((i - n) / n)) * n + (i - n) % n ≡ i =
+      rw zero-add (ap₂ (λ (x y : ℕ). x * n + y) (sym q) (sym r) ∙ div-add-mod' i n) in
       ap₂ (λ (x y : ℕ). sum (λ day. g (day * n + y)) 0 (suc x)) q r
       ∙ ap (λ (x : ℕ). sum (λ day. g (day * n + (i - n) % n)) 0 (suc ((i - n) / n)) + g x) here
 

@@ -24,7 +24,8 @@ module _ (n t : ℕ) where
 
   pub over-400-days : 400 * (6 * n) < t → wholeDays n t ≡ false
   over-400-days h =
-      none (λ days l m e. let most : days ≤ 400 = omega arith in let all : 6 * n * days ≤ 6 * n * 400 = mul-le-mul-left (6 * n) most in omega arith)
+      none (λ days l m e. let most : days ≤ 400 = omega arith in let all : 6 * n * days ≤ 6 * n * 400 = mul-le-mul-left (6 * n) most in
+      omega arith)
 
   pub whole-days : 0 < 6 * n → t % (6 * n) ≡ 0 → 6 * n ≤ t → t ≤ 400 * (6 * n) → wholeDays n t ≡ true
   unfolding wholeDays

@@ -18,7 +18,8 @@ number-cong a b h = rw (h 0 (lit< tt), h 1 (lit< tt), h 2 (lit< tt), h 3 (lit< t
 
 -- the four bytes of a record that are read
 pub number-spaced : (s : List ℕ) (at step : ℕ)
-    → getD s at 0 + 256 * getD s (at + step) 0 + 65_536 * getD s (at + 2 * step) 0 + 16_777_216 * getD s (at + 3 * step) 0 ≡ number (spaced s at step)
+    → getD s at 0 + 256 * getD s (at + step) 0 + 65_536 * getD s (at + 2 * step) 0 + 16_777_216 * getD s (at + 3 * step) 0
+    ≡ number (spaced s at step)
 unfolding number
 number-spaced s at step = simp (zero-mul, add-zero, one-mul)
 

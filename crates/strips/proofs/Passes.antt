@@ -7,10 +7,12 @@ use lib.Dec.{lit<}
 use lib.ListN.{length, getD}
 use Rattle.strips.specs.declared.Way.{Way}
 use Rattle.strips.specs.declared.Way.the-variants.{ToStrips, FromStrips}
-use Rattle.strips.specs.Strips.{slotsOf, inTable, inStrips, storedAt, stripsOf, valueAt, dayEarlier, differenceAt, differenceIn, restoredValue, restoredAt, tableOf}
+use Rattle.strips.specs.Strips.{slotsOf, inTable, inStrips, storedAt, stripsOf, valueAt, dayEarlier, differenceAt, differenceIn}
+use Rattle.strips.specs.Strips.{restoredValue, restoredAt, tableOf}
 use Rattle.strips.specs.Inner.Laying.{recordOf, storedIn, restoredIn, slotIn, laidOf, Sized}
 use Rattle.strips.proofs.Numbers.{number-cong, number-record, record-at}
-use Rattle.strips.proofs.Places.{strip-place, place-strip, filledTo, length-filled, filled-none, filled-before, filled-all, filled-next}
+use Rattle.strips.proofs.Places.{strip-place, place-strip, filledTo, length-filled, filled-none, filled-before, filled-all}
+use Rattle.strips.proofs.Places.{filled-next}
 use Rattle.strips.proofs.Days.{earlier-cong, restored-next, restored-lt}
 
 -- strips d with the first i slots of a table
@@ -35,13 +37,15 @@ module _ (n : ℕ) (given d : List ℕ) (sized : Sized n given d) where
 
       slots : (p : ℕ) → p < length d → p % slotsOf given ≡ i
           → (p / slotsOf given < 6) × (p ≡ i + p / slotsOf given * slotsOf given)
-          × (getD (recordOf (differenceAt n given i) (inTable given i 4) (inTable given i 5)) (p / slotsOf given) 0 ≡ storedAt n given (p % slotsOf given) (p / slotsOf given))
+          × (getD (recordOf (differenceAt n given i) (inTable given i 4) (inTable given i 5)) (p / slotsOf given) 0
+          ≡ storedAt n given (p % slotsOf given) (p / slotsOf given))
       slots p m e =
           let inside : p < 6 * slotsOf given = omega arith in
           let (slot, byte, here) = place-strip (slotsOf given) p inside in (
             byte,
             sym here ∙ ap (λ (s : ℕ). s + p / slotsOf given * slotsOf given) e,
-            record-at (differenceAt n given i) (inTable given i) (p / slotsOf given) byte ∙ ap (λ (s : ℕ). storedAt n given s (p / slotsOf given)) (sym e),
+            record-at (differenceAt n given i) (inTable given i) (p / slotsOf given) byte
+                ∙ ap (λ (s : ℕ). storedAt n given s (p / slotsOf given)) (sym e),
           )
 
   strips-all : (i : ℕ) → i ≡ slotsOf given → stripsTo n given d i ≡ stripsOf n given

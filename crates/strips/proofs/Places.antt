@@ -4,7 +4,8 @@ use mathlib.Core.List.{List, [], _∷_}
 use mathlib.Core.Logic.{⊎-elim}
 use mathlib.Core.Path.{_≡_, refl, sym, ap, _∙_}
 use Prim.Native.Nat.{ℕ, zero, suc, _+_, _*_, _/_, _%_, _≤_, _<_, zero-le}
-use native.Mathlib.Nat.{zero-add, zero-mul, suc-mul, mul-le-mul-right, mod-lt, mod-eq-of-lt, mod-add-div', add-mul-mod-self-right, add-mul-div-right, div-eq-of-lt, div-lt-iff-lt-mul, not-suc-le-zero, le-of-suc-le-suc, eq-or-lt-of-le}
+use native.Mathlib.Nat.{zero-add, zero-mul, suc-mul, mul-le-mul-right, mod-lt, mod-eq-of-lt, mod-add-div', add-mul-mod-self-right}
+use native.Mathlib.Nat.{add-mul-div-right, div-eq-of-lt, div-lt-iff-lt-mul, not-suc-le-zero, le-of-suc-le-suc, eq-or-lt-of-le}
 use native.Mathlib.Omega.{arith}
 use borrow.Author.Tests.{lt-ltb, le-ltb, ltb-true, ltb-false, eqb-true, eqb-false}
 use lib.Dec.{ltb, eqb}
@@ -44,7 +45,8 @@ module _ (step : ℕ) where
   length-strewn (b ∷ bs) d at = length-strewn bs (set d at b) (at + step) ∙ length-set d at b
 
   -- the places between those that are written stay
-  strewn-other : (bs d : List ℕ) (at p : ℕ) → ((k : ℕ) → k < length bs → p ≡ at + k * step → ⊥) → getD (strewn d at step bs) p 0 ≡ getD d p 0
+  strewn-other : (bs d : List ℕ) (at p : ℕ) → ((k : ℕ) → k < length bs → p ≡ at + k * step → ⊥)
+      → getD (strewn d at step bs) p 0 ≡ getD d p 0
   unfolding strewn
   strewn-other [] d at p h = refl
   strewn-other (b ∷ bs) d at p h =
@@ -109,9 +111,11 @@ module _ (slot f : ℕ → ℕ) (d : List ℕ) where
   filled-next i at step bs z byte places slots =
       ext-getD 0 (strewn (filledTo slot f d i) at step bs) (filledTo slot f d (i + 1))
       (length-strewn step bs (filledTo slot f d i) at ∙ length-filled i ∙ sym (length-filled (i + 1)))
-      (λ p l. let m : p < length d = rw (length-strewn step bs (filledTo slot f d i) at, length-filled i) at l in ⊎-elim (here p m) (there p m) (either (eqb (slot p) i)))
+      (λ p l. let m : p < length d = rw (length-strewn step bs (filledTo slot f d i) at, length-filled i) at l in
+      ⊎-elim (here p m) (there p m) (either (eqb (slot p) i)))
     where
-      here : (p : ℕ) → p < length d → eqb (slot p) i ≡ true → getD (strewn (filledTo slot f d i) at step bs) p 0 ≡ getD (filledTo slot f d (i + 1)) p 0
+      here : (p : ℕ) → p < length d → eqb (slot p) i ≡ true
+          → getD (strewn (filledTo slot f d i) at step bs) p 0 ≡ getD (filledTo slot f d (i + 1)) p 0
       here p m e =
           let s : slot p ≡ i = eqb-true (slot p) i e in
           let (b, q, g) = slots p m s in
@@ -119,7 +123,8 @@ module _ (slot f : ℕ → ℕ) (d : List ℕ) where
           ∙ strewn-at step z bs (filledTo slot f d i) at (byte p) b (λ j n. rw (length-filled i) (places j n .0)) ∙ g
           ∙ sym (filled-before (i + 1) p m (omega arith))
 
-      there : (p : ℕ) → p < length d → eqb (slot p) i ≡ false → getD (strewn (filledTo slot f d i) at step bs) p 0 ≡ getD (filledTo slot f d (i + 1)) p 0
+      there : (p : ℕ) → p < length d → eqb (slot p) i ≡ false
+          → getD (strewn (filledTo slot f d i) at step bs) p 0 ≡ getD (filledTo slot f d (i + 1)) p 0
       there p m e =
           let s = eqb-false (slot p) i e in
           strewn-other step bs (filledTo slot f d i) at p (λ k n q. s (ap slot q ∙ places k n .1)) ∙ filled-at i p m

@@ -11,9 +11,11 @@ use lib.ListN.{length, getD}
 use Rattle.base.specs.Lists.{upTo}
 use Rattle.base.proofs.Lists.{length-upTo}
 use Rattle.rules.proofs.Bounds.{interval-bounds}
-use Rattle.strips.specs.Strips.{slotsOf, recordByte, inTable, inStrips, valueAt, storedAt, stripsOf, dayEarlier, differenceAt, differenceIn, restoredValue, restoredAt, tableOf, perDay, lengthsOk, laidAnswer, laidAfter}
+use Rattle.strips.specs.Strips.{slotsOf, recordByte, inTable, inStrips, valueAt, storedAt, stripsOf, dayEarlier, differenceAt}
+use Rattle.strips.specs.Strips.{differenceIn, restoredValue, restoredAt, tableOf, perDay, lengthsOk, laidAnswer, laidAfter}
 use Rattle.strips.specs.Claim.{Bytes, Returns, ThereAndBack, BackAndThere}
-use Rattle.strips.proofs.Numbers.{number-cong, number-lt, number-record, record-number, record-again, add-difference, difference-added}
+use Rattle.strips.proofs.Numbers.{number-cong, number-lt, number-record, record-number, record-again, add-difference}
+use Rattle.strips.proofs.Numbers.{difference-added}
 use Rattle.strips.proofs.Answers.{accepts}
 use Rattle.strips.proofs.Lengths.{whole-records}
 use Rattle.strips.proofs.Places.{strip-place, place-strip, upTo-at, upTo-all}
@@ -31,7 +33,8 @@ module _ (n : ℕ) (positive : 0 < n) (given : List ℕ) (whole : length given �
   strips-at : (i k : ℕ) → i < slotsOf given → k < 6 → inStrips (stripsOf n given) i k ≡ storedAt n given i k
   strips-at i k l m =
       let (inside, slot, byte) = strip-place (slotsOf given) i k l m in
-      ap (λ (x : ℕ). getD (stripsOf n given) (i + k * (x / 6)) 0) (length-strips n given) ∙ at (i + k * slotsOf given) (omega arith) ∙ ap₂ (storedAt n given) slot byte
+      ap (λ (x : ℕ). getD (stripsOf n given) (i + k * (x / 6)) 0) (length-strips n given) ∙ at (i + k * slotsOf given) (omega arith)
+      ∙ ap₂ (storedAt n given) slot byte
     where
       at : (p : ℕ) → p < length given → getD (stripsOf n given) p 0 ≡ storedAt n given (p % slotsOf given) (p / slotsOf given)
       at p inside = unfold stripsOf in upTo-at (λ p. storedAt n given (p % slotsOf given) (p / slotsOf given)) (length given) p inside
@@ -73,7 +76,8 @@ module _ (n : ℕ) (positive : 0 < n) (given : List ℕ) (whole : length given �
           let inside : p / 6 < slotsOf given = omega arith in
           let here : 6 * (p / 6) + p % 6 ≡ p = omega arith in
           ap (λ (v : ℕ). recordByte v (inStrips (stripsOf n given) i) k) (value-restored (suc i) i (omega arith) inside)
-          ∙ record-again (valueAt given i) (differenceAt n given i) (inStrips (stripsOf n given) i) (inTable given i) k (strips-at i k inside (omega arith))
+          ∙ record-again (valueAt given i) (differenceAt n given i) (inStrips (stripsOf n given) i) (inTable given i) k
+          (strips-at i k inside (omega arith))
           ∙ record-number (inTable given i) (λ j. bytes (6 * i + j)) k ∙ ap (λ (x : ℕ). getD given x 0) here
 
   -- from strips: the table holds the sums, and their differences are those of the strips
@@ -87,7 +91,8 @@ module _ (n : ℕ) (positive : 0 < n) (given : List ℕ) (whole : length given �
   difference-held i l =
       ap₂ (λ (x y : ℕ). (x + 4_294_967_296 - y) % 4_294_967_296) (value-held i l ∙ sym (restored-next n positive given i))
       (earlier-cong n (valueAt (tableOf n given)) (restoredValue n given) i (λ le. value-held (i - n) (omega arith)))
-      ∙ difference-added (dayEarlier n (restoredValue n given) i) (differenceIn given i) (earlier-lt n (restoredValue n given) i (restored-lt n given))
+      ∙ difference-added (dayEarlier n (restoredValue n given) i) (differenceIn given i)
+      (earlier-lt n (restoredValue n given) i (restored-lt n given))
       (number-lt (inStrips given i) (λ k. bytes (i + k * slotsOf given)))
 
   pub strips-of-table : stripsOf n (tableOf n given) ≡ given
@@ -103,14 +108,16 @@ module _ (n : ℕ) (positive : 0 < n) (given : List ℕ) (whole : length given �
           let inside : p < 6 * slotsOf given = omega arith in
           let (slot, byte, here) = place-strip (slotsOf given) p inside in
           ap (λ (v : ℕ). recordByte v (inTable (tableOf n given) i) k) (difference-held i slot)
-          ∙ record-again (differenceIn given i) (restoredValue n given i) (inTable (tableOf n given) i) (inStrips given i) k (table-at i k slot byte)
+          ∙ record-again (differenceIn given i) (restoredValue n given i) (inTable (tableOf n given) i) (inStrips given i) k
+          (table-at i k slot byte)
           ∙ record-number (inStrips given i) (λ j. bytes (i + j * slotsOf given)) k ∙ ap (λ (x : ℕ). getD given x 0) here
 
 -- the same of two calls that lay what f and g give
 module _ (f g : ℕ → List ℕ → List ℕ)
     (lengths : (n : ℕ) (given : List ℕ) → length (f n given) ≡ length given)
     (inverse : (n : ℕ) → 0 < n → (given : List ℕ) → length given ≡ 6 * slotsOf given → Bytes given → g n (f n given) ≡ given) where
-  calls : Returns (λ interval given out. laidAfter interval given (f (perDay interval) given) out) (λ interval given out. laidAfter interval given (g (perDay interval) given) out)
+  calls : Returns (λ interval given out. laidAfter interval given (f (perDay interval) given) out)
+      (λ interval given out. laidAfter interval given (g (perDay interval) given) out)
   unfolding lengthsOk
   calls interval given out back bytes allowed days room room′ =
       let n : ℕ = perDay interval in
@@ -123,7 +130,9 @@ module _ (f g : ℕ → List ℕ → List ℕ)
       record {
         accepted = sym a;
         accepted-back = ap (λ (x : List ℕ). laidAnswer interval (length x) (length back)) (sym e) ∙ sym b;
-        restored = ap (λ (x : List ℕ). laidAfter interval x (g n x) back) (sym e) ∙ sym h ∙ inverse n positive given (whole-records n (length given) days) bytes;
+        restored =
+            ap (λ (x : List ℕ). laidAfter interval x (g n x) back) (sym e) ∙ sym h
+            ∙ inverse n positive given (whole-records n (length given) days) bytes;
       }
 
 pub there-and-back : ThereAndBack

@@ -10,6 +10,13 @@ use Rattle.dial.proofs.Forms.{form-bytes, filled}
 use Rattle.dial.proofs.pack.Statement.{statement}
 use Rattle.dial.proofs.pack.Tie as tie
 
+-- ---- Places
+
+abbrev start : tie.After-two-digits4 → tie.Start
+start c = c .before .before .before .before .before .before .before
+
+-- ---- Needs
+
 returns : tie.Need-returns
 unfolding packAnswer packAfter
 returns c =
@@ -54,13 +61,14 @@ same-length c = search needs
 returns-3 : tie.Need-returns-3
 unfolding packAnswer packAfter
 returns-3 c =
-    let a = c .before .before .before .before .before .before .before .args in
+    let a = start c .args in
     let four : length (a .bytes .now) ≡ 4 = omega arith in
     let within : a .reading ≤ 99_999_999 = omega arith in
     rw (eq-eqb _ _ four, le-ltb _ _ within) (
       refl,
       filled (a .bytes .now) four
-          ∙ form-bytes (a .reading) (c .before .before .before .two-digits .ensures) (c .before .before .two-digits2 .ensures) (c .before .two-digits3 .ensures) (c .two-digits4 .ensures),
+          ∙ form-bytes (a .reading) (c .before .before .before .two-digits .ensures) (c .before .before .two-digits2 .ensures)
+          (c .before .two-digits3 .ensures) (c .two-digits4 .ensures),
     )
 
 pub pack-spec : {M : Type 1} → statement M

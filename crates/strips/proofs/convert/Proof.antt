@@ -6,12 +6,28 @@ use Rattle.strips.proofs.Answers.{passes, fails, refuses-interval, refu
 use Rattle.strips.proofs.convert.Statement.{statement}
 use Rattle.strips.proofs.convert.Tie as tie
 
+-- ---- Places
+
+abbrev start : tie.After-is-interval → tie.Start
+start c = c .before .before .before
+
+abbrev after-is-interval : tie.Else2 → tie.After-is-interval
+after-is-interval c = c .before .before .before
+
+abbrev start-passed2 : tie.Else2 → tie.Start
+start-passed2 c = start (after-is-interval c)
+
+abbrev passed2 : tie.After-out → tie.Else2
+passed2 c = c .before .before .before
+
+-- ---- Needs
+
 is-interval-requires : tie.Need-is-interval-requires
 is-interval-requires c κs = search needs
 
 returns : tie.Need-returns
 returns c =
-    let a = c .before .before .before .before .args in
+    let a = start (c .before) .args in
     refuses-interval (a .interval) (a .given .now) (a .out .now) _ (fails (c .before .is-interval .ensures) (c .if1 .taken))
 
 div-n : tie.Need-div-n
@@ -25,14 +41,16 @@ fit-requires c κs = omega (arith, interval-bounds _ (passes (c .before .is-inte
 
 returns-2 : tie.Need-returns-2
 returns-2 c =
-    let a = c .before .before .before .before .before .before .args in
-    refuses-lengths (a .interval) (a .given .now) (a .out .now) _ (passes (c .before .before .before .is-interval .ensures) (c .before .before .if1 .left))
+    let a = start (c .before .before .before) .args in
+    refuses-lengths (a .interval) (a .given .now) (a .out .now) _
+    (passes (c .before .before .before .is-interval .ensures) (c .before .before .if1 .left))
     (fails (c .before .fit .ensures) (c .if2 .taken))
 
 write-requires : tie.Need-write-requires
 write-requires c κs =
-    let a = c .before .before .before .before .before .before .before .args in
-    sized (a .interval) (a .given .now) (a .out .now) (passes (c .before .before .before .before .is-interval .ensures) (c .before .before .before .if1 .left))
+    let a = start-passed2 (c .before) .args in
+    sized (a .interval) (a .given .now) (a .out .now)
+    (passes (after-is-interval (c .before) .is-interval .ensures) (c .before .before .before .if1 .left))
     (passes (c .before .before .fit .ensures) (c .before .if2 .left))
 
 same-length : tie.Need-same-length
@@ -40,9 +58,10 @@ same-length c = search needs
 
 returns-3 : tie.Need-returns-3
 returns-3 c =
-    let a = c .before .before .before .before .before .before .before .before .before .before .args in
-    accepts (a .interval) (a .given .now) (a .out .now) _ _ (passes (c .before .before .before .before .before .before .before .is-interval .ensures) (c .before .before .before .before .before .before .if1 .left))
-    (passes (c .before .before .before .before .before .fit .ensures) (c .before .before .before .before .if2 .left)) (c .before .before .write .ensures)
+    let a = start-passed2 (passed2 (c .before)) .args in
+    accepts (a .interval) (a .given .now) (a .out .now) _ _
+    (passes (after-is-interval (passed2 (c .before)) .is-interval .ensures) (passed2 (c .before) .before .before .if1 .left))
+    (passes (passed2 (c .before) .before .fit .ensures) (passed2 (c .before) .if2 .left)) (c .before .before .write .ensures)
 
 pub convert-spec : {M : Type 1} → statement M
 convert-spec =

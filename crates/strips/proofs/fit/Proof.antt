@@ -29,7 +29,12 @@ returns-3 c = rw (over-400-days (c .before .before .before .args .n) (c .before 
 
 returns-4 : tie.Need-returns-4
 unfolding lengthsOk
-returns-4 c = rw (whole-days (c .before .before .before .args .n) (c .before .before .before .args .table) (search needs) (c .before .before .if1 .left) (c .before .if2 .left) (c .if3 .left), and-true)
+returns-4 c =
+    rw (
+      whole-days (c .before .before .before .args .n) (c .before .before .before .args .table) (search needs)
+          (c .before .before .if1 .left) (c .before .if2 .left) (c .if3 .left),
+      and-true,
+    )
 
 pub fit-spec : {M : Type 1} → statement M
 fit-spec = tie.close (tie.spec mul-day rem-if1 returns returns-2 mul-if3 returns-3 returns-4)

@@ -7,6 +7,16 @@ use Rattle.strips.proofs.Numbers.{table-value}
 use Rattle.strips.proofs.lay_slot.Statement.{statement}
 use Rattle.strips.proofs.lay_slot.Tie as tie
 
+-- ---- Places
+
+abbrev start : tie.After-day-earlier → tie.Start
+start c = c .before .before .before .before
+
+abbrev after-day-earlier : tie.After-out → tie.After-day-earlier
+after-day-earlier c = c .before .before .before .before .before
+
+-- ---- Needs
+
 mul-at : tie.Need-mul-at
 mul-at c = search needs
 
@@ -43,8 +53,12 @@ same-length c = search needs
 returns : tie.Need-returns
 unfolding storedIn differenceAt
 returns c =
-    let a = c .before .before .before .before .before .before .before .before .before .before .args in
-    c .before .before .put .ensures ∙ (rw (c .before .before .before .before .before .before .before .value .ensures .0 ∙ table-value (a .table .now) (a .i), c .before .before .before .before .before .before .day-earlier .ensures .0))
+    let a = start (after-day-earlier (c .before)) .args in
+    c .before .before .put .ensures
+    ∙ (simp (
+      after-day-earlier (c .before) .before .value .ensures .0 ∙ table-value (a .table .now) (a .i),
+      after-day-earlier (c .before) .day-earlier .ensures .0,
+    ))
 
 pub lay-slot-spec : {M : Type 1} → statement M
 lay-slot-spec =

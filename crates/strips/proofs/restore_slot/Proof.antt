@@ -5,6 +5,13 @@ use Rattle.strips.specs.Inner.Laying.{restoredIn}
 use Rattle.strips.proofs.restore_slot.Statement.{statement}
 use Rattle.strips.proofs.restore_slot.Tie as tie
 
+-- ---- Places
+
+abbrev after-day-earlier : tie.After-out → tie.After-day-earlier
+after-day-earlier c = c .before .before .before .before .before
+
+-- ---- Needs
+
 value-requires : tie.Need-value-requires
 value-requires c κs = search needs
 
@@ -43,7 +50,9 @@ same-length c = search needs
 
 returns : tie.Need-returns
 unfolding restoredIn
-returns c = c .before .before .put .ensures ∙ (rw (c .before .before .before .before .before .before .before .before .value .ensures .0, c .before .before .before .before .before .before .day-earlier .ensures .0))
+returns c =
+    c .before .before .put .ensures
+    ∙ (simp (after-day-earlier (c .before) .before .before .value .ensures .0, after-day-earlier (c .before) .day-earlier .ensures .0))
 
 pub restore-slot-spec : {M : Type 1} → statement M
 restore-slot-spec =

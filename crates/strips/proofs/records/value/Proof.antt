@@ -5,6 +5,16 @@ use Rattle.strips.proofs.Numbers.{number-spaced}
 use Rattle.strips.proofs.records.value.Statement.{statement}
 use Rattle.strips.proofs.records.value.Tie as tie
 
+-- ---- Places
+
+abbrev start : tie.After-wide2 → tie.Start
+start c = c .before .before .before .before .before
+
+abbrev after-wide2 : tie.After-wide4 → tie.After-wide2
+after-wide2 c = c .before .before .before .before
+
+-- ---- Needs
+
 shared-slice-read-wide : tie.Need-shared-slice-read-wide
 shared-slice-read-wide c = search needs
 
@@ -63,7 +73,22 @@ add-result-3 : tie.Need-add-result-3
 add-result-3 c = search needs
 
 returns : tie.Need-returns
-returns c = (simp (c .before .before .before .before .before .before .wide .ensures .0, c .before .before .before .before .wide2 .ensures .0, c .before .before .wide3 .ensures .0, c .wide4 .ensures .0) (number-spaced (c .before .before .before .before .before .before .before .before .before .args .bytes .now) (c .before .before .before .before .before .before .before .before .before .args .at) (c .before .before .before .before .before .before .before .before .before .args .step)), omega (arith, c .before .before .before .before .before .before .wide .ensures .1, c .before .before .before .before .wide2 .ensures .1, c .before .before .wide3 .ensures .1, c .wide4 .ensures .1))
+returns c = (
+  simp (
+    after-wide2 c .before .before .wide .ensures .0,
+    after-wide2 c .wide2 .ensures .0,
+    c .before .before .wide3 .ensures .0,
+    c .wide4 .ensures .0,
+  ) (number-spaced (start (after-wide2 c) .args .bytes .now) (start (after-wide2 c) .args .at)
+      (start (after-wide2 c) .args .step)),
+  omega (
+    arith,
+    after-wide2 c .before .before .wide .ensures .1,
+    after-wide2 c .wide2 .ensures .1,
+    c .before .before .wide3 .ensures .1,
+    c .wide4 .ensures .1,
+  ),
+)
 
 pub value-spec : {M : Type 1} → statement M
 value-spec =
