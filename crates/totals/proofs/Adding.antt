@@ -74,7 +74,9 @@ module _ (bs : List ℕ) (n first : ℕ) where
       (either (leb first d))
     where
       inside : first ≤ d → d < end → Next end d
-      inside p q = rw (le-leb first d p, lt-ltb d end q, least-second end d (omega arith), least-second end (d + 1) (omega arith)) (sym (stay-more d p))
+      inside p q =
+          rw (le-leb first d p, lt-ltb d end q, least-second end d (omega arith), least-second end (d + 1) (omega arith))
+          (sym (stay-more d p))
 
       after : end ≤ d → Next end d
       after p = rw (le-ltb d end p, and-false, least-first end d p, least-first end (d + 1) (omega arith), add-zero)
@@ -99,17 +101,21 @@ module _ (bs : List ℕ) (n : ℕ) (pairs : List ℕ) where
   pub before-none : (totals : List ℕ) → length totals ≡ pairCount pairs → upTo (λ _. 0) 0 (length totals) ≡ totalsBefore bs n pairs 0
   unfolding totalsBefore
   before-none totals e =
-      rw e (same-upTo _ _ (pairCount pairs) (λ k l. sym (stay-none bs n (firstOf pairs k) (least (endOf pairs k) 0) (omega (arith, least-le (endOf pairs k) 0)))))
+      rw e (same-upTo _ _ (pairCount pairs)
+      (λ k l. sym (stay-none bs n (firstOf pairs k) (least (endOf pairs k) 0) (omega (arith, least-le (endOf pairs k) 0)))))
 
   pub before-length : (d : ℕ) → length (totalsBefore bs n pairs d) ≡ pairCount pairs
   unfolding totalsBefore
   before-length d = length-upTo _ 0 (pairCount pairs)
 
-  before-at : (d k : ℕ) → k < pairCount pairs → getD (totalsBefore bs n pairs d) k 0 ≡ stayTotal bs n (firstOf pairs k) (least (endOf pairs k) d)
+  before-at : (d k : ℕ) → k < pairCount pairs
+      → getD (totalsBefore bs n pairs d) k 0 ≡ stayTotal bs n (firstOf pairs k) (least (endOf pairs k) d)
   unfolding totalsBefore
-  before-at d k l = getD-upTo _ 0 0 (pairCount pairs) k l ∙ ap (λ (j : ℕ). stayTotal bs n (firstOf pairs j) (least (endOf pairs j) d)) (zero-add k)
+  before-at d k l =
+      getD-upTo _ 0 0 (pairCount pairs) k l ∙ ap (λ (j : ℕ). stayTotal bs n (firstOf pairs j) (least (endOf pairs j) d)) (zero-add k)
 
-  pub before-next : (d energy : ℕ) (totals next : List ℕ) → energy ≡ energyOf bs n d → totals ≡ totalsBefore bs n pairs d → next ≡ withDay pairs totals d energy → next ≡ totalsBefore bs n pairs (d + 1)
+  pub before-next : (d energy : ℕ) (totals next : List ℕ) → energy ≡ energyOf bs n d → totals ≡ totalsBefore bs n pairs d
+      → next ≡ withDay pairs totals d energy → next ≡ totalsBefore bs n pairs (d + 1)
   unfolding withDay totalsBefore
   before-next d energy totals next e t w =
       w
@@ -117,7 +123,8 @@ module _ (bs : List ℕ) (n : ℕ) (pairs : List ℕ) where
       (same-upTo _ _ (pairCount pairs) (λ k l. rw (before-at d k l) (stay-next bs n (firstOf pairs k) (endOf pairs k) d)))
 
   -- there is room for one day more
-  pub before-room : Bytes bs → n ≤ 288 → (d : ℕ) → d ≤ 400 → (totals : List ℕ) → totals ≡ totalsBefore bs n pairs d → (energy : ℕ) → energy ≤ 2 ^ 32 * n → Room pairs totals energy
+  pub before-room : Bytes bs → n ≤ 288 → (d : ℕ) → d ≤ 400 → (totals : List ℕ) → totals ≡ totalsBefore bs n pairs d → (energy : ℕ)
+      → energy ≤ 2 ^ 32 * n → Room pairs totals energy
   before-room b few d l totals e energy m =
       rw e
       (record {
@@ -129,10 +136,12 @@ module _ (bs : List ℕ) (n : ℕ) (pairs : List ℕ) where
       })
 
   -- after the last day the totals are whole
-  pub before-all : (days : ℕ) → n ≡ 1440 / figures bs .interval → pairsOk days pairs ≡ true → totalsBefore bs n pairs days ≡ totalsOf bs pairs
+  pub before-all : (days : ℕ) → n ≡ 1440 / figures bs .interval → pairsOk days pairs ≡ true
+      → totalsBefore bs n pairs days ≡ totalsOf bs pairs
   unfolding totalsBefore totalsOf
   before-all days e ok =
       rw e
       (same-upTo _ _ (pairCount pairs) (λ k l.
-      let fits = and-parts (ltb (firstOf pairs k) (endOf pairs k)) (leb (endOf pairs k) days) (all-at (λ j. pairOk days (firstOf pairs j) (endOf pairs j)) (pairCount pairs) ok k l) .1 in
+      let fits = and-parts (ltb (firstOf pairs k) (endOf pairs k)) (leb (endOf pairs k) days)
+      (all-at (λ j. pairOk days (firstOf pairs j) (endOf pairs j)) (pairCount pairs) ok k l) .1 in
       ap (stayTotal bs (1440 / figures bs .interval) (firstOf pairs k)) (least-first (endOf pairs k) days (leb-true _ _ fits))))

@@ -19,7 +19,8 @@ module _ (bs : List ℕ) (g : Figures) (e : readFile bs ≡ verdict.Accepted g) 
   no-pairs = rw e
 
   module _ (pairs totals : List ℕ) where
-    pub refused-18 : every (listTests pairs (length totals)) ≡ false → (Refused 18 ≡ staysAnswer bs pairs totals) × (totals ≡ staysAfter bs pairs totals)
+    pub refused-18 : every (listTests pairs (length totals)) ≡ false
+        → (Refused 18 ≡ staysAnswer bs pairs totals) × (totals ≡ staysAfter bs pairs totals)
     unfolding staysAfter staysAnswer
     refused-18 p = rw (e, p) (refl, refl)
 

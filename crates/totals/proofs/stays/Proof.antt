@@ -5,6 +5,13 @@ use Rattle.totals.specs.Stays.{staysAnswer, staysAfter}
 use Rattle.totals.proofs.stays.Statement.{statement}
 use Rattle.totals.proofs.stays.Tie as tie
 
+-- ---- Places
+
+abbrev after-read : tie.After-stays-in-arg → tie.After-read
+after-read c = c .before .before .before .before
+
+-- ---- Needs
+
 read-requires : tie.Need-read-requires
 read-requires c κs = search needs
 
@@ -12,7 +19,7 @@ enum-known-g : tie.Need-enum-known-g
 enum-known-g c = search needs
 
 stays-in-requires : tie.Need-stays-in-requires
-stays-in-requires c κs = sym (c .before .before .before .before .read .ensures) ∙ c .before .before .g .given .1
+stays-in-requires c κs = sym (after-read c .read .ensures) ∙ c .before .before .g .given .1
 
 enum-known-number : tie.Need-enum-known-number
 enum-known-number c = search needs

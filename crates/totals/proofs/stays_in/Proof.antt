@@ -14,29 +14,48 @@ use Rattle.totals.proofs.Answers.{refused-18, refused-19, done}
 use Rattle.totals.proofs.stays_in.Statement.{statement}
 use Rattle.totals.proofs.stays_in.Tie as tie
 
+-- ---- Places
+
+abbrev entry : tie.After-lists-fit → tie.Start
+entry c = c .before .before .before .before
+
+abbrev entry-passed2 : tie.Else2 → tie.Start
+entry-passed2 c = entry (c .before .before .before)
+
+abbrev passed1 : tie.After-total-days-arg → tie.Else1
+passed1 c = c .before .before .before .before
+
+abbrev passed2 : tie.After-totals → tie.Else2
+passed2 c = c .before .before .before .before
+
+-- ---- Needs
+
 lists-fit-requires : tie.Need-lists-fit-requires
 lists-fit-requires c κs = search needs
 
 returns : tie.Need-returns
-returns c = refused-18 _ _ (c .before .before .before .before .before .pre) _ _ (sym (c .before .lists-fit .ensures) ∙ not-true _ (c .if1 .taken))
+returns c = refused-18 _ _ (entry (c .before) .pre) _ _ (sym (c .before .lists-fit .ensures) ∙ not-true _ (c .if1 .taken))
 
 pairs-fit-requires : tie.Need-pairs-fit-requires
 pairs-fit-requires c κs = search needs
 
 returns-2 : tie.Need-returns-2
-returns-2 c = refused-19 _ _ (c .before .before .before .before .before .before .before .pre) _ _ (sym (c .before .before .before .lists-fit .ensures) ∙ not-false _ (c .before .before .if1 .left)) (sym (c .before .pairs-fit .ensures) ∙ not-true _ (c .if2 .taken))
+returns-2 c =
+    refused-19 _ _ (entry (c .before .before .before) .pre) _ _
+    (sym (c .before .before .before .lists-fit .ensures) ∙ not-false _ (c .before .before .if1 .left))
+    (sym (c .before .pairs-fit .ensures) ∙ not-true _ (c .if2 .taken))
 
 cast-n : tie.Need-cast-n
 cast-n c = search needs
 
 div-n : tie.Need-div-n
-div-n c = omega (arith, some-interval _ _ (c .before .before .before .before .before .before .before .before .pre))
+div-n c = omega (arith, some-interval _ _ (entry-passed2 (c .before) .pre))
 
 total-days-requires : tie.Need-total-days-requires
 total-days-requires c κs =
-    let start = c .before .before .before .before .before .before .before .before .before in
+    let start = entry-passed2 (c .before .before) in
     let a = start .args in
-    let lists-ok = sym (c .before .before .before .before .before .lists-fit .ensures) ∙ not-false _ (c .before .before .before .before .if1 .left) in
+    let lists-ok = sym (passed1 c .before .lists-fit .ensures) ∙ not-false _ (passed1 c .if1 .left) in
     (tabled _ _ (start .pre), eqb-true _ _ (passed (listTests (a .pairs .now) (length (a .totals .now))) lists-ok 2))
 
 same-length : tie.Need-same-length
@@ -44,8 +63,8 @@ same-length c = search needs
 
 returns-3 : tie.Need-returns-3
 returns-3 c =
-    let tested = c .before .before .before .before .before in
-    let start = tested .before .before .before .before .before .before .before in
+    let tested = passed2 (c .before) in
+    let start = entry-passed2 tested in
     let a = start .args in
     let pairs-ok = sym (tested .before .pairs-fit .ensures) ∙ not-false _ (tested .if2 .left) in
     let lists-ok = sym (tested .before .before .before .lists-fit .ensures) ∙ not-false _ (tested .before .before .if1 .left) in

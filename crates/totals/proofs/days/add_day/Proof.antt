@@ -12,10 +12,21 @@ use Rattle.totals.proofs.days.add_day.Statement.{statement}
 use Rattle.totals.proofs.days.add_day.Tie as tie
 
 abbrev Inv-loop : tie.InvT-loop
-Inv-loop pairs totals₀ day energy k₀ totals k = Replaced (λ j. getD totals₀ j 0 + cond (holds (firstOf pairs j) (endOf pairs j) day) energy 0) totals₀ totals k
+Inv-loop pairs totals₀ day energy k₀ totals k =
+    Replaced (λ j. getD totals₀ j 0 + cond (holds (firstOf pairs j) (endOf pairs j) day) energy 0) totals₀ totals k
 
 abbrev μ-loop : tie.MeasureT-loop
 μ-loop pairs totals₀ day energy k₀ totals k = length totals₀ - k
+
+-- ---- Places
+
+abbrev start : tie.In-loop Inv-loop μ-loop → tie.Start Inv-loop μ-loop
+start c = c .before .before .before .before
+
+abbrev turn : tie.After-share Inv-loop μ-loop → tie.In-loop Inv-loop μ-loop
+turn c = c .before .before .before
+
+-- ---- Needs
 
 loop-holds : tie.Need-loop-holds Inv-loop μ-loop
 loop-holds c = replaced-none _ _
@@ -51,9 +62,14 @@ slice-read-totals : tie.Need-slice-read-totals Inv-loop μ-loop
 slice-read-totals c = search needs
 
 add-totals : tie.Need-add-totals Inv-loop μ-loop
-add-totals c = let k = c .before .before .before .before .before .loop .k in
-    let here : k < length (c .before .before .before .before .before .before .before .before .args .totals .now) = search needs in
-    omega (arith, c .before .before .before .before .before .before .before .before .pre .fits k here, c .before .before .before .before .before .loop .inv .left k (search needs), c .before .share .ensures .1)
+add-totals c = let k = turn (c .before) .before .loop .k in
+    let here : k < length (start (turn (c .before)) .args .totals .now) = search needs in
+    omega (
+      arith,
+      start (turn (c .before)) .pre .fits k here,
+      turn (c .before) .before .loop .inv .left k (search needs),
+      c .before .share .ensures .1,
+    )
 
 slice-write-totals : tie.Need-slice-write-totals Inv-loop μ-loop
 slice-write-totals c = search needs
@@ -65,7 +81,9 @@ loop-less : tie.Need-loop-less Inv-loop μ-loop
 loop-less c = search needs
 
 loop-again : tie.Need-loop-again Inv-loop μ-loop
-loop-again c = replaced-next _ _ _ _ _ (c .before .before .before .before .before .loop .inv) (c .before .before .before .before .loop-test .taken) (ap₂ _+_ (c .before .before .before .before .before .loop .inv .left (c .before .before .before .before .before .loop .k) (search needs)) (c .before .share .ensures .0))
+loop-again c =
+    replaced-next _ _ _ _ _ (turn (c .before) .before .loop .inv) (turn (c .before) .loop-test .taken)
+    (ap₂ _+_ (turn (c .before) .before .loop .inv .left (turn (c .before) .before .loop .k) (search needs)) (c .before .share .ensures .0))
 
 same-length : tie.Need-same-length Inv-loop μ-loop
 same-length c = search needs

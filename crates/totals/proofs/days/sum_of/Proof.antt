@@ -1,6 +1,7 @@
 -- `days::sum_of`: after i turns the sum is that of i slots.
+use mathlib.Core.List.{List}
 use mathlib.Core.Path.{_≡_, sym, ap₂, _∙_}
-use Prim.Native.Nat.{_≤_, _-_, _*_, _+_, _^_}
+use Prim.Native.Nat.{ℕ, _≤_, _-_, _*_, _+_, _^_}
 use native.Mathlib.Omega.{arith}
 use borrow.Author.Needs.{needs}
 use Rattle.base.specs.Lists.{sum}
@@ -9,14 +10,26 @@ use Rattle.file.specs.Reader.{slotAt}
 use Rattle.totals.proofs.days.sum_of.Statement.{statement}
 use Rattle.totals.proofs.days.sum_of.Tie as tie
 
+record Held (file : List ℕ) (a k energy i : ℕ) : Type 0 where
+  inside : i ≤ k
+  known : energy ≡ sum (λ x. slotAt file x .value) a i
+  small : energy ≤ 2 ^ 32 * i
+
 abbrev Inv-loop : tie.InvT-loop
-Inv-loop file a k energy₀ i₀ energy i = (i ≤ k) × (energy ≡ sum (λ x. slotAt file x .value) a i) × (energy ≤ 2 ^ 32 * i)
+Inv-loop file a k energy₀ i₀ energy i = Held file a k energy i
 
 abbrev μ-loop : tie.MeasureT-loop
 μ-loop file a k energy₀ i₀ energy i = k - i
 
+-- ---- Places
+
+abbrev start : tie.After-value-at Inv-loop μ-loop → tie.Start Inv-loop μ-loop
+start c = c .before .before .before .before
+
+-- ---- Needs
+
 loop-holds : tie.Need-loop-holds Inv-loop μ-loop
-loop-holds c = (search needs, sym (sum-empty _ _), search needs)
+loop-holds c = record { inside = search needs; known = sym (sum-empty _ _); small = search needs }
 
 add-value-at : tie.Need-add-value-at Inv-loop μ-loop
 add-value-at c = search needs
@@ -34,11 +47,18 @@ loop-less : tie.Need-loop-less Inv-loop μ-loop
 loop-less c = search needs
 
 loop-again : tie.Need-loop-again Inv-loop μ-loop
-loop-again c = (search needs, ap₂ _+_ (c .before .before .loop .inv .1) (c .value-at .ensures .0) ∙ sym (sum-more _ (c .before .before .before .before .args .a) (c .before .before .loop .i)), omega (arith, c .value-at .ensures .1, c .before .before .loop .inv .2))
+loop-again c =
+    record {
+      inside = search needs;
+      known = ap₂ _+_ (c .before .before .loop .inv .known) (c .value-at .ensures .0)
+          ∙ sym (sum-more _ (start c .args .a) (c .before .before .loop .i));
+      small =
+          omega (arith, c .value-at .ensures .1, c .before .before .loop .inv .small);
+    }
 
 returns : tie.Need-returns Inv-loop μ-loop
 returns c = let done : c .before .loop .i ≡ c .before .before .before .args .k = omega arith in
-    (rw done at (c .before .loop .inv .1), rw done at (c .before .loop .inv .2))
+    (rw done at (c .before .loop .inv .known), rw done at (c .before .loop .inv .small))
 
 pub sum-of-spec : {M : Type 1} → statement M
 sum-of-spec =

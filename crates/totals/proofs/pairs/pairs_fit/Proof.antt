@@ -1,6 +1,7 @@
 -- `pairs::pairs_fit`: the test of all pairs is that of the pairs from k on.
+use mathlib.Core.List.{List}
 use mathlib.Core.Path.{_≡_, sym, _∙_}
-use Prim.Native.Nat.{_≤_, _-_}
+use Prim.Native.Nat.{ℕ, _≤_, _-_}
 use native.Mathlib.Nat.{sub-zero}
 use borrow.Author.Needs.{needs}
 use borrow.Author.Tests.{not-true, not-false}
@@ -10,14 +11,25 @@ use Rattle.totals.specs.Stays.{pairCount, firstOf, endOf, pairOk, pairsO
 use Rattle.totals.proofs.pairs.pairs_fit.Statement.{statement}
 use Rattle.totals.proofs.pairs.pairs_fit.Tie as tie
 
+record Held (pairs : List ℕ) (days k : ℕ) : Type 0 where
+  inside : k ≤ pairCount pairs
+  known : pairsOk days pairs ≡ all (λ j. pairOk days (firstOf pairs j) (endOf pairs j)) k (pairCount pairs - k)
+
 abbrev Inv-loop : tie.InvT-loop
-Inv-loop pairs days count k₀ k = (k ≤ pairCount pairs) × (pairsOk days pairs ≡ all (λ j. pairOk days (firstOf pairs j) (endOf pairs j)) k (pairCount pairs - k))
+Inv-loop pairs days count k₀ k = Held pairs days k
 
 abbrev μ-loop : tie.MeasureT-loop
 μ-loop pairs days count k₀ k = pairCount pairs - k
 
+-- ---- Places
+
+abbrev at-loop : tie.After-pair-ok Inv-loop μ-loop → tie.At-loop Inv-loop μ-loop
+at-loop c = c .before .before .before .before
+
+-- ---- Needs
+
 loop-holds : tie.Need-loop-holds Inv-loop μ-loop
-loop-holds c = (search needs, rw sub-zero)
+loop-holds c = record { inside = search needs; known = rw sub-zero }
 
 mul-pair-ok : tie.Need-mul-pair-ok Inv-loop μ-loop
 mul-pair-ok c = search needs
@@ -44,7 +56,9 @@ pair-ok-requires : tie.Need-pair-ok-requires Inv-loop μ-loop
 pair-ok-requires c κs = search needs
 
 returns : tie.Need-returns Inv-loop μ-loop
-returns c = sym (c .before .before .before .before .before .loop .inv .1 ∙ all-fails _ (c .before .before .before .before .before .loop .k) _ (search needs) (sym (c .before .pair-ok .ensures) ∙ not-true _ (c .if1 .taken)))
+returns c =
+    sym (at-loop (c .before) .loop .inv .known
+    ∙ all-fails _ (at-loop (c .before) .loop .k) _ (search needs) (sym (c .before .pair-ok .ensures) ∙ not-true _ (c .if1 .taken)))
 
 add-k : tie.Need-add-k Inv-loop μ-loop
 add-k c = search needs
@@ -53,10 +67,15 @@ loop-less : tie.Need-loop-less Inv-loop μ-loop
 loop-less c = search needs
 
 loop-again : tie.Need-loop-again Inv-loop μ-loop
-loop-again c = (search needs, c .before .before .before .before .before .loop .inv .1 ∙ all-more _ (c .before .before .before .before .before .loop .k) _ (search needs) (sym (c .before .pair-ok .ensures) ∙ not-false _ (c .if1 .left)))
+loop-again c =
+    record {
+      inside = search needs;
+      known = at-loop (c .before) .loop .inv .known
+          ∙ all-more _ (at-loop (c .before) .loop .k) _ (search needs) (sym (c .before .pair-ok .ensures) ∙ not-false _ (c .if1 .left));
+    }
 
 returns-2 : tie.Need-returns-2 Inv-loop μ-loop
-returns-2 c = sym (c .before .loop .inv .1 ∙ all-done _ (c .before .loop .k) _ (search needs))
+returns-2 c = sym (c .before .loop .inv .known ∙ all-done _ (c .before .loop .k) _ (search needs))
 
 pub pairs-fit-spec : {M : Type 1} → statement M
 pairs-fit-spec =
