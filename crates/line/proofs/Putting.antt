@@ -110,15 +110,18 @@ pub text-none : (d : List ℕ) (at : ℕ) (text : List ℕ) → d ≡ stored d a
 unfolding stored
 text-none d at text = refl
 
-pub text-more : (d out next text : List ℕ) (at i : ℕ) → i < length text → out ≡ stored d at (take i text) → next ≡ set out (at + i) (getD text i 0)
+pub text-more : (d out next text : List ℕ) (at i : ℕ) → i < length text → out ≡ stored d at (take i text)
+    → next ≡ set out (at + i) (getD text i 0)
     → next ≡ stored d at (take (i + 1) text)
 unfolding stored
 text-more d out next text at i l e n =
     let size : length (take i text) ≡ i = length-take-le i text (omega arith) in
     n ∙ ap (λ (x : List ℕ). set x (at + i) (getD text i 0)) e
-    ∙ sym (rw (add-one i, take-suc text i 0 l) (stored-append (take i text) (getD text i 0 ∷ []) d at ∙ ap (λ (k : ℕ). set (stored d at (take i text)) (at + k) (getD text i 0)) size))
+    ∙ sym (rw (add-one i, take-suc text i 0 l)
+    (stored-append (take i text) (getD text i 0 ∷ []) d at ∙ ap (λ (k : ℕ). set (stored d at (take i text)) (at + k) (getD text i 0)) size))
 
-pub digits-less : (whole out next : List ℕ) (at j rest : ℕ) → 0 < j → stored out at (digits j rest) ≡ whole → next ≡ set out (at + (j - 1)) (48 + rest % 10)
+pub digits-less : (whole out next : List ℕ) (at j rest : ℕ) → 0 < j → stored out at (digits j rest) ≡ whole
+    → next ≡ set out (at + (j - 1)) (48 + rest % 10)
     → stored next at (digits (j - 1) (rest / 10)) ≡ whole
 unfolding digits stored
 digits-less whole out next at zero rest l e n = absurd (omega arith)

@@ -6,6 +6,19 @@ use borrow.Author.Needs.{needs}
 use Rattle.line.proofs.file_line.Statement.{statement}
 use Rattle.line.proofs.file_line.Tie as tie
 
+-- ---- Places
+
+abbrev start : tie.After-verdict → tie.Start
+start c = c .before .before .before .before .before
+
+abbrev after-read : tie.After-fit-line-arg → tie.After-read
+after-read c = c .before .before .before .before
+
+abbrev after-verdict : tie.After-out → tie.After-verdict
+after-verdict c = c .before .before .before .before
+
+-- ---- Needs
+
 read-requires : tie.Need-read-requires
 read-requires c κs = search needs
 
@@ -14,7 +27,7 @@ enum-known-verdict c = search needs
 
 fit-line-requires : tie.Need-fit-line-requires
 fit-line-requires c κs =
-    first-lt (c .before .before .before .before .before .before .before .args .bytes .now) _ (sym (c .before .before .before .before .read .ensures) ∙ c .before .before .verdict .given .1)
+    first-lt (start (c .before .before) .args .bytes .now) _ (sym (after-read c .read .ensures) ∙ c .before .before .verdict .given .1)
 
 enum-known-verdict-2 : tie.Need-enum-known-verdict-2
 enum-known-verdict-2 c = search needs
@@ -26,7 +39,7 @@ returns : tie.Need-returns
 unfolding lineAnswer lineAfter
 returns c =
     let made = c .before .before in
-    let known = made .before .before .before in
+    let known = after-verdict (c .before) in
     rw (sym (known .before .before .read .ensures) ∙ known .verdict .given .1) (made .fit-line .ensures)
 
 returns-2 : tie.Need-returns-2

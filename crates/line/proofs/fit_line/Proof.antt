@@ -5,6 +5,13 @@ use Rattle.line.proofs.Lengths.{line-refused, line-fits}
 use Rattle.line.proofs.fit_line.Statement.{statement}
 use Rattle.line.proofs.fit_line.Tie as tie
 
+-- ---- Places
+
+abbrev passed1 : tie.After-out → tie.Else1
+passed1 c = c .before .before .before
+
+-- ---- Needs
+
 slice-aggregate-put-line : tie.Need-slice-aggregate-put-line
 slice-aggregate-put-line c = search needs
 
@@ -22,7 +29,7 @@ same-length c = search needs
 
 returns-2 : tie.Need-returns-2
 returns-2 c =
-    let tested = c .before .before .before .before in
+    let tested = passed1 (c .before) in
     line-fits _ _ (tested .before .before .put-line .ensures) (omega (arith, tested .if1 .left)) (c .before .before .put-line2 .ensures)
 
 pub fit-line-spec : {M : Type 1} → statement M

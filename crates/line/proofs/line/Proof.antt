@@ -11,6 +11,19 @@ use Rattle.line.proofs.Lengths.{too-long-room, figures-room, refusal-ro
 use Rattle.line.proofs.line.Statement.{statement}
 use Rattle.line.proofs.line.Tie as tie
 
+-- ---- Places
+
+abbrev start : tie.After-put-text → tie.Start
+start c = c .before .before .before .before .before
+
+abbrev after-read : tie.After-put-figures-arg → tie.After-read
+after-read c = c .before .before .before .before
+
+abbrev after-read-put-refusal : tie.After-put-refusal → tie.After-read
+after-read-put-refusal c = c .before .before .before .before .before
+
+-- ---- Needs
+
 slice-aggregate-put-text : tie.Need-slice-aggregate-put-text
 slice-aggregate-put-text c = search needs
 
@@ -20,7 +33,7 @@ put-text-requires c κs = search needs
 returns : tie.Need-returns
 unfolding line
 returns c =
-    let long : 65_536 < length (c .before .before .before .before .before .args .bytes .now) = omega (arith, c .before .before .before .if1 .taken) in
+    let long : 65_536 < length (start c .args .bytes .now) = omega (arith, c .before .before .before .if1 .taken) in
     rw (lt-leb _ _ long) (at-start (c .put-text .ensures) too-long-room (search needs))
 
 read-requires : tie.Need-read-requires
@@ -30,7 +43,8 @@ enum-known-g : tie.Need-enum-known-g
 enum-known-g c = search needs
 
 put-figures-requires : tie.Need-put-figures-requires
-put-figures-requires c κs = first-lt (c .before .before .before .before .before .before .before .args .bytes .now) _ (sym (c .before .before .before .before .read .ensures) ∙ c .before .before .g .given .1)
+put-figures-requires c κs =
+    first-lt (after-read c .before .before .before .args .bytes .now) _ (sym (after-read c .read .ensures) ∙ c .before .before .g .given .1)
 
 enum-known-number : tie.Need-enum-known-number
 enum-known-number c = search needs
@@ -41,15 +55,17 @@ put-refusal-requires c κs = search needs
 returns-2 : tie.Need-returns-2
 unfolding line answerText
 returns-2 c =
-    let short : length (c .before .before .before .before .before .before .before .before .args .bytes .now) ≤ 65_536 = omega (arith, c .before .before .before .before .before .before .if1 .left) in
-    let is = sym (c .before .before .before .before .before .read .ensures) ∙ c .before .before .before .g .given .1 in
+    let short : length (after-read (c .before) .before .before .before .args .bytes .now) ≤ 65_536 =
+    omega (arith, after-read (c .before) .before .if1 .left) in
+    let is = sym (after-read (c .before) .read .ensures) ∙ c .before .before .before .g .given .1 in
     rw (le-leb _ _ short, is) (at-start (c .put-figures .ensures) (figures-room _) (search needs))
 
 returns-3 : tie.Need-returns-3
 unfolding line answerText
 returns-3 c =
-    let short : length (c .before .before .before .before .before .before .before .before .args .bytes .now) ≤ 65_536 = omega (arith, c .before .before .before .before .before .before .if1 .left) in
-    let is = sym (c .before .before .before .before .before .read .ensures) ∙ c .before .before .before .number .given .1 in
+    let short : length (after-read-put-refusal c .before .before .before .args .bytes .now) ≤ 65_536 =
+    omega (arith, after-read-put-refusal c .before .if1 .left) in
+    let is = sym (after-read-put-refusal c .read .ensures) ∙ c .before .before .before .number .given .1 in
     rw (le-leb _ _ short, is) (at-start (c .put-refusal .ensures) (refusal-room _) (search needs))
 
 pub line-spec : {M : Type 1} → statement M

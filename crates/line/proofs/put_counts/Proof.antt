@@ -4,6 +4,16 @@ use Rattle.line.proofs.Putting.{then}
 use Rattle.line.proofs.put_counts.Statement.{statement}
 use Rattle.line.proofs.put_counts.Tie as tie
 
+-- ---- Places
+
+abbrev after-put-field : tie.After-put-field2 → tie.After-put-field
+after-put-field c = c .before .before .before .before .before
+
+abbrev after-put-field2 : tie.After-out3 → tie.After-put-field2
+after-put-field2 c = c .before .before .before .before .before .before
+
+-- ---- Needs
+
 cast-put-field : tie.Need-cast-put-field
 cast-put-field c = search needs
 
@@ -27,8 +37,8 @@ same-length c = search needs
 
 returns : tie.Need-returns
 returns c =
-    let put-field = c .before .before .before .before .before .before .before .before .before .before .before .before .put-field in
-    let put-field2 = c .before .before .before .before .before .before .before .put-field2 in
+    let put-field = after-put-field (after-put-field2 (c .before)) .put-field in
+    let put-field2 = after-put-field2 (c .before) .put-field2 in
     let put-field3 = c .before .before .put-field3 in
     then (then (put-field .ensures) (put-field2 .ensures)) (put-field3 .ensures)
 

@@ -5,6 +5,28 @@ use Rattle.line.proofs.Putting.{then}
 use Rattle.line.proofs.put_date.Statement.{statement}
 use Rattle.line.proofs.put_date.Tie as tie
 
+-- ---- Places
+
+abbrev after-put-digits : tie.After-put-text → tie.After-put-digits
+after-put-digits c = c .before .before .before .before .before
+
+abbrev after-put-text : tie.After-put-digits2 → tie.After-put-text
+after-put-text c = c .before .before .before .before .before
+
+abbrev after-put-digits2 : tie.After-put-text2 → tie.After-put-digits2
+after-put-digits2 c = c .before .before .before .before .before
+
+abbrev after-put-text2 : tie.After-out5 → tie.After-put-text2
+after-put-text2 c = c .before .before .before .before .before .before
+
+abbrev after-put-text-out5 : tie.After-out5 → tie.After-put-text
+after-put-text-out5 c = after-put-text (after-put-digits2 (after-put-text2 c))
+
+abbrev after-put-digits-out5 : tie.After-out5 → tie.After-put-digits
+after-put-digits-out5 c = after-put-digits (after-put-text-out5 c)
+
+-- ---- Needs
+
 cast-put-digits : tie.Need-cast-put-digits
 cast-put-digits c = search needs
 
@@ -41,10 +63,10 @@ same-length c = search needs
 returns : tie.Need-returns
 unfolding dateText
 returns c =
-    let put-digits = c .before .before .before .before .before .before .before .before .before .before .before .before .before .before .before .before .before .before .before .before .before .before .put-digits in
-    let put-text = c .before .before .before .before .before .before .before .before .before .before .before .before .before .before .before .before .before .put-text in
-    let put-digits2 = c .before .before .before .before .before .before .before .before .before .before .before .before .put-digits2 in
-    let put-text2 = c .before .before .before .before .before .before .before .put-text2 in
+    let put-digits = after-put-digits-out5 (c .before) .put-digits in
+    let put-text = after-put-text-out5 (c .before) .put-text in
+    let put-digits2 = after-put-digits2 (after-put-text2 (c .before)) .put-digits2 in
+    let put-text2 = after-put-text2 (c .before) .put-text2 in
     let put-digits3 = c .before .before .put-digits3 in
     then (then (then (then (put-digits .ensures) (put-text .ensures)) (put-digits2 .ensures)) (put-text2 .ensures)) (put-digits3 .ensures)
 

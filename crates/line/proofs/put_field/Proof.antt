@@ -5,6 +5,13 @@ use borrow.Author.Needs.{needs}
 use Rattle.line.proofs.put_field.Statement.{statement}
 use Rattle.line.proofs.put_field.Tie as tie
 
+-- ---- Places
+
+abbrev after-put-text : tie.After-out2 → tie.After-put-text
+after-put-text c = c .before .before .before .before .before
+
+-- ---- Needs
+
 slice-aggregate-put-text : tie.Need-slice-aggregate-put-text
 slice-aggregate-put-text c = search needs
 
@@ -19,7 +26,7 @@ same-length c = search needs
 
 returns : tie.Need-returns
 unfolding field
-returns c = then (c .before .before .before .before .before .before .put-text .ensures) (c .before .before .put-decimal .ensures)
+returns c = then (after-put-text (c .before) .put-text .ensures) (c .before .before .put-decimal .ensures)
 
 pub put-field-spec : {M : Type 1} → statement M
 put-field-spec =

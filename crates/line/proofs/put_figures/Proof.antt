@@ -4,6 +4,13 @@ use Rattle.line.proofs.Putting.{then}
 use Rattle.line.proofs.put_figures.Statement.{statement}
 use Rattle.line.proofs.put_figures.Tie as tie
 
+-- ---- Places
+
+abbrev after-put-line : tie.After-out2 → tie.After-put-line
+after-put-line c = c .before .before .before .before .before .before
+
+-- ---- Needs
+
 put-line-requires : tie.Need-put-line-requires
 put-line-requires c κs = search needs
 
@@ -19,7 +26,7 @@ same-length c = search needs
 returns : tie.Need-returns
 returns c =
     let end-put = c .before .before in
-    let line-put = end-put .before .before .before .before .before .put-line in
+    let line-put = after-put-line (c .before) .put-line in
     then (line-put .ensures) (end-put .put-text .ensures)
 
 pub put-figures-spec : {M : Type 1} → statement M

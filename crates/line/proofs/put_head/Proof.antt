@@ -6,6 +6,16 @@ use Rattle.line.proofs.Putting.{then, same}
 use Rattle.line.proofs.put_head.Statement.{statement}
 use Rattle.line.proofs.put_head.Tie as tie
 
+-- ---- Places
+
+abbrev after-put-date : tie.After-put-field → tie.After-put-date
+after-put-date c = c .before .before .before .before .before
+
+abbrev after-put-field : tie.After-out3 → tie.After-put-field
+after-put-field c = c .before .before .before .before .before .before
+
+-- ---- Needs
+
 date-of-requires : tie.Need-date-of-requires
 date-of-requires c κs = search needs
 
@@ -29,9 +39,9 @@ same-length c = search needs
 
 returns : tie.Need-returns
 returns c =
-    let date-of = c .before .before .before .before .before .before .before .before .before .before .before .before .before .date-of in
-    let put-date = c .before .before .before .before .before .before .before .before .before .before .before .before .put-date in
-    let put-field = c .before .before .before .before .before .before .before .put-field in
+    let date-of = after-put-date (after-put-field (c .before)) .before .date-of in
+    let put-date = after-put-date (after-put-field (c .before)) .put-date in
+    let put-field = after-put-field (c .before) .put-field in
     let put-field2 = c .before .before .put-field2 in
     then (then (same (ap dateText (date-of .ensures)) (put-date .ensures)) (put-field .ensures)) (put-field2 .ensures)
 

@@ -4,6 +4,16 @@ use Rattle.line.proofs.Putting.{then}
 use Rattle.line.proofs.put_refusal.Statement.{statement}
 use Rattle.line.proofs.put_refusal.Tie as tie
 
+-- ---- Places
+
+abbrev after-put-text : tie.After-put-field → tie.After-put-text
+after-put-text c = c .before .before .before .before
+
+abbrev after-put-field : tie.After-out3 → tie.After-put-field
+after-put-field c = c .before .before .before .before .before .before
+
+-- ---- Needs
+
 slice-aggregate-put-text : tie.Need-slice-aggregate-put-text
 slice-aggregate-put-text c = search needs
 
@@ -24,8 +34,8 @@ same-length c = search needs
 
 returns : tie.Need-returns
 returns c =
-    let put-text = c .before .before .before .before .before .before .before .before .before .before .before .put-text in
-    let put-field = c .before .before .before .before .before .before .before .put-field in
+    let put-text = after-put-text (after-put-field (c .before)) .put-text in
+    let put-field = after-put-field (c .before) .put-field in
     let put-text2 = c .before .before .put-text2 in
     then (then (put-text .ensures) (put-field .ensures)) (put-text2 .ensures)
 

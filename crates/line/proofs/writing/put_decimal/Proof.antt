@@ -6,6 +6,13 @@ use borrow.Author.Needs.{needs}
 use Rattle.line.proofs.writing.put_decimal.Statement.{statement}
 use Rattle.line.proofs.writing.put_decimal.Tie as tie
 
+-- ---- Places
+
+abbrev start : tie.After-out → tie.Start
+start c = c .before .before .before .before .before
+
+-- ---- Needs
+
 places-requires : tie.Need-places-requires
 places-requires c κs = search needs
 
@@ -17,7 +24,9 @@ same-length c = search needs
 
 returns : tie.Need-returns
 unfolding decimal
-returns c = same (ap (λ w. digits w (c .before .before .before .before .before .before .args .n)) (c .before .before .before .places .ensures)) (c .before .before .put-digits .ensures)
+returns c =
+    same (ap (λ w. digits w (start (c .before) .args .n)) (c .before .before .before .places .ensures))
+    (c .before .before .put-digits .ensures)
 
 pub put-decimal-spec : {M : Type 1} → statement M
 put-decimal-spec = tie.close (tie.spec places-requires put-digits-requires same-length returns)

@@ -1,7 +1,8 @@
 -- `writing::put_digits` meets its contract.
+use mathlib.Core.List.{List}
 use borrow.Author.Needs.{needs}
 use mathlib.Core.Path.{_≡_, refl, sym, ap, _∙_}
-use Prim.Native.Nat.{_≤_, _+_}
+use Prim.Native.Nat.{ℕ, _≤_, _+_}
 use native.Mathlib.Omega.{arith}
 use lib.ListN.{length}
 use Rattle.line.specs.Line.{digits}
@@ -11,14 +12,28 @@ use Rattle.line.proofs.Putting.{length-stored, digits-less, digits-none
 use Rattle.line.proofs.writing.put_digits.Statement.{statement}
 use Rattle.line.proofs.writing.put_digits.Tie as tie
 
+record Held (out₀ : List ℕ) (at width n : ℕ) (out : List ℕ) (rest j : ℕ) : Type 0 where
+  inside : j ≤ width
+  known : stored out at (digits j rest) ≡ stored out₀ at (digits width n)
+
 abbrev Inv-loop : tie.InvT-loop
-Inv-loop out₀ at width n rest₀ j₀ out rest j = (j ≤ width) × (stored out at (digits j rest) ≡ stored out₀ at (digits width n))
+Inv-loop out₀ at width n rest₀ j₀ out rest j = Held out₀ at width n out rest j
 
 abbrev μ-loop : tie.MeasureT-loop
 μ-loop out₀ at width n rest₀ j₀ out rest j = j
 
+-- ---- Places
+
+abbrev start : tie.After-ahead Inv-loop μ-loop → tie.Start Inv-loop μ-loop
+start c = c .before .before .before .before
+
+abbrev at-loop : tie.After-out Inv-loop μ-loop → tie.At-loop Inv-loop μ-loop
+at-loop c = c .before .before .before .before
+
+-- ---- Needs
+
 loop-holds : tie.Need-loop-holds Inv-loop μ-loop
-loop-holds c = (search needs, refl)
+loop-holds c = record { inside = search needs; known = refl }
 
 sub-j : tie.Need-sub-j Inv-loop μ-loop
 sub-j c = search needs
@@ -36,19 +51,33 @@ loop-less : tie.Need-loop-less Inv-loop μ-loop
 loop-less c = search needs
 
 loop-again : tie.Need-loop-again Inv-loop μ-loop
-loop-again c = (search needs, digits-less _ (c .before .before .before .before .before .loop .out) _ (c .before .before .before .before .before .before .before .args .at) (c .before .before .before .before .before .loop .j) (c .before .before .before .before .before .loop .rest) (search needs) (c .before .before .before .before .before .loop .inv .1) (c .before .before .put-byte .ensures))
+loop-again c =
+    record {
+      inside = search needs;
+      known = digits-less _ (at-loop (c .before) .loop .out) _ (at-loop (c .before) .before .before .args .at)
+          (at-loop (c .before) .loop .j) (at-loop (c .before) .loop .rest) (search needs) (at-loop (c .before) .loop .inv .known)
+          (c .before .before .put-byte .ensures);
+    }
 
 ahead-requires : tie.Need-ahead-requires Inv-loop μ-loop
 ahead-requires c κs = search needs
 
 same-length : tie.Need-same-length Inv-loop μ-loop
-same-length c = let l = c .before .before .loop in sym (length-stored (l .out) (c .before .before .before .before .args .at) (digits (l .j) (l .rest))) ∙ ap length (l .inv .1) ∙ length-stored _ _ _
+same-length c =
+    let l = c .before .before .loop in
+    sym (length-stored (l .out) (start c .args .at) (digits (l .j) (l .rest))) ∙ ap length (l .inv .known) ∙ length-stored _ _ _
 
 returns : tie.Need-returns Inv-loop μ-loop
-returns c = let a = c .before .before .before .before .args in
+returns c = let a = start c .args in
     let l = c .before .before .loop in
     let done : l .j ≡ 0 = omega arith in
-    record { fits = search needs; next = c .ahead .ensures ∙ ap (λ n. capped (a .at + n)) (sym (length-digits (a .width) (a .n))); has = sym (digits-none (l .out) (a .at) (l .rest)) ∙ ap (λ j. stored (l .out) (a .at) (digits j (l .rest))) (sym done) ∙ l .inv .1 }
+    record {
+      fits = search needs;
+      next = c .ahead .ensures
+          ∙ ap (λ n. capped (a .at + n)) (sym (length-digits (a .width) (a .n)));
+      has = sym (digits-none (l .out) (a .at) (l .rest))
+          ∙ ap (λ j. stored (l .out) (a .at) (digits j (l .rest))) (sym done) ∙ l .inv .known;
+    }
 
 pub put-digits-spec : {M : Type 1} → statement M
 put-digits-spec =

@@ -1,7 +1,8 @@
 -- `writing::put_text` meets its contract.
+use mathlib.Core.List.{List}
 use borrow.Author.Needs.{needs}
 use mathlib.Core.Path.{_≡_, ap, _∙_}
-use Prim.Native.Nat.{_≤_, _-_}
+use Prim.Native.Nat.{ℕ, _≤_, _-_}
 use native.Mathlib.Omega.{arith}
 use lib.ListN.{length, take}
 use lib.Seq.{take-length}
@@ -10,14 +11,33 @@ use Rattle.line.proofs.Putting.{length-stored, text-none, text-more}
 use Rattle.line.proofs.writing.put_text.Statement.{statement}
 use Rattle.line.proofs.writing.put_text.Tie as tie
 
+record Held (out₀ : List ℕ) (at : ℕ) (text out : List ℕ) (i : ℕ) : Type 0 where
+  inside : i ≤ length text
+  known : out ≡ stored out₀ at (take i text)
+
 abbrev Inv-loop : tie.InvT-loop
-Inv-loop out₀ at text i₀ out i = (i ≤ length text) × (out ≡ stored out₀ at (take i text))
+Inv-loop out₀ at text i₀ out i = Held out₀ at text out i
 
 abbrev μ-loop : tie.MeasureT-loop
 μ-loop out₀ at text i₀ out i = length text - i
 
+-- ---- Places
+
+abbrev start : tie.After-ahead Inv-loop μ-loop → tie.Start Inv-loop μ-loop
+start c = c .before .before .before .before .before
+
+abbrev at-loop : tie.After-out Inv-loop μ-loop → tie.At-loop Inv-loop μ-loop
+at-loop c = c .before .before .before .before .before
+
+-- ---- Needs
+
 loop-holds : tie.Need-loop-holds Inv-loop μ-loop
-loop-holds c = (search needs, text-none (c .before .before .args .out .now) (c .before .before .args .at) (c .before .before .args .text .now))
+loop-holds c =
+    record {
+      inside = search needs;
+      known = text-none (c .before .before .args .out .now) (c .before .before .args .at)
+          (c .before .before .args .text .now);
+    }
 
 shared-slice-read-put-byte : tie.Need-shared-slice-read-put-byte Inv-loop μ-loop
 shared-slice-read-put-byte c = search needs
@@ -32,19 +52,30 @@ loop-less : tie.Need-loop-less Inv-loop μ-loop
 loop-less c = search needs
 
 loop-again : tie.Need-loop-again Inv-loop μ-loop
-loop-again c = (search needs, text-more _ (c .before .before .before .before .before .before .loop .out) _ (c .before .before .before .before .before .before .before .before .before .args .text .now) (c .before .before .before .before .before .before .before .before .before .args .at) (c .before .before .before .before .before .before .loop .i) (search needs) (c .before .before .before .before .before .before .loop .inv .1) (c .before .before .put-byte .ensures))
+loop-again c =
+    record {
+      inside = search needs;
+      known = text-more _ (at-loop (c .before) .loop .out) _
+          (at-loop (c .before) .before .before .before .args .text .now) (at-loop (c .before) .before .before .before .args .at)
+          (at-loop (c .before) .loop .i) (search needs) (at-loop (c .before) .loop .inv .known) (c .before .before .put-byte .ensures);
+    }
 
 ahead-requires : tie.Need-ahead-requires Inv-loop μ-loop
 ahead-requires c κs = search needs
 
 same-length : tie.Need-same-length Inv-loop μ-loop
-same-length c = ap length (c .before .before .loop .inv .1) ∙ length-stored _ _ _
+same-length c = ap length (c .before .before .loop .inv .known) ∙ length-stored _ _ _
 
 returns : tie.Need-returns Inv-loop μ-loop
-returns c = let a = c .before .before .before .before .before .args in
+returns c = let a = start c .args in
     let l = c .before .before .loop in
     let done : l .i ≡ length (a .text .now) = omega arith in
-    record { fits = search needs; next = c .ahead .ensures; has = l .inv .1 ∙ ap (λ n. stored (a .out .now) (a .at) (take n (a .text .now))) done ∙ rw take-length }
+    record {
+      fits = search needs;
+      next = c .ahead .ensures;
+      has = l .inv .known
+          ∙ ap (λ n. stored (a .out .now) (a .at) (take n (a .text .now))) done ∙ rw take-length;
+    }
 
 pub put-text-spec : {M : Type 1} → statement M
 put-text-spec =
