@@ -127,7 +127,8 @@ returns-3 c =
     rw (
       eq-eqb _ _ four,
       digits,
-      reading-made bs _ _ _ _ four (first .before .before .value .ensures .0) (first .value2 .ensures .0) (c .before .before .value3 .ensures .0)
+      reading-made bs _ _ _ _ four (first .before .before .value .ensures .0) (first .value2 .ensures .0)
+          (c .before .before .value3 .ensures .0)
           (c .value4 .ensures .0),
     )
 
