@@ -21,8 +21,10 @@ use Rattle.book.specs.Arguments.{Call, argumentRules}
 use Rattle.book.specs.Arguments.Call.{delivery, holiday, register, agreed}
 use Rattle.book.specs.Cells.{readsOf, allLong, slotsFit, daysFit, readsFit, agreedFits, cellsFits, cellsFit, countsFit, bookFits}
 use Rattle.book.specs.Opening.{opened}
-use Rattle.book.specs.Filling.{inputRules, againstSlot, againstDay, againstBoundary, againstAgreed, againstDelivery, deliverAnswer, holidayAnswer, registerAnswer, agreeAnswer, answer, after, answers, afterAll}
-use Rattle.book.specs.Plain.{deliveries, keptReads, agreements, named, highest, contentWith, againstKept, plainAnswer, keep, plainAnswers, keptOf, bookOf, deliveredOn, countsOf, listsOf}
+use Rattle.book.specs.Filling.{inputRules, againstSlot, againstDay, againstBoundary, againstAgreed, againstDelivery, deliverAnswer}
+use Rattle.book.specs.Filling.{holidayAnswer, registerAnswer, agreeAnswer, answer, after, answers, afterAll}
+use Rattle.book.specs.Plain.{deliveries, keptReads, agreements, named, highest, contentWith, againstKept, plainAnswer, keep}
+use Rattle.book.specs.Plain.{plainAnswers, keptOf, bookOf, deliveredOn, countsOf, listsOf}
 use Rattle.book.specs.Contents.{dialRead, readAt}
 use Rattle.book.proofs.Tables.{upTo-zero}
 use Rattle.book.proofs.Next.{countedIn, booked, after-filed, filed-refused, book-next}
@@ -33,7 +35,13 @@ use Rattle.book.proofs.Clean.{slot-clean, day-clean, read-clean, agreed
 -- the lists of kept calls have the right lengths
 cells-fit : (h : Head) (kept : List Call) → cellsFit h (bookOf h kept) ≡ true
 unfolding cellsFit slotsFit daysFit readsFit agreedFits allLong bookOf
-cells-fit h kept = simp (length-upTo, eq-eqb (slotCount h) (slotCount h) refl, eq-eqb (h .days) (h .days) refl, eq-eqb (suc (h .days)) (suc (h .days)) refl)
+cells-fit h kept =
+    simp (
+      length-upTo,
+      eq-eqb (slotCount h) (slotCount h) refl,
+      eq-eqb (h .days) (h .days) refl,
+      eq-eqb (suc (h .days)) (suc (h .days)) refl,
+    )
 
 counts-fit : (h : Head) (kept : List Call) → countsFit h (countsOf h kept) ≡ true
 unfolding countsFit allLong countsOf
@@ -91,10 +99,12 @@ answer-agrees h kept (holiday day) ok =
     behind h (holiday day) (daysFit h (bookOf h kept .holidays)) _ _ (passed (cellsFits h (bookOf h kept)) (cells-fit h kept) 1)
     (λ good s. against-day h kept day ok s)
 answer-agrees h kept (register boundary version reading width) ok =
-    behind h (register boundary version reading width) (readsFit h (readsOf (bookOf h kept))) _ _ (passed (cellsFits h (bookOf h kept)) (cells-fit h kept) 2)
+    behind h (register boundary version reading width) (readsFit h (readsOf (bookOf h kept))) _ _
+    (passed (cellsFits h (bookOf h kept)) (cells-fit h kept) 2)
     (λ good s. let le = s .0 in against-boundary h kept boundary version reading width ok (omega arith))
 answer-agrees h kept (agreed slot version value) ok =
-    behind h (agreed slot version value) (agreedFits h (bookOf h kept .agreed)) _ _ (passed (cellsFits h (bookOf h kept)) (cells-fit h kept) 3)
+    behind h (agreed slot version value) (agreedFits h (bookOf h kept .agreed)) _ _
+    (passed (cellsFits h (bookOf h kept)) (cells-fit h kept) 3)
     (λ good s. against-agreed h kept slot version value ok (s .0))
 
 -- the counts of one more accepted call
@@ -119,7 +129,8 @@ unfolding keep
 after-agrees h kept c ok =
     after-filed h (listsOf h kept) c ∙ rw (answer-agrees h kept c ok) (go (isAccepted (plainAnswer h kept c)) refl)
   where
-    go : (t : Bool) → isAccepted (plainAnswer h kept c) ≡ t → booked h (plainAnswer h kept c) (listsOf h kept) c ≡ listsOf h (cond t (c ∷ kept) kept)
+    go : (t : Bool) → isAccepted (plainAnswer h kept c) ≡ t
+        → booked h (plainAnswer h kept c) (listsOf h kept) c ≡ listsOf h (cond t (c ∷ kept) kept)
     go true e =
         let found = accepted h kept c e in
         let same = found .0 in

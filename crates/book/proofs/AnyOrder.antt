@@ -15,10 +15,12 @@ use Rattle.book.specs.Answers.{isAccepted, byVersion}
 use Rattle.book.specs.Answers.Answer.{stored, late, repeat, refused}
 use Rattle.book.specs.Arguments.{Call, argumentRules}
 use Rattle.book.specs.Arguments.Call.{delivery, holiday, register, agreed}
-use Rattle.book.specs.Plain.{named, deliveries, keptReads, agreements, slotVersion, slotContent, readVersion, readContent, agreedVersion, agreedContent, againstKept, plainAnswer, keep, plainAnswers, keptOf, bookOf}
+use Rattle.book.specs.Plain.{named, deliveries, keptReads, agreements, slotVersion, slotContent, readVersion, readContent}
+use Rattle.book.specs.Plain.{agreedVersion, agreedContent, againstKept, plainAnswer, keep, plainAnswers, keptOf, bookOf}
 use Rattle.book.proofs.Said.{member-low, from}
 use Rattle.book.proofs.Kept.{unless-accepted, Kept, keptOf-kept}
-use Rattle.book.proofs.Members.{deliveries-from, deliveries-of, reads-from, reads-of, agreements-from, agreements-of, named-from, named-of}
+use Rattle.book.proofs.Members.{deliveries-from, deliveries-of, reads-from, reads-of, agreements-from, agreements-of, named-from}
+use Rattle.book.proofs.Members.{named-of}
 use Rattle.book.proofs.Order.{Within, AsFar, as-far, same-book}
 
 -- a call whose arguments break no rule
@@ -154,8 +156,10 @@ module _ (h : Head) where
 
   module _ (cs ds : List Call) (free : List·Memᴰ (refused 10) (plainAnswers h [] cs) → ⊥) (sub : Within cs ds) (sup : Within ds cs) where
     among : (es : List Call) (c : Call) → List·Memᴰ c (keptOf h [] es) → List·Memᴰ c es × Valid h c
-    among es c m =
-        (⊎-elim (λ k. absurd (List·Memᴰ·not-nil k)) (λ k. k) (kept-from [] es c m), kept-valid (keptOf h [] es) c (keptOf-kept h [] es tt) m)
+    among es c m = (
+      ⊎-elim (λ k. absurd (List·Memᴰ·not-nil k)) (λ k. k) (kept-from [] es c m),
+      kept-valid (keptOf h [] es) c (keptOf-kept h [] es tt) m,
+    )
 
     within : Within (keptOf h [] ds) (keptOf h [] cs)
     within c m = let a = among ds c m in all-kept [] cs free c (sup c (a .0)) (a .1)
@@ -165,10 +169,12 @@ module _ (h : Head) where
 
     as-high : AsFar (keptOf h [] cs) (keptOf h [] ds)
     as-high = record {
-      slots = λ i. from (record { value = 0; status = 0 }) (deliveries i (keptOf h [] cs)) (λ v a. v ≤ slotVersion (keptOf h [] ds) i) zero-le
+      slots =
+          λ i. from (record { value = 0; status = 0 }) (deliveries i (keptOf h [] cs)) (λ v a. v ≤ slotVersion (keptOf h [] ds) i) zero-le
           (λ s m. far _ (deliveries-from i (keptOf h [] cs) s m));
       days = λ d e. far (holiday d) (named-from d (keptOf h [] cs) e);
-      boundaries = λ d. from (record { reading = 0; width = 0 }) (keptReads d (keptOf h [] cs)) (λ v a. v ≤ readVersion (keptOf h [] ds) d) zero-le
+      boundaries =
+          λ d. from (record { reading = 0; width = 0 }) (keptReads d (keptOf h [] cs)) (λ v a. v ≤ readVersion (keptOf h [] ds) d) zero-le
           (λ s m. far _ (reads-from d (keptOf h [] cs) s m));
       agreed = λ i. from 0 (agreements i (keptOf h [] cs)) (λ v a. v ≤ agreedVersion (keptOf h [] ds) i) zero-le
           (λ s m. far _ (agreements-from i (keptOf h [] cs) s m));

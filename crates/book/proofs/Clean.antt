@@ -9,7 +9,8 @@ use Rattle.rules.specs.declared.Head.{Head}
 use Rattle.book.specs.Arguments.{Call}
 use Rattle.book.specs.Cells.{slotFault, dayFault, numberFault, readFault, agreedFault}
 use Rattle.book.specs.Contents.{Measured, DialRead}
-use Rattle.book.specs.Plain.{Said, deliveries, keptReads, agreements, named, slotVersion, slotContent, readVersion, readContent, agreedVersion, agreedContent}
+use Rattle.book.specs.Plain.{Said, deliveries, keptReads, agreements, named, slotVersion, slotContent, readVersion, readContent}
+use Rattle.book.specs.Plain.{agreedVersion, agreedContent}
 use Rattle.book.proofs.Said.{from}
 use Rattle.book.proofs.Members.{deliveredAs, readAs, agreedAs, deliveries-from, reads-from, agreements-from}
 use Rattle.book.proofs.Kept.{Kept, Sound, kept-sound}
@@ -47,7 +48,10 @@ module _ (h : Head) (kept : List Call) (ok : Kept h kept) (i : ℕ) where
     where
       one : (s : Said DialRead) → Sound h (readAs i s) → readFault (s .version) (s .content .reading) (s .content .width) ≡ false
       one s fine =
-          rw (clean-number 99_999_999 (s .version) (s .content .reading) (fine .1) (fine .2), clean-number 9999 (s .version) (s .content .width) (fine .1) (fine .3))
+          rw (
+            clean-number 99_999_999 (s .version) (s .content .reading) (fine .1) (fine .2),
+            clean-number 9999 (s .version) (s .content .width) (fine .1) (fine .3),
+          )
 
   pub agreed-clean : agreedFault (agreedVersion kept i) (agreedContent kept i) ≡ false
   unfolding numberFault

@@ -1,4 +1,5 @@
--- The counts of delivered slots (02, W6): one more accepted delivery changes them as `countsWith` says, and no first delivery finds its day full.
+-- The counts of delivered slots (02, W6): one more accepted delivery changes them as `countsWith` says, and no first delivery finds its
+-- day full.
 use mathlib.Core.Bool.{Bool, true, false, cond, _&&_}
 use mathlib.Core.List.{List, [], _∷_}
 use mathlib.Core.Logic.{⊎-elim}
@@ -161,7 +162,8 @@ module _ (h : Head) (kept : List Call) (slot version value status : ℕ) where
       (step (record { value = 0; status = 0 }) (record { version = version; content = record { value = value; status = status } })
       (deliveries slot kept) (eqb (slotContent kept slot .value) value && eqb (slotContent kept slot .status) status)
       (same-measured (slotContent kept slot) value status) found
-      (ruled (slotVersion kept slot) version (eqb (slotContent kept slot .value) value && eqb (slotContent kept slot .status) status)) ok (λ v a. one v))
+      (ruled (slotVersion kept slot) version (eqb (slotContent kept slot .value) value && eqb (slotContent kept slot .status) status)) ok
+      (λ v a. one v))
 
   this-day : 0 < slotsPerDay h → 0 < version → isAccepted found ≡ true → deliveredOn h more (slot / slotsPerDay h)
       ≡ cond (isStored found)

@@ -11,14 +11,16 @@ use Rattle.book.specs.Answers.{Answer}
 use Rattle.book.specs.Arguments.{callMeant}
 use Rattle.book.specs.Cells.{Book, readsOf, withSlots, withHolidays, withReads, withAgreed}
 use Rattle.book.specs.Lent.{readLists}
-use Rattle.book.specs.Filling.{deliverAnswer, deliverAfter, countsAfter, holidayAnswer, holidayAfter, registerAnswer, registerAfter, agreeAnswer, agreeAfter, answer, after}
+use Rattle.book.specs.Filling.{deliverAnswer, deliverAfter, countsAfter, holidayAnswer, holidayAfter, registerAnswer, registerAfter}
+use Rattle.book.specs.Filling.{agreeAnswer, agreeAfter, answer, after}
 
 -- the lists of a book
 abbrev pub book : Cells → List ℕ → Book
 book b counts = record { cells = b; counts = counts }
 
 module _ (h : Head) (b : Cells) (counts : List ℕ) (call : Call) (a : Answer) where
-  pub delivered : (slot version value status : ℕ) (values versions statuses after-counts : List ℕ) → call ≡ Delivery slot version value status
+  pub delivered : (slot version value status : ℕ) (values versions statuses after-counts : List ℕ)
+      → call ≡ Delivery slot version value status
       → a ≡ deliverAnswer h (b .slots) counts slot version value status
       → slots values versions statuses ≡ deliverAfter h (b .slots) counts slot version value status
       → after-counts ≡ countsAfter h (b .slots) counts slot version value status

@@ -1,3 +1,4 @@
+pub mod Passed
 pub mod Tables
 pub mod Said
 pub mod Kept

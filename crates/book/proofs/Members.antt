@@ -92,7 +92,8 @@ deliveries-of i (delivery slot version value status ∷ kept) s m =
 deliveries-of i (holiday day ∷ kept) s m = deliveries-of i kept s (other-call (λ e. let z : _≡_ {A = ℕ} 0 1 = cc in omega arith) m)
 deliveries-of i (register boundary version reading width ∷ kept) s m =
     deliveries-of i kept s (other-call (λ e. let z : _≡_ {A = ℕ} 0 1 = cc in omega arith) m)
-deliveries-of i (agreed slot version value ∷ kept) s m = deliveries-of i kept s (other-call (λ e. let z : _≡_ {A = ℕ} 0 1 = cc in omega arith) m)
+deliveries-of i (agreed slot version value ∷ kept) s m =
+    deliveries-of i kept s (other-call (λ e. let z : _≡_ {A = ℕ} 0 1 = cc in omega arith) m)
 
 pub reads-of : (d : ℕ) (kept : List Call) (s : Said DialRead) → List·Memᴰ (readAs d s) kept → List·Memᴰ s (keptReads d kept)
 unfolding keptReads

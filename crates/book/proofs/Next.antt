@@ -15,9 +15,11 @@ use Rattle.book.specs.Answers.Answer.{done, stored, late, repeat, refuse
 use Rattle.book.specs.Arguments.{Call}
 use Rattle.book.specs.Arguments.Call.{delivery, holiday, register, agreed}
 use Rattle.book.specs.Cells.{Book, withSlots, withHolidays, withReads, withAgreed}
-use Rattle.book.specs.Filling.{storedIn, slotsWith, countsWith, deliverAfter, countsAfter, holidayAfter, registerAfter, agreeAfter, answer, after}
+use Rattle.book.specs.Filling.{storedIn, slotsWith, countsWith, deliverAfter, countsAfter, holidayAfter, registerAfter, agreeAfter}
+use Rattle.book.specs.Filling.{answer, after}
 use Rattle.book.specs.Contents.{Measured, DialRead}
-use Rattle.book.specs.Plain.{Said, deliveries, keptReads, agreements, named, highest, slotVersion, slotContent, readVersion, readContent, againstKept, bookOf}
+use Rattle.book.specs.Plain.{Said, deliveries, keptReads, agreements, named, highest, slotVersion, slotContent, readVersion}
+use Rattle.book.specs.Plain.{readContent, againstKept, bookOf}
 use Rattle.book.specs.Lent.{readLists}
 use Rattle.book.proofs.Tables.{upTo-filed}
 use Rattle.book.proofs.Said.{latest, said-filed}
@@ -83,12 +85,15 @@ module _ (h : Head) (kept : List Call) (slot version value status : ℕ) where
   sameSlot = eqb (slotContent kept slot .value) value && eqb (slotContent kept slot .status) status
 
   slots-next : isAccepted (byVersion (slotVersion kept slot) version sameSlot) ≡ true → (m : ℕ → Measured → ℕ)
-      → upTo (λ i. m (slotVersion (delivery slot version value status ∷ kept) i) (slotContent (delivery slot version value status ∷ kept) i)) 0 (slotCount h)
-      ≡ storedIn (byVersion (slotVersion kept slot) version sameSlot) (upTo (λ i. m (slotVersion kept i) (slotContent kept i)) 0 (slotCount h))
+      → upTo (λ i. m (slotVersion (delivery slot version value status ∷ kept) i)
+      (slotContent (delivery slot version value status ∷ kept) i)) 0 (slotCount h)
+      ≡ storedIn (byVersion (slotVersion kept slot) version sameSlot)
+      (upTo (λ i. m (slotVersion kept i) (slotContent kept i)) 0 (slotCount h))
       slot (m version (record { value = value; status = status }))
   unfolding deliveries sameSlot
   slots-next ok m =
-      said-filed (record { value = 0; status = 0 }) (λ i. deliveries i kept) (λ i. deliveries i (delivery slot version value status ∷ kept)) slot
+      said-filed (record { value = 0; status = 0 }) (λ i. deliveries i kept) (λ i. deliveries i (delivery slot version value status ∷ kept))
+      slot
       (record { version = version; content = record { value = value; status = status } }) sameSlot
       (same-measured (slotContent kept slot) value status) ok (rw (eq-eqb slot slot refl)) (λ i ne. rw (ne-eqb slot i ne)) m (slotCount h)
 
@@ -98,14 +103,18 @@ module _ (h : Head) (kept : List Call) (boundary version reading width : ℕ) wh
   sameRead = eqb (readContent kept boundary .reading) reading && eqb (readContent kept boundary .width) width
 
   reads-next : isAccepted (byVersion (readVersion kept boundary) version sameRead) ≡ true → (m : ℕ → DialRead → ℕ)
-      → upTo (λ d. m (readVersion (register boundary version reading width ∷ kept) d) (readContent (register boundary version reading width ∷ kept) d)) 0 (suc (h .days))
-      ≡ storedIn (byVersion (readVersion kept boundary) version sameRead) (upTo (λ d. m (readVersion kept d) (readContent kept d)) 0 (suc (h .days)))
+      → upTo (λ d. m (readVersion (register boundary version reading width ∷ kept) d)
+      (readContent (register boundary version reading width ∷ kept) d)) 0 (suc (h .days))
+      ≡ storedIn (byVersion (readVersion kept boundary) version sameRead)
+      (upTo (λ d. m (readVersion kept d) (readContent kept d)) 0 (suc (h .days)))
       boundary (m version (record { reading = reading; width = width }))
   unfolding keptReads sameRead
   reads-next ok m =
-      said-filed (record { reading = 0; width = 0 }) (λ d. keptReads d kept) (λ d. keptReads d (register boundary version reading width ∷ kept)) boundary
+      said-filed (record { reading = 0; width = 0 }) (λ d. keptReads d kept)
+      (λ d. keptReads d (register boundary version reading width ∷ kept)) boundary
       (record { version = version; content = record { reading = reading; width = width } }) sameRead
-      (same-read (readContent kept boundary) reading width) ok (rw (eq-eqb boundary boundary refl)) (λ d ne. rw (ne-eqb boundary d ne)) m (suc (h .days))
+      (same-read (readContent kept boundary) reading width) ok (rw (eq-eqb boundary boundary refl)) (λ d ne. rw (ne-eqb boundary d ne)) m
+      (suc (h .days))
 
 -- the list of holidays, when one holiday more is kept
 days-next : (h : Head) (kept : List Call) (day : ℕ)
@@ -164,7 +173,8 @@ book-next h kept (register boundary version reading width) ok =
     }
 book-next h kept (agreed slot version value) ok =
     let column =
-    numbers-next (λ i. agreements i kept) (λ i. agreements i (agreed slot version value ∷ kept)) slot (record { version = version; content = value })
+    numbers-next (λ i. agreements i kept) (λ i. agreements i (agreed slot version value ∷ kept)) slot
+    (record { version = version; content = value })
     (slotCount h) ok (rw (eq-eqb slot slot refl)) (λ i ne. rw (ne-eqb slot i ne)) in
     λ t. record {
       slots = bookOf h kept .slots;

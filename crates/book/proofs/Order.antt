@@ -11,11 +11,13 @@ use Rattle.book.specs.Answers.{isAccepted, byVersion}
 use Rattle.book.specs.Arguments.{Call}
 use Rattle.book.specs.Arguments.Call.{delivery, holiday, register, agreed}
 use Rattle.book.specs.Contents.{Measured, DialRead}
-use Rattle.book.specs.Plain.{Said, deliveries, keptReads, agreements, named, highest, slotVersion, slotContent, readVersion, readContent, agreedVersion, agreedContent, againstKept, plainAnswer, keptOf, bookOf}
+use Rattle.book.specs.Plain.{Said, deliveries, keptReads, agreements, named, highest, slotVersion, slotContent, readVersion}
+use Rattle.book.specs.Plain.{readContent, agreedVersion, agreedContent, againstKept, plainAnswer, keptOf, bookOf}
 use Rattle.book.proofs.Tables.{upTo-same}
 use Rattle.book.proofs.Said.{latest, AllFair, fair-next, ruled, ruled-same, same-said, highest-within}
 use Rattle.book.proofs.Kept.{Kept, accepted, keptOf-kept}
-use Rattle.book.proofs.Members.{deliveries-from, deliveries-of, reads-from, reads-of, agreements-from, agreements-of, named-from, named-of}
+use Rattle.book.proofs.Members.{deliveries-from, deliveries-of, reads-from, reads-of, agreements-from, agreements-of, named-from}
+use Rattle.book.proofs.Members.{named-of}
 use Rattle.book.proofs.Next.{same-measured, same-read}
 
 -- where an accepted call may be in front: with the content before, where it has the highest version before
@@ -26,21 +28,31 @@ fair-if zeros true s ss here fair = fair-next zeros s ss (here refl .0) (here re
 fair-if zeros false s ss here fair = fair
 
 -- a kept delivery has the content before, where it has the highest version before; so have a register read and an agreed call
-delivery-fair : (h : Head) (kept : List Call) (slot version value status : ℕ) → isAccepted (plainAnswer h kept (delivery slot version value status)) ≡ true
-    → (0 < version) × (version ≡ slotVersion kept slot → _≡_ {A = Measured} (record { value = value; status = status }) (slotContent kept slot))
+delivery-fair : (h : Head) (kept : List Call) (slot version value status : ℕ)
+    → isAccepted (plainAnswer h kept (delivery slot version value status)) ≡ true
+    → (0 < version) × (version ≡ slotVersion kept slot
+    → _≡_ {A = Measured} (record { value = value; status = status }) (slotContent kept slot))
 unfolding againstKept
 delivery-fair h kept slot version value status ok =
     let (same, fine) = accepted h kept (delivery slot version value status) ok in
-    let test = eqb (slotContent kept slot .value) value && eqb (slotContent kept slot .status) status in
-    (fine .1, λ e. same-measured (slotContent kept slot) value status (ruled-same (ruled (slotVersion kept slot) version test) (ap isAccepted (sym same) ∙ ok) e))
+    let test = eqb (slotContent kept slot .value) value && eqb (slotContent kept slot .status) status in (
+      fine .1,
+      λ e. same-measured (slotContent kept slot) value status
+          (ruled-same (ruled (slotVersion kept slot) version test) (ap isAccepted (sym same) ∙ ok) e),
+    )
 
-read-fair : (h : Head) (kept : List Call) (boundary version reading width : ℕ) → isAccepted (plainAnswer h kept (register boundary version reading width)) ≡ true
-    → (0 < version) × (version ≡ readVersion kept boundary → _≡_ {A = DialRead} (record { reading = reading; width = width }) (readContent kept boundary))
+read-fair : (h : Head) (kept : List Call) (boundary version reading width : ℕ)
+    → isAccepted (plainAnswer h kept (register boundary version reading width)) ≡ true
+    → (0 < version) × (version ≡ readVersion kept boundary
+    → _≡_ {A = DialRead} (record { reading = reading; width = width }) (readContent kept boundary))
 unfolding againstKept
 read-fair h kept boundary version reading width ok =
     let (same, fine) = accepted h kept (register boundary version reading width) ok in
-    let test = eqb (readContent kept boundary .reading) reading && eqb (readContent kept boundary .width) width in
-    (fine .1, λ e. same-read (readContent kept boundary) reading width (ruled-same (ruled (readVersion kept boundary) version test) (ap isAccepted (sym same) ∙ ok) e))
+    let test = eqb (readContent kept boundary .reading) reading && eqb (readContent kept boundary .width) width in (
+      fine .1,
+      λ e. same-read (readContent kept boundary) reading width
+          (ruled-same (ruled (readVersion kept boundary) version test) (ap isAccepted (sym same) ∙ ok) e),
+    )
 
 number-before : (before version content number : ℕ) → isAccepted (byVersion before version (eqb content number)) ≡ true
     → version ≡ before → number ≡ content
@@ -58,7 +70,8 @@ fair-deliveries : (h : Head) (i : ℕ) (kept : List Call) → Kept h kept → Al
 unfolding deliveries
 fair-deliveries h i [] ok = λ s m. absurd (List·Memᴰ·not-nil m)
 fair-deliveries h i (delivery slot version value status ∷ kept) ok =
-    fair-if (record { value = 0; status = 0 }) (eqb slot i) (record { version = version; content = record { value = value; status = status } })
+    fair-if (record { value = 0; status = 0 }) (eqb slot i)
+    (record { version = version; content = record { value = value; status = status } })
     (deliveries i kept) (λ e. rw (sym (eqb-true slot i e)) (delivery-fair h kept slot version value status (ok .0)))
     (fair-deliveries h i kept (ok .1))
 fair-deliveries h i (holiday day ∷ kept) ok = fair-deliveries h i kept (ok .1)
@@ -72,7 +85,8 @@ fair-reads h d [] ok = λ s m. absurd (List·Memᴰ·not-nil m)
 fair-reads h d (delivery slot version value status ∷ kept) ok = fair-reads h d kept (ok .1)
 fair-reads h d (holiday day ∷ kept) ok = fair-reads h d kept (ok .1)
 fair-reads h d (register boundary version reading width ∷ kept) ok =
-    fair-if (record { reading = 0; width = 0 }) (eqb boundary d) (record { version = version; content = record { reading = reading; width = width } })
+    fair-if (record { reading = 0; width = 0 }) (eqb boundary d)
+    (record { version = version; content = record { reading = reading; width = width } })
     (keptReads d kept) (λ e. rw (sym (eqb-true boundary d e)) (read-fair h kept boundary version reading width (ok .0)))
     (fair-reads h d kept (ok .1))
 fair-reads h d (agreed slot version value ∷ kept) ok = fair-reads h d kept (ok .1)

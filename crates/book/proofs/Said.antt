@@ -39,7 +39,8 @@ ruled before version same = go (ltb before version) (ltb version before) same re
     go false false false e d q = conflict
 
 -- an accepted call with the version before has the content before
-pub ruled-same : {before version : ℕ} {same : Bool} {a : Answer} → Ruled before version same a → isAccepted a ≡ true → version ≡ before → same ≡ true
+pub ruled-same : {before version : ℕ} {same : Bool} {a : Answer} → Ruled before version same a → isAccepted a ≡ true → version ≡ before
+    → same ≡ true
 ruled-same (above lt) ok e = absurd (omega arith)
 ruled-same (below lt) ok e = absurd (omega arith)
 ruled-same (equal d q) ok e = q
@@ -83,7 +84,8 @@ module _ {A : Type 0} (zeros : A) where
   -- an accepted call leaves what the answer says: its version and content, or those before
   pub step : (s : Said A) (ss : List (Said A)) (same : Bool) → (same ≡ true → s .content ≡ latest zeros ss)
       → (a : Answer) → Ruled (highest ss) (s .version) same a → isAccepted a ≡ true
-      → (m : ℕ → A → ℕ) → m (highest (s ∷ ss)) (latest zeros (s ∷ ss)) ≡ cond (isStored a) (m (s .version) (s .content)) (m (highest ss) (latest zeros ss))
+      → (m : ℕ → A → ℕ) → m (highest (s ∷ ss)) (latest zeros (s ∷ ss))
+      ≡ cond (isStored a) (m (s .version) (s .content)) (m (highest ss) (latest zeros ss))
   step s ss same alike stored (above lt) ok m =
       newest s ss (λ v a. m v a ≡ m (s .version) (s .content)) (le-of-lt lt) refl
   step s ss same alike late (below lt) ok m = older s ss (λ v a. m v a ≡ m (highest ss) (latest zeros ss)) lt refl
@@ -96,7 +98,8 @@ module _ {A : Type 0} (zeros : A) where
       → isAccepted (byVersion (highest (of j)) (s .version) same) ≡ true
       → next j ≡ s ∷ of j → ((i : ℕ) → (j ≡ i → ⊥) → next i ≡ of i) → (m : ℕ → A → ℕ) (n : ℕ)
       → upTo (λ i. m (highest (next i)) (latest zeros (next i))) 0 n
-      ≡ storedIn (byVersion (highest (of j)) (s .version) same) (upTo (λ i. m (highest (of i)) (latest zeros (of i))) 0 n) j (m (s .version) (s .content))
+      ≡ storedIn (byVersion (highest (of j)) (s .version) same) (upTo (λ i. m (highest (of i)) (latest zeros (of i))) 0 n) j
+      (m (s .version) (s .content))
   said-filed of next j s same alike ok here there m n =
       let a = byVersion (highest (of j)) (s .version) same in
       upTo-filed (λ i. m (highest (of i)) (latest zeros (of i))) (λ i. m (highest (next i)) (latest zeros (next i))) n j

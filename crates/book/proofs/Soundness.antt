@@ -50,10 +50,15 @@ module _ (h : Head) (kept : List Call) (ok : Kept h kept) where
   cells-ok = rw (slots-clean, days-clean, reads-clean, agreements-clean)
 
 -- each count is the number of delivered slots in its day
-count-right : (h : Head) (kept : List Call) (d : ℕ) → d < h .days → countFaultAt h (bookOf h kept .slots .versions) (countsOf h kept) d ≡ false
+count-right : (h : Head) (kept : List Call) (d : ℕ) → d < h .days
+    → countFaultAt h (bookOf h kept .slots .versions) (countsOf h kept) d ≡ false
 unfolding countsOf
 count-right h kept d lt =
-    rw (upTo-at (deliveredOn h kept) 0 (h .days) d lt, delivered-on h kept d (day-within h d lt), eq-eqb (deliveredOn h kept d) (deliveredOn h kept d) refl)
+    rw (
+      upTo-at (deliveredOn h kept) 0 (h .days) d lt,
+      delivered-on h kept d (day-within h d lt),
+      eq-eqb (deliveredOn h kept d) (deliveredOn h kept d) refl,
+    )
 
 counts-right : (h : Head) (kept : List Call) → any (countFaultAt h (bookOf h kept .slots .versions) (countsOf h kept)) 0 (h .days) ≡ false
 counts-right h kept =

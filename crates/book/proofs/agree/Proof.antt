@@ -13,6 +13,16 @@ use Rattle.book.proofs.OneNumber.{agree-number}
 use Rattle.book.proofs.agree.Statement.{statement}
 use Rattle.book.proofs.agree.Tie as tie
 
+-- ---- Places
+
+abbrev start : tie.After-agreed-fit → tie.Start
+start c = c .before .before .before .before .before
+
+abbrev after-file-number : tie.After-agreed-versions → tie.After-file-number
+after-file-number c = c .before .before .before
+
+-- ---- Needs
+
 head-ok-requires : tie.Need-head-ok-requires
 head-ok-requires c κs = search needs
 
@@ -26,9 +36,10 @@ agreed-fit-requires c κs = sym (c .before .head-ok .ensures) ∙ not-false _ (c
 returns-2 : tie.Need-returns-2
 unfolding agreeAnswer agreeAfter agreedFits
 returns-2 c =
-    let a = c .before .before .before .before .before .before .args in
+    let a = start (c .before) .args in
     let ok : headOk (a .head) ≡ true = sym (c .before .before .before .head-ok .ensures) ∙ not-false _ (c .before .before .if1 .left) in
-    let unfit : agreedFits (a .head) (lentAgreed (a .agreed) (a .agreed-versions)) ≡ false = sym (c .before .agreed-fit .ensures) ∙ not-true _ (c .if2 .taken) in
+    let unfit : agreedFits (a .head) (lentAgreed (a .agreed) (a .agreed-versions)) ≡ false = sym (c .before .agreed-fit .ensures)
+    ∙ not-true _ (c .if2 .taken) in
     rw (ok, unfit) (refl, refl)
 
 file-number-requires : tie.Need-file-number-requires
@@ -45,11 +56,12 @@ same-length-2 c = search needs
 returns-3 : tie.Need-returns-3
 unfolding agreeAfter numberAfter agreedFits
 returns-3 c =
-    let b = c .before .before .before .before .before .before .before in
-    let a = b .before .before .before .before .before .before .args in
+    let b = after-file-number (c .before) .before .before .before in
+    let a = start (b .before) .args in
     let ok : headOk (a .head) ≡ true = sym (b .before .before .before .head-ok .ensures) ∙ not-false _ (b .before .before .if1 .left) in
-    let fit : agreedFits (a .head) (lentAgreed (a .agreed) (a .agreed-versions)) ≡ true = sym (b .before .agreed-fit .ensures) ∙ not-false _ (b .if2 .left) in
-    let e = c .before .before .before .before .file-number .ensures in
+    let fit : agreedFits (a .head) (lentAgreed (a .agreed) (a .agreed-versions)) ≡ true = sym (b .before .agreed-fit .ensures)
+    ∙ not-false _ (b .if2 .left) in
+    let e = after-file-number (c .before) .file-number .ensures in
     rw (agree-number (a .head) ok (lentAgreed (a .agreed) (a .agreed-versions)) (a .slot) (a .version) (a .value) fit) e
 
 pub agree-spec : {M : Type 1} → statement M

@@ -10,8 +10,6 @@ use Rattle.base.specs.Refusals.{unless}
 use Rattle.base.proofs.Logic.{and-parts}
 use Rattle.rules.specs.Opening.{headOk, slotCount, Slots}
 use Rattle.rules.specs.Lent.{lentSlots}
-use Rattle.rules.proofs.opening.head_ok.Reads as head-ok-reads
-use Rattle.rules.proofs.opening.slot_count.Reads as slot-count-reads
 use Rattle.book.specs.Answers.{Answer}
 use Rattle.book.specs.Answers.Answer.{refused}
 use Rattle.book.specs.Arguments.{argumentRules}
@@ -20,36 +18,29 @@ use Rattle.book.specs.Cells.{slotsFit, countsFit}
 use Rattle.book.specs.Filling.{inputRules, againstDelivery, deliverAnswer, deliverAfter, countsAfter}
 use Rattle.book.specs.Inner.Lent.{Deliverable}
 use Rattle.book.proofs.Fits.{long}
-use Rattle.book.proofs.lengths.delivery_fits.Reads as delivery-fits-reads
-use Rattle.book.proofs.deliveries.file_delivery.Reads as file-delivery-reads
-use Rattle.book.proofs.deliver.Reads as reads
-use Rattle.book.proofs.deliver.Lts as lts
 use Rattle.book.proofs.deliver.Statement.{statement}
 use Rattle.book.proofs.deliver.Tie as tie
 
-abbrev claims : lts.Claims
-claims = (
-  head-ok-reads.Asked,
-  head-ok-reads.Learnt,
-  delivery-fits-reads.Asked,
-  delivery-fits-reads.Learnt,
-  slot-count-reads.Asked,
-  slot-count-reads.Learnt,
-  file-delivery-reads.Asked,
-  file-delivery-reads.Learnt,
-)
+-- ---- Places
 
-abbrev Start : Type 0
-Start = lts.Start claims reads.Pre reads.Post
+abbrev passed1 : tie.Else3 → tie.Else1
+passed1 c = c .before .before .before .before
 
-abbrev lent : Start → Slots
+abbrev passed5 : tie.After-file-delivery-arg4 → tie.Else5
+passed5 c = c .before .before .before .before
+
+abbrev after-file-delivery : tie.After-counts → tie.After-file-delivery
+after-file-delivery c = c .before .before .before .before .before .before .before
+
+abbrev lent : tie.Start → Slots
 lent c = lentSlots (c .args .values) (c .args .versions) (c .args .statuses)
 
 -- the answer, and what is left of it past the first k rules
-abbrev whole : Start → Answer
-whole c = deliverAnswer (c .args .head) (lent c) (c .args .counts .now) (c .args .slot) (c .args .version) (c .args .value) (c .args .status)
+abbrev whole : tie.Start → Answer
+whole c =
+    deliverAnswer (c .args .head) (lent c) (c .args .counts .now) (c .args .slot) (c .args .version) (c .args .value) (c .args .status)
 
-abbrev past : ℕ → Start → Answer
+abbrev past : ℕ → tie.Start → Answer
 past k c =
     unless refused
     (drop k
@@ -59,70 +50,61 @@ past k c =
 
 -- ---- The tests that were passed
 
-abbrev Past1 : Type 0
-Past1 = lts.Else1 claims reads.Pre reads.Post
-
-abbrev Past2 : Type 0
-Past2 = lts.Else2 claims reads.Pre reads.Post
-
-abbrev Past3 : Type 0
-Past3 = lts.Else3 claims reads.Pre reads.Post
-
-abbrev Past5 : Type 0
-Past5 = lts.Else5 claims reads.Pre reads.Post
-
-abbrev from1 : Past1 → Start
+abbrev from1 : tie.Else1 → tie.Start
 from1 c = c .before .before .before .before .before .before
 
-abbrev from2 : Past2 → Start
+abbrev from2 : tie.Else2 → tie.Start
 from2 c = from1 (c .before .before)
 
-abbrev from3 : Past3 → Start
+abbrev from3 : tie.Else3 → tie.Start
 from3 c = from2 (c .before .before)
 
-head-passed : (c : Past1) → headOk (from1 c .args .head) ≡ true
+head-passed : (c : tie.Else1) → headOk (from1 c .args .head) ≡ true
 head-passed c = sym (c .before .head-ok .ensures) ∙ not-false _ (c .if1 .left)
 
-past-1 : (c : Past1) → whole (from1 c) ≡ past 1 (from1 c)
+past-1 : (c : tie.Else1) → whole (from1 c) ≡ past 1 (from1 c)
 unfolding deliverAnswer
 past-1 c = rw (head-passed c)
 
-fit-found : (c : lts.After-delivery-fits claims reads.Pre reads.Post)
-    → (slotsFit (from1 (c .before) .args .head) (lent (from1 (c .before))) && countsFit (from1 (c .before) .args .head) (from1 (c .before) .args .counts .now))
+fit-found : (c : tie.After-delivery-fits)
+    → (slotsFit (from1 (c .before) .args .head) (lent (from1 (c .before)))
+    && countsFit (from1 (c .before) .args .head) (from1 (c .before) .args .counts .now))
     ≡ c .delivery-fits .result
 unfolding slotsFit countsFit
 fit-found c = sym (c .delivery-fits .ensures)
 
-past-2 : (c : Past2) → whole (from2 c) ≡ past 2 (from2 c)
+past-2 : (c : tie.Else2) → whole (from2 c) ≡ past 2 (from2 c)
 past-2 c = past-1 (c .before .before) ∙ rw (fit-found (c .before) ∙ not-false _ (c .if2 .left))
 
-under : (c : Past3) → from3 c .args .slot < slotCount (from3 c .args .head)
+under : (c : tie.Else3) → from3 c .args .slot < slotCount (from3 c .args .head)
 under c = omega (arith, c .before .slot-count .ensures, c .if3 .left)
 
-past-3 : (c : Past3) → whole (from3 c) ≡ past 3 (from3 c)
+past-3 : (c : tie.Else3) → whole (from3 c) ≡ past 3 (from3 c)
 unfolding argumentRules
 past-3 c = past-2 (c .before .before) ∙ rw (lt-leb _ _ (under c))
 
-past-4 : (c : lts.Else4 claims reads.Pre reads.Post) → whole (from3 (c .before)) ≡ past 4 (from3 (c .before))
+past-4 : (c : tie.Else4) → whole (from3 (c .before)) ≡ past 4 (from3 (c .before))
 unfolding argumentRules
 past-4 c = past-3 (c .before) ∙ rw (ne-eqb _ _ (c .if4 .left))
 
-past-5 : (c : Past5)
+past-5 : (c : tie.Else5)
     → whole (from3 (c .before .before))
-    ≡ againstDelivery (from3 (c .before .before) .args .head) (lent (from3 (c .before .before))) (from3 (c .before .before) .args .counts .now)
-    (from3 (c .before .before) .args .slot) (from3 (c .before .before) .args .version) (from3 (c .before .before) .args .value) (from3 (c .before .before) .args .status)
+    ≡ againstDelivery (from3 (c .before .before) .args .head) (lent (from3 (c .before .before)))
+    (from3 (c .before .before) .args .counts .now)
+    (from3 (c .before .before) .args .slot) (from3 (c .before .before) .args .version) (from3 (c .before .before) .args .value)
+    (from3 (c .before .before) .args .status)
 unfolding argumentRules
 past-5 c =
     let small : from3 (c .before .before) .args .status ≤ 7 = omega (arith, c .if5 .left) in
     past-4 (c .before) ∙ rw (le-ltb _ _ small)
 
 -- what `file_delivery` asks
-deliverable : (c : Past3) → Deliverable (from3 c .args .head) (lent (from3 c)) (from3 c .args .counts .now) (from3 c .args .slot)
+deliverable : (c : tie.Else3) → Deliverable (from3 c .args .head) (lent (from3 c)) (from3 c .args .counts .now) (from3 c .args .slot)
 deliverable c =
     let parts = and-parts _ _ (sym (c .before .before .before .delivery-fits .ensures) ∙ not-false _ (c .before .before .if2 .left)) in
     let fits = long _ _ (parts .0) in
     record {
-      fitted = record { head = head-passed (c .before .before .before .before); values = fits 0; versions = fits 1; statuses = fits 2 };
+      fitted = record { head = head-passed (passed1 c); values = fits 0; versions = fits 1; statuses = fits 2 };
       counts = long _ _ (parts .1) 0;
       inside = under c;
     }
@@ -168,7 +150,7 @@ cast-file-delivery : tie.Need-cast-file-delivery
 cast-file-delivery c = search needs
 
 file-delivery-requires : tie.Need-file-delivery-requires
-file-delivery-requires c κs = deliverable (c .before .before .before .before .before .before)
+file-delivery-requires c κs = deliverable (passed5 c .before .before)
 
 same-length : tie.Need-same-length
 same-length c = search needs
@@ -185,8 +167,9 @@ same-length-4 c = search needs
 returns-6 : tie.Need-returns-6
 unfolding deliverAfter countsAfter
 returns-6 c =
-    let e = c .before .before .before .before .before .before .before .before .file-delivery .ensures in
-    rw (past-5 (c .before .before .before .before .before .before .before .before .before .before .before .before .before)) e
+    let at-file-delivery = after-file-delivery (c .before) in
+    let e = at-file-delivery .file-delivery .ensures in
+    rw (past-5 (passed5 (at-file-delivery .before))) e
 
 pub deliver-spec : {M : Type 1} → statement M
 deliver-spec =

@@ -9,7 +9,6 @@ use borrow.Author.Tests.{not-true, not-false, le-leb, lt-leb}
 use borrow.Author.Needs.{needs}
 use Rattle.base.specs.Refusals.{unless}
 use Rattle.rules.specs.Opening.{headOk}
-use Rattle.rules.proofs.opening.head_ok.Reads as head-ok-reads
 use Rattle.book.specs.Answers.{Answer, receivedMeant}
 use Rattle.book.specs.Answers.Answer.{refused}
 use Rattle.book.specs.Arguments.{argumentRules}
@@ -17,82 +16,58 @@ use Rattle.book.specs.Arguments.Call.{holiday}
 use Rattle.book.specs.Cells.{daysFit}
 use Rattle.book.specs.Filling.{inputRules, againstDay, holidayAnswer, holidayAfter}
 use Rattle.book.proofs.Fits.{long}
-use Rattle.book.proofs.lengths.days_fit.Reads as days-fit-reads
-use Rattle.book.proofs.filing.against_day.Reads as against-day-reads
-use Rattle.book.proofs.filing.is_stored.Reads as is-stored-reads
-use Rattle.book.proofs.holiday.Reads as reads
-use Rattle.book.proofs.holiday.Lts as lts
 use Rattle.book.proofs.holiday.Statement.{statement}
 use Rattle.book.proofs.holiday.Tie as tie
 
-abbrev claims : lts.Claims
-claims = (
-  head-ok-reads.Asked,
-  head-ok-reads.Learnt,
-  days-fit-reads.Asked,
-  days-fit-reads.Learnt,
-  against-day-reads.Asked,
-  against-day-reads.Learnt,
-  is-stored-reads.Asked,
-  is-stored-reads.Learnt,
-)
+-- ---- Places
 
-abbrev Start : Type 0
-Start = lts.Start claims reads.Pre reads.Post
+abbrev passed3 : tie.Then4 → tie.Else3
+passed3 c = c .before .before .before .before
 
-abbrev lent : Start → List ℕ
+abbrev lent : tie.Start → List ℕ
 lent c = c .args .holidays .now
 
 -- the answer, and what is left of it past the first k rules
-abbrev whole : Start → Answer
+abbrev whole : tie.Start → Answer
 whole c = holidayAnswer (c .args .head) (lent c) (c .args .day)
 
-abbrev past : ℕ → Start → Answer
+abbrev past : ℕ → tie.Start → Answer
 past k c =
     unless refused (drop k (inputRules (c .args .head) (daysFit (c .args .head) (lent c)) (holiday (c .args .day))))
     (againstDay (getD (lent c) (c .args .day) 0))
 
 -- ---- The tests that were passed
 
-abbrev Past1 : Type 0
-Past1 = lts.Else1 claims reads.Pre reads.Post
-
-abbrev Past2 : Type 0
-Past2 = lts.Else2 claims reads.Pre reads.Post
-
-abbrev Past3 : Type 0
-Past3 = lts.Else3 claims reads.Pre reads.Post
-
-abbrev from1 : Past1 → Start
+abbrev from1 : tie.Else1 → tie.Start
 from1 c = c .before .before .before
 
-abbrev from2 : Past2 → Start
+abbrev from2 : tie.Else2 → tie.Start
 from2 c = from1 (c .before .before)
 
-abbrev from3 : Past3 → Start
+abbrev from3 : tie.Else3 → tie.Start
 from3 c = from2 (c .before .before)
 
-past-1 : (c : Past1) → whole (from1 c) ≡ past 1 (from1 c)
+past-1 : (c : tie.Else1) → whole (from1 c) ≡ past 1 (from1 c)
 unfolding holidayAnswer
 past-1 c =
     let passed : headOk (from1 c .args .head) ≡ true = sym (c .before .head-ok .ensures) ∙ not-false _ (c .if1 .left) in
     rw passed
 
-fit-found : (c : lts.After-days-fit claims reads.Pre reads.Post) → daysFit (from1 (c .before) .args .head) (lent (from1 (c .before))) ≡ c .days-fit .result
+fit-found : (c : tie.After-days-fit) → daysFit (from1 (c .before) .args .head) (lent (from1 (c .before))) ≡ c .days-fit .result
 unfolding daysFit
 fit-found c = sym (c .days-fit .ensures)
 
-past-2 : (c : Past2) → whole (from2 c) ≡ past 2 (from2 c)
+past-2 : (c : tie.Else2) → whole (from2 c) ≡ past 2 (from2 c)
 past-2 c = past-1 (c .before .before) ∙ rw (fit-found (c .before) ∙ not-false _ (c .if2 .left))
 
-under : (c : Past3) → from3 c .args .day < from3 c .args .head .days
+under : (c : tie.Else3) → from3 c .args .day < from3 c .args .head .days
 under c = omega (arith, c .if3 .left)
 
-past-3 : (c : Past3) → whole (from3 c) ≡ past 3 (from3 c)
+past-3 : (c : tie.Else3) → whole (from3 c) ≡ past 3 (from3 c)
 unfolding argumentRules
 past-3 c = past-2 (c .before .before) ∙ rw (lt-leb _ _ (under c))
 
-inside : (c : Past3) → from3 c .args .day < length (lent (from3 c))
+inside : (c : tie.Else3) → from3 c .args .day < length (lent (from3 c))
 inside c =
     let fits = long _ _ (sym (c .before .before .before .days-fit .ensures) ∙ not-false _ (c .before .before .if2 .left)) in
     let less = under c in
@@ -130,13 +105,13 @@ is-stored-requires : tie.Need-is-stored-requires
 is-stored-requires c κs = search needs
 
 slice-write-holidays : tie.Need-slice-write-holidays
-slice-write-holidays c = omega (arith, inside (c .before .before .before .before))
+slice-write-holidays c = omega (arith, inside (passed3 c))
 
 same-length : tie.Need-same-length
 same-length c = search needs
 
 -- what `against_day` found is the answer
-found : (c : lts.After-against-day claims reads.Pre reads.Post) → whole (from3 (c .before .before)) ≡ receivedMeant (c .against-day .result)
+found : (c : tie.After-against-day) → whole (from3 (c .before .before)) ≡ receivedMeant (c .against-day .result)
 unfolding argumentRules
 found c = past-3 (c .before .before) ∙ sym (c .against-day .ensures)
 

@@ -13,6 +13,22 @@ use Rattle.book.proofs.OneNumber.{register-read}
 use Rattle.book.proofs.register.Statement.{statement}
 use Rattle.book.proofs.register.Tie as tie
 
+-- ---- Places
+
+abbrev start : tie.After-reads-fit → tie.Start
+start c = c .before .before .before .before .before .before
+
+abbrev passed2 : tie.After-file-register-arg3 → tie.Else2
+passed2 c = c .before .before .before
+
+abbrev passed2-file-register : tie.After-file-register → tie.Else2
+passed2-file-register c = passed2 (c .before)
+
+abbrev after-file-register : tie.After-widths → tie.After-file-register
+after-file-register c = c .before .before .before .before .before
+
+-- ---- Needs
+
 head-ok-requires : tie.Need-head-ok-requires
 head-ok-requires c κs = search needs
 
@@ -26,14 +42,15 @@ reads-fit-requires c κs = search needs
 returns-2 : tie.Need-returns-2
 unfolding registerAnswer registerAfter readsFit
 returns-2 c =
-    let a = c .before .before .before .before .before .before .before .args in
+    let a = start (c .before) .args in
     let ok : headOk (a .head) ≡ true = sym (c .before .before .before .head-ok .ensures) ∙ not-false _ (c .before .before .if1 .left) in
-    let unfit : readsFit (a .head) (lentReads (a .readings) (a .reads) (a .widths)) ≡ false = sym (c .before .reads-fit .ensures) ∙ not-true _ (c .if2 .taken) in
+    let unfit : readsFit (a .head) (lentReads (a .readings) (a .reads) (a .widths)) ≡ false = sym (c .before .reads-fit .ensures)
+    ∙ not-true _ (c .if2 .taken) in
     rw (ok, unfit) (refl, refl)
 
 file-register-requires : tie.Need-file-register-requires
 file-register-requires c κs =
-    let fits = long _ _ (sym (c .before .before .before .before .reads-fit .ensures) ∙ not-false _ (c .before .before .before .if2 .left)) in
+    let fits = long _ _ (sym (passed2 c .before .reads-fit .ensures) ∙ not-false _ (c .before .before .before .if2 .left)) in
     (fits 1 ∙ sym (fits 0), fits 2 ∙ sym (fits 0))
 
 same-length : tie.Need-same-length
@@ -48,12 +65,15 @@ same-length-3 c = search needs
 returns-3 : tie.Need-returns-3
 unfolding registerAfter readAfter readsFit
 returns-3 c =
-    let b = c .before .before .before .before .before .before .before .before .before .before in
-    let a = b .before .before .before .before .before .before .before .args in
+    let at-file-register = after-file-register (c .before) in
+    let b = passed2-file-register at-file-register in
+    let a = start (b .before) .args in
     let ok : headOk (a .head) ≡ true = sym (b .before .before .before .head-ok .ensures) ∙ not-false _ (b .before .before .if1 .left) in
-    let fit : readsFit (a .head) (lentReads (a .readings) (a .reads) (a .widths)) ≡ true = sym (b .before .reads-fit .ensures) ∙ not-false _ (b .if2 .left) in
-    let e = c .before .before .before .before .before .before .file-register .ensures in
-    rw (register-read (a .head) ok (lentReads (a .readings) (a .reads) (a .widths)) (a .boundary) (a .version) (a .reading) (a .width) fit) e
+    let fit : readsFit (a .head) (lentReads (a .readings) (a .reads) (a .widths)) ≡ true = sym (b .before .reads-fit .ensures)
+    ∙ not-false _ (b .if2 .left) in
+    let e = at-file-register .file-register .ensures in
+    rw (register-read (a .head) ok (lentReads (a .readings) (a .reads) (a .widths)) (a .boundary) (a .version) (a .reading) (a .width) fit)
+    e
 
 pub register-spec : {M : Type 1} → statement M
 register-spec =

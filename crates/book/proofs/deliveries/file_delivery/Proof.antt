@@ -1,4 +1,5 @@
--- `deliveries::file_delivery`: a full day is refused; else the answer is that of `against_slot`, and a stored delivery writes its cells and its day's count.
+-- `deliveries::file_delivery`: a full day is refused; else the answer is that of `against_slot`, and a stored delivery writes its cells
+-- and its day's count.
 use mathlib.Core.Bool.{true, false}
 use mathlib.Core.Path.{_≡_, refl, sym, _∙_}
 use Prim.Native.Nat.{_/_, _<_}
@@ -10,34 +11,32 @@ use Rattle.book.specs.Filling.{isFull, againstDelivery}
 use borrow.Author.Needs.{needs}
 use Rattle.book.proofs.deliveries.file_delivery.Statement.{statement}
 use Rattle.book.proofs.deliveries.file_delivery.Tie as tie
-use Rattle.book.proofs.deliveries.file_delivery.Reads as reads
-use Rattle.book.proofs.deliveries.file_delivery.Lts as lts
-use Rattle.book.proofs.deliveries.is_full.Reads as is-full-reads
-use Rattle.book.proofs.deliveries.raised.Reads as raised-reads
-use Rattle.book.proofs.filing.against_slot.Reads as against-slot-reads
-use Rattle.book.proofs.filing.is_stored.Reads as is-stored-reads
-use Rattle.book.proofs.deliveries.day_of.Reads as day-of-reads
 
-abbrev claims : lts.Claims
-claims = (
-  day-of-reads.Asked,
-  day-of-reads.Learnt,
-  is-full-reads.Asked,
-  is-full-reads.Learnt,
-  against-slot-reads.Asked,
-  against-slot-reads.Learnt,
-  is-stored-reads.Asked,
-  is-stored-reads.Learnt,
-  raised-reads.Asked,
-  raised-reads.Learnt,
-)
+-- ---- Places
+
+abbrev start : tie.After-day-of → tie.Start
+start c = c .before .before .before .before .before
+
+abbrev after-day-of : tie.After-is-full → tie.After-day-of
+after-day-of c = c .before .before .before
+
+abbrev passed1 : tie.After-is-stored → tie.Else1
+passed1 c = c .before .before .before .before
+
+abbrev start-is-stored : tie.After-is-stored → tie.Start
+start-is-stored c = start (c .before .before .before .before .before .before .before .before)
 
 -- the slot's day has a count
-day-inside : (c : lts.After-day-of claims reads.Pre reads.Post)
-    → c .day-of .result < length (c .before .before .before .before .before .args .counts .now)
+day-inside : (c : tie.After-day-of)
+    → c .day-of .result < length (start c .args .counts .now)
 day-inside c =
-    let s = c .before .before .before .before .before in
-    omega (arith, c .day-of .ensures, s .pre .counts, day-below (s .args .head) (bounded _ (s .pre .fitted .head)) (s .args .slot) (s .pre .inside))
+    let s = start c in
+    omega (
+      arith,
+      c .day-of .ensures,
+      s .pre .counts,
+      day-below (s .args .head) (bounded _ (s .pre .fitted .head)) (s .args .slot) (s .pre .inside),
+    )
 
 day-of-requires : tie.Need-day-of-requires
 day-of-requires c κs = search needs
@@ -59,8 +58,12 @@ is-full-requires c κs = search needs
 
 returns : tie.Need-returns
 unfolding againstDelivery
-returns c = let full : isFull (c .before .before .before .before .before .before .before .before .before .args .head) (getD (c .before .before .before .before .before .before .before .before .before .args .versions .now) (c .before .before .before .before .before .before .before .before .before .args .slot) 0) (getD (c .before .before .before .before .before .before .before .before .before .args .counts .now) (c .before .before .before .before .before .before .before .before .before .args .slot / slotsPerDay (c .before .before .before .before .before .before .before .before .before .args .head)) 0) ≡ true =
-    rw (c .before .before .before .before .day-of .ensures) at (sym (c .before .is-full .ensures) ∙ c .if1 .taken) in
+returns c =
+    let at-day-of = after-day-of (c .before) in
+    let begun = start at-day-of in
+    let full : isFull (begun .args .head) (getD (begun .args .versions .now) (begun .args .slot) 0)
+    (getD (begun .args .counts .now) (begun .args .slot / slotsPerDay (begun .args .head)) 0) ≡ true =
+    rw (at-day-of .day-of .ensures) at (sym (c .before .is-full .ensures) ∙ c .if1 .taken) in
     rw full (refl, refl, refl)
 
 slice-read-old-status : tie.Need-slice-read-old-status
@@ -94,13 +97,14 @@ slice-write-statuses : tie.Need-slice-write-statuses
 slice-write-statuses c = search needs
 
 raised-requires : tie.Need-raised-requires
-raised-requires c κs = (c .before .before .before .before .before .before .before .before .before .before .before .before .before .before .pre .fitted .head, sym (c .before .before .before .before .before .before .is-full .ensures) ∙ c .before .before .before .before .before .if1 .left)
+raised-requires c κs =
+    (start-is-stored (c .before) .pre .fitted .head, sym (passed1 (c .before) .before .is-full .ensures) ∙ passed1 (c .before) .if1 .left)
 
 mul-counts : tie.Need-mul-counts
-mul-counts c = let i = day-inside (c .before .before .before .before .before .before .before .before .before .before) in search needs
+mul-counts c = let i = day-inside (after-day-of (passed1 (c .before .before) .before)) in search needs
 
 slice-write-counts : tie.Need-slice-write-counts
-slice-write-counts c = day-inside (c .before .before .before .before .before .before .before .before .before .before)
+slice-write-counts c = day-inside (after-day-of (passed1 (c .before .before) .before))
 
 same-length : tie.Need-same-length
 same-length c = search needs
@@ -116,14 +120,28 @@ same-length-4 c = search needs
 
 returns-2 : tie.Need-returns-2
 unfolding againstDelivery
-returns-2 c = let full : isFull (c .before .before .before .before .before .before .before .before .before .before .before .before .before .before .before .args .head) (getD (c .before .before .before .before .before .before .before .before .before .before .before .before .before .before .before .args .versions .now) (c .before .before .before .before .before .before .before .before .before .before .before .before .before .before .before .args .slot) 0) (getD (c .before .before .before .before .before .before .before .before .before .before .before .before .before .before .before .args .counts .now) (c .before .before .before .before .before .before .before .before .before .before .before .before .before .before .before .args .slot / slotsPerDay (c .before .before .before .before .before .before .before .before .before .before .before .before .before .before .before .args .head)) 0) ≡ false =
-    rw (c .before .before .before .before .before .before .before .before .before .before .day-of .ensures) at (sym (c .before .before .before .before .before .before .before .is-full .ensures) ∙ c .before .before .before .before .before .before .if1 .left) in
-    rw (full, sym (c .before .before .before .against-slot .ensures), sym (c .before .before .is-stored .ensures) ∙ c .before .if2 .taken, c .raised .ensures, c .before .before .before .before .before .before .before .before .before .before .day-of .ensures) (refl, refl, refl)
+returns-2 c =
+    let begun = start-is-stored (c .before .before) in
+    let past1 = passed1 (c .before .before) in
+    let full : isFull (begun .args .head) (getD (begun .args .versions .now) (begun .args .slot) 0)
+    (getD (begun .args .counts .now) (begun .args .slot / slotsPerDay (begun .args .head)) 0) ≡ false =
+    simp (after-day-of (past1 .before) .day-of .ensures) at (sym (past1 .before .is-full .ensures) ∙ past1 .if1 .left) in
+    rw (
+      full,
+      sym (c .before .before .before .against-slot .ensures),
+      sym (c .before .before .is-stored .ensures) ∙ c .before .if2 .taken,
+      c .raised .ensures,
+      after-day-of (past1 .before) .day-of .ensures,
+    ) (refl, refl, refl)
 
 returns-3 : tie.Need-returns-3
 unfolding againstDelivery
-returns-3 c = let full : isFull (c .before .before .before .before .before .before .before .before .before .before .before .before .before .before .args .head) (getD (c .before .before .before .before .before .before .before .before .before .before .before .before .before .before .args .versions .now) (c .before .before .before .before .before .before .before .before .before .before .before .before .before .before .args .slot) 0) (getD (c .before .before .before .before .before .before .before .before .before .before .before .before .before .before .args .counts .now) (c .before .before .before .before .before .before .before .before .before .before .before .before .before .before .args .slot / slotsPerDay (c .before .before .before .before .before .before .before .before .before .before .before .before .before .before .args .head)) 0) ≡ false =
-    rw (c .before .before .before .before .before .before .before .before .before .day-of .ensures) at (sym (c .before .before .before .before .before .before .is-full .ensures) ∙ c .before .before .before .before .before .if1 .left) in
+returns-3 c =
+    let begun = start-is-stored (c .before) in
+    let past1 = passed1 (c .before) in
+    let full : isFull (begun .args .head) (getD (begun .args .versions .now) (begun .args .slot) 0)
+    (getD (begun .args .counts .now) (begun .args .slot / slotsPerDay (begun .args .head)) 0) ≡ false =
+    simp (after-day-of (past1 .before) .day-of .ensures) at (sym (past1 .before .is-full .ensures) ∙ past1 .if1 .left) in
     rw (full, sym (c .before .before .against-slot .ensures), sym (c .before .is-stored .ensures) ∙ c .if2 .left) (refl, refl, refl)
 
 pub file-delivery-spec : {M : Type 1} → statement M

@@ -24,7 +24,8 @@ returns-2 : tie.Need-returns-2
 unfolding againstAgreed
 returns-2 c =
     let a = c .before .before .before .args in
-    let clean : agreedFault (a .old-version) (a .old-value) ≡ false = sym (c .before .before .number-fault .ensures) ∙ c .before .if1 .left in
+    let clean : agreedFault (a .old-version) (a .old-value) ≡ false = sym (c .before .before .number-fault .ensures)
+    ∙ c .before .if1 .left in
     rw clean (c .by-version .ensures)
 
 pub against-agreed-spec : {M : Type 1} → statement M

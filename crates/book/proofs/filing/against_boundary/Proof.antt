@@ -7,6 +7,13 @@ use borrow.Author.Needs.{needs}
 use Rattle.book.proofs.filing.against_boundary.Statement.{statement}
 use Rattle.book.proofs.filing.against_boundary.Tie as tie
 
+-- ---- Places
+
+abbrev start : tie.After-by-version → tie.Start
+start c = c .before .before .before .before
+
+-- ---- Needs
+
 read-fault-requires : tie.Need-read-fault-requires
 read-fault-requires c κs = search needs
 
@@ -26,8 +33,9 @@ by-version-requires c κs = search needs
 returns-2 : tie.Need-returns-2
 unfolding againstBoundary
 returns-2 c =
-    let a = c .before .before .before .before .args in
-    let clean : readFault (a .old-version) (a .old-reading) (a .old-width) ≡ false = sym (c .before .before .before .read-fault .ensures) ∙ c .before .before .if1 .left in
+    let a = start c .args in
+    let clean : readFault (a .old-version) (a .old-reading) (a .old-width) ≡ false = sym (c .before .before .before .read-fault .ensures)
+    ∙ c .before .before .if1 .left in
     rw (clean, sym (c .before .is-same-read .ensures)) (c .by-version .ensures)
 
 pub against-boundary-spec : {M : Type 1} → statement M

@@ -7,6 +7,13 @@ use borrow.Author.Needs.{needs}
 use Rattle.book.proofs.filing.against_slot.Statement.{statement}
 use Rattle.book.proofs.filing.against_slot.Tie as tie
 
+-- ---- Places
+
+abbrev start : tie.After-by-version → tie.Start
+start c = c .before .before .before .before
+
+-- ---- Needs
+
 slot-fault-requires : tie.Need-slot-fault-requires
 slot-fault-requires c κs = search needs
 
@@ -26,8 +33,9 @@ by-version-requires c κs = search needs
 returns-2 : tie.Need-returns-2
 unfolding againstSlot
 returns-2 c =
-    let a = c .before .before .before .before .args in
-    let clean : slotFault (a .old-version) (a .old-value) (a .old-status) ≡ false = sym (c .before .before .before .slot-fault .ensures) ∙ c .before .before .if1 .left in
+    let a = start c .args in
+    let clean : slotFault (a .old-version) (a .old-value) (a .old-status) ≡ false = sym (c .before .before .before .slot-fault .ensures)
+    ∙ c .before .before .if1 .left in
     rw (clean, sym (c .before .is-same .ensures)) (c .by-version .ensures)
 
 pub against-slot-spec : {M : Type 1} → statement M

@@ -6,6 +6,16 @@ use borrow.Author.Needs.{needs}
 use Rattle.book.proofs.lengths.cells_fit.Statement.{statement}
 use Rattle.book.proofs.lengths.cells_fit.Tie as tie
 
+-- ---- Places
+
+abbrev after-days-fit : tie.Then3 → tie.After-days-fit
+after-days-fit c = c .before .before .before
+
+abbrev after-days-fit-agreed-fit : tie.After-agreed-fit → tie.After-days-fit
+after-days-fit-agreed-fit c = c .before .before .before .before
+
+-- ---- Needs
+
 slots-fit-requires : tie.Need-slots-fit-requires
 slots-fit-requires c κs = search needs
 
@@ -27,7 +37,7 @@ reads-fit-requires c κs = search needs
 
 returns-3 : tie.Need-returns-3
 returns-3 c =
-    let b = c .before .before .before .before in
+    let b = after-days-fit c .before in
     rw (
       sym (b .before .slots-fit .ensures) ∙ not-false _ (b .if1 .left),
       sym (c .before .before .before .days-fit .ensures) ∙ not-false _ (c .before .before .if2 .left),
@@ -39,7 +49,7 @@ agreed-fit-requires c κs = search needs
 
 returns-4 : tie.Need-returns-4
 returns-4 c =
-    let b = c .before .before .before .before in
+    let b = after-days-fit-agreed-fit c in
     rw (
       sym (b .before .before .slots-fit .ensures) ∙ not-false _ (b .before .if1 .left),
       sym (b .days-fit .ensures) ∙ not-false _ (c .before .before .before .if2 .left),

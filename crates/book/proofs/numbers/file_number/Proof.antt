@@ -1,4 +1,5 @@
--- `numbers::file_number`: the first broken rule is given; else the answer is that of `against_agreed`, and a stored number writes its two cells.
+-- `numbers::file_number`: the first broken rule is given; else the answer is that of `against_agreed`, and a stored number writes its two
+-- cells.
 use mathlib.Core.Path.{_≡_, refl, sym, _∙_}
 use Prim.Native.Nat.{_<_, _≤_}
 use native.Mathlib.Omega.{arith}
@@ -9,27 +10,32 @@ use Rattle.book.specs.Answers.{Answer, receivedMeant}
 use Rattle.rules.specs.Lent.{lentAgreed}
 use Rattle.book.specs.Inner.Numbers.{numberAnswer, numberAfter}
 use Rattle.book.proofs.OneNumber.{number-sound}
-use Rattle.book.proofs.filing.against_agreed.Reads as against-agreed-reads
-use Rattle.book.proofs.filing.is_stored.Reads as is-stored-reads
-use Rattle.book.proofs.numbers.file_number.Reads as reads
-use Rattle.book.proofs.numbers.file_number.Lts as lts
 use Rattle.book.proofs.numbers.file_number.Statement.{statement}
 use Rattle.book.proofs.numbers.file_number.Tie as tie
 
-abbrev claims : lts.Claims
-claims = (against-agreed-reads.Asked, against-agreed-reads.Learnt, is-stored-reads.Asked, is-stored-reads.Learnt)
+-- ---- Places
 
-abbrev whole : lts.Start claims reads.Pre reads.Post → Answer
+abbrev start : tie.Else2 → tie.Start
+start c = c .before .before .before .before
+
+abbrev passed2 : tie.After-slice-known4 → tie.Else2
+passed2 c = c .before .before .before
+
+abbrev passed2-against-agreed : tie.After-against-agreed → tie.Else2
+passed2-against-agreed c = passed2 (c .before)
+
+abbrev whole : tie.Start → Answer
 whole c = numberAnswer (lentAgreed (c .args .numbers) (c .args .versions)) (c .args .place) (c .args .version) (c .args .number)
 
 -- the place lies in the list
-inside : (c : lts.Else1 claims reads.Pre reads.Post) → c .before .before .before .args .place < length (c .before .before .before .args .numbers .now)
+inside : (c : tie.Else1) → c .before .before .before .args .place < length (c .before .before .before .args .numbers .now)
 inside c = omega (arith, c .if1 .left)
 
 returns : tie.Need-returns
 unfolding numberAnswer numberAfter
 returns c =
-    let beyond : length (c .before .before .before .args .numbers .now) ≤ c .before .before .before .args .place = omega (arith, c .if1 .taken) in
+    let beyond : length (c .before .before .before .args .numbers .now) ≤ c .before .before .before .args .place =
+    omega (arith, c .if1 .taken) in
     rw (le-leb _ _ beyond) (refl, refl)
 
 returns-2 : tie.Need-returns-2
@@ -39,7 +45,7 @@ returns-2 c = rw (lt-leb _ _ (inside (c .before)), eq-eqb _ _ (c .if2 .taken)) (
 returns-3 : tie.Need-returns-3
 unfolding numberAnswer numberAfter
 returns-3 c =
-    let large : 99_999_999 < c .before .before .before .before .before .args .number = omega (arith, c .if3 .taken) in
+    let large : 99_999_999 < start (c .before) .args .number = omega (arith, c .if3 .taken) in
     rw (lt-leb _ _ (inside (c .before .before)), ne-eqb _ _ (c .before .if2 .left), lt-ltb _ _ large) (refl, refl)
 
 mul-against-agreed : tie.Need-mul-against-agreed
@@ -52,7 +58,7 @@ mul-against-agreed-2 : tie.Need-mul-against-agreed-2
 mul-against-agreed-2 c = search needs
 
 slice-read-against-agreed-2 : tie.Need-slice-read-against-agreed-2
-slice-read-against-agreed-2 c = omega (arith, inside (c .before .before .before .before))
+slice-read-against-agreed-2 c = omega (arith, inside (passed2 c .before))
 
 against-agreed-requires : tie.Need-against-agreed-requires
 against-agreed-requires c κs = search needs
@@ -64,13 +70,13 @@ mul-numbers : tie.Need-mul-numbers
 mul-numbers c = search needs
 
 slice-write-numbers : tie.Need-slice-write-numbers
-slice-write-numbers c = omega (arith, inside (c .before .before .before .before .before .before .before))
+slice-write-numbers c = omega (arith, inside (passed2-against-agreed (c .before .before) .before))
 
 mul-versions : tie.Need-mul-versions
 mul-versions c = search needs
 
 slice-write-versions : tie.Need-slice-write-versions
-slice-write-versions c = omega (arith, inside (c .before .before .before .before .before .before .before))
+slice-write-versions c = omega (arith, inside (passed2-against-agreed (c .before .before) .before))
 
 same-length : tie.Need-same-length
 same-length c = search needs
@@ -79,10 +85,11 @@ same-length-2 : tie.Need-same-length-2
 same-length-2 c = search needs
 
 -- what `against_agreed` found is the answer
-found : (c : lts.After-against-agreed claims reads.Pre reads.Post) → whole (c .before .before .before .before .before .before .before .before) ≡ receivedMeant (c .against-agreed .result)
+found : (c : tie.After-against-agreed) → whole (start (passed2-against-agreed c)) ≡ receivedMeant (c .against-agreed .result)
 found c =
-    let small : c .before .before .before .before .before .before .before .before .args .number ≤ 99_999_999 = omega (arith, c .before .before .before .if3 .left) in
-    number-sound _ _ _ _ (inside (c .before .before .before .before .before)) (c .before .before .before .before .if2 .left) small ∙ sym (c .against-agreed .ensures)
+    let past2 = passed2-against-agreed c in
+    let small : start past2 .args .number ≤ 99_999_999 = omega (arith, c .before .before .before .if3 .left) in
+    number-sound _ _ _ _ (inside (past2 .before)) (past2 .if2 .left) small ∙ sym (c .against-agreed .ensures)
 
 returns-4 : tie.Need-returns-4
 unfolding numberAfter

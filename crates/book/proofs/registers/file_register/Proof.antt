@@ -1,4 +1,5 @@
--- `registers::file_register`: the first broken rule is given; else the answer is that of `against_boundary`, and a stored read writes its three cells.
+-- `registers::file_register`: the first broken rule is given; else the answer is that of `against_boundary`, and a stored read writes its
+-- three cells.
 use mathlib.Core.Path.{_≡_, refl, sym, _∙_}
 use Prim.Native.Nat.{_<_, _≤_}
 use native.Mathlib.Omega.{arith}
@@ -9,27 +10,36 @@ use Rattle.book.specs.Answers.{Answer, receivedMeant}
 use Rattle.book.specs.Lent.{lentReads}
 use Rattle.book.specs.Inner.Numbers.{readAnswer, readAfter}
 use Rattle.book.proofs.OneNumber.{read-sound}
-use Rattle.book.proofs.filing.against_boundary.Reads as against-boundary-reads
-use Rattle.book.proofs.filing.is_stored.Reads as is-stored-reads
-use Rattle.book.proofs.registers.file_register.Reads as reads
-use Rattle.book.proofs.registers.file_register.Lts as lts
 use Rattle.book.proofs.registers.file_register.Statement.{statement}
 use Rattle.book.proofs.registers.file_register.Tie as tie
 
-abbrev claims : lts.Claims
-claims = (against-boundary-reads.Asked, against-boundary-reads.Learnt, is-stored-reads.Asked, is-stored-reads.Learnt)
+-- ---- Places
 
-abbrev whole : lts.Start claims reads.Pre reads.Post → Answer
-whole c = readAnswer (lentReads (c .args .readings) (c .args .versions) (c .args .widths)) (c .args .boundary) (c .args .version) (c .args .reading) (c .args .width)
+abbrev start : tie.After-slice-known3 → tie.Start
+start c = c .before .before .before
+
+abbrev passed1 : tie.Else4 → tie.Else1
+passed1 c = c .before .before .before
+
+abbrev start-taken4 : tie.Then4 → tie.Start
+start-taken4 c = start (c .before .before .before .before)
+
+abbrev passed4 : tie.After-against-boundary → tie.Else4
+passed4 c = c .before .before .before .before
+
+abbrev whole : tie.Start → Answer
+whole c =
+    readAnswer (lentReads (c .args .readings) (c .args .versions) (c .args .widths)) (c .args .boundary) (c .args .version)
+    (c .args .reading) (c .args .width)
 
 -- the boundary lies in the list
-inside : (c : lts.Else1 claims reads.Pre reads.Post) → c .before .before .before .before .args .boundary < length (c .before .before .before .before .args .readings .now)
+inside : (c : tie.Else1) → start (c .before) .args .boundary < length (start (c .before) .args .readings .now)
 inside c = omega (arith, c .if1 .left)
 
 returns : tie.Need-returns
 unfolding readAnswer readAfter
 returns c =
-    let beyond : length (c .before .before .before .before .args .readings .now) ≤ c .before .before .before .before .args .boundary = omega (arith, c .if1 .taken) in
+    let beyond : length (start (c .before) .args .readings .now) ≤ start (c .before) .args .boundary = omega (arith, c .if1 .taken) in
     rw (le-leb _ _ beyond) (refl, refl)
 
 returns-2 : tie.Need-returns-2
@@ -39,33 +49,34 @@ returns-2 c = rw (lt-leb _ _ (inside (c .before)), eq-eqb _ _ (c .if2 .taken)) (
 returns-3 : tie.Need-returns-3
 unfolding readAnswer readAfter
 returns-3 c =
-    let large : 99_999_999 < c .before .before .before .before .before .before .args .reading = omega (arith, c .if3 .taken) in
+    let large : 99_999_999 < start (c .before .before .before) .args .reading = omega (arith, c .if3 .taken) in
     rw (lt-leb _ _ (inside (c .before .before)), ne-eqb _ _ (c .before .if2 .left), lt-ltb _ _ large) (refl, refl)
 
 returns-4 : tie.Need-returns-4
 unfolding readAnswer readAfter
 returns-4 c =
-    let small : c .before .before .before .before .before .before .before .args .reading ≤ 99_999_999 = omega (arith, c .before .if3 .left) in
-    let wide : 9999 < c .before .before .before .before .before .before .before .args .width = omega (arith, c .if4 .taken) in
-    rw (lt-leb _ _ (inside (c .before .before .before)), ne-eqb _ _ (c .before .before .if2 .left), le-ltb _ _ small, lt-ltb _ _ wide) (refl, refl)
+    let small : start-taken4 c .args .reading ≤ 99_999_999 = omega (arith, c .before .if3 .left) in
+    let wide : 9999 < start-taken4 c .args .width = omega (arith, c .if4 .taken) in
+    rw (lt-leb _ _ (inside (c .before .before .before)), ne-eqb _ _ (c .before .before .if2 .left), le-ltb _ _ small, lt-ltb _ _ wide)
+    (refl, refl)
 
 mul-against-boundary : tie.Need-mul-against-boundary
 mul-against-boundary c = search needs
 
 slice-read-against-boundary : tie.Need-slice-read-against-boundary
-slice-read-against-boundary c = omega (arith, inside (c .before .before .before .before))
+slice-read-against-boundary c = omega (arith, inside (passed1 (c .before)))
 
 mul-against-boundary-2 : tie.Need-mul-against-boundary-2
 mul-against-boundary-2 c = search needs
 
 slice-read-against-boundary-2 : tie.Need-slice-read-against-boundary-2
-slice-read-against-boundary-2 c = omega (arith, inside (c .before .before .before .before .before))
+slice-read-against-boundary-2 c = omega (arith, inside (passed1 (c .before .before)))
 
 mul-against-boundary-3 : tie.Need-mul-against-boundary-3
 mul-against-boundary-3 c = search needs
 
 slice-read-against-boundary-3 : tie.Need-slice-read-against-boundary-3
-slice-read-against-boundary-3 c = omega (arith, inside (c .before .before .before .before .before .before))
+slice-read-against-boundary-3 c = omega (arith, inside (passed1 (c .before .before .before)))
 
 against-boundary-requires : tie.Need-against-boundary-requires
 against-boundary-requires c κs = search needs
@@ -77,22 +88,22 @@ mul-readings : tie.Need-mul-readings
 mul-readings c = search needs
 
 slice-write-readings : tie.Need-slice-write-readings
-slice-write-readings c = omega (arith, inside (c .before .before .before .before .before .before .before .before .before))
+slice-write-readings c = omega (arith, inside (passed1 (passed4 (c .before .before))))
 
 mul-versions : tie.Need-mul-versions
 mul-versions c = search needs
 
 slice-write-versions : tie.Need-slice-write-versions
-slice-write-versions c = omega (arith, inside (c .before .before .before .before .before .before .before .before .before))
+slice-write-versions c = omega (arith, inside (passed1 (passed4 (c .before .before))))
 
 cast-widths : tie.Need-cast-widths
-cast-widths c = omega (arith, c .before .before .before .before .before .before .if4 .left)
+cast-widths c = omega (arith, passed4 (c .before .before) .if4 .left)
 
 mul-widths : tie.Need-mul-widths
 mul-widths c = search needs
 
 slice-write-widths : tie.Need-slice-write-widths
-slice-write-widths c = omega (arith, inside (c .before .before .before .before .before .before .before .before .before))
+slice-write-widths c = omega (arith, inside (passed1 (passed4 (c .before .before))))
 
 same-length : tie.Need-same-length
 same-length c = search needs
@@ -104,11 +115,13 @@ same-length-3 : tie.Need-same-length-3
 same-length-3 c = search needs
 
 -- what `against_boundary` found is the answer
-found : (c : lts.After-against-boundary claims reads.Pre reads.Post) → whole (c .before .before .before .before .before .before .before .before .before .before .before) ≡ receivedMeant (c .against-boundary .result)
+found : (c : tie.After-against-boundary) → whole (start (passed1 (passed4 c) .before)) ≡ receivedMeant (c .against-boundary .result)
 found c =
-    let small : c .before .before .before .before .before .before .before .before .before .before .before .args .reading ≤ 99_999_999 = omega (arith, c .before .before .before .before .before .if3 .left) in
-    let narrow : c .before .before .before .before .before .before .before .before .before .before .before .args .width ≤ 9999 = omega (arith, c .before .before .before .before .if4 .left) in
-    read-sound _ _ _ _ _ (inside (c .before .before .before .before .before .before .before)) (c .before .before .before .before .before .before .if2 .left) small narrow ∙ sym (c .against-boundary .ensures)
+    let past4 = passed4 c in
+    let past1 = passed1 past4 in
+    let small : start (past1 .before) .args .reading ≤ 99_999_999 = omega (arith, past4 .before .if3 .left) in
+    let narrow : start (past1 .before) .args .width ≤ 9999 = omega (arith, past4 .if4 .left) in
+    read-sound _ _ _ _ _ (inside past1) (past4 .before .before .if2 .left) small narrow ∙ sym (c .against-boundary .ensures)
 
 returns-5 : tie.Need-returns-5
 unfolding readAfter

@@ -1,24 +1,29 @@
 -- `sound::bad_day`. No day passed has a cell that no calls could leave.
 use borrow.Author.Needs.{needs}
-use mathlib.Core.Bool.{false}
-use mathlib.Core.Path.{_≡_, sym, _∙_}
-use Prim.Native.Nat.{_≤_, _-_, zero-le}
+use mathlib.Core.Path.{sym, _∙_}
+use Prim.Native.Nat.{_-_}
 use native.Mathlib.Omega.{arith}
 use lib.ListN.{length}
-use Rattle.base.specs.Lists.{any}
-use Rattle.base.proofs.Sums.{any-empty, none-on, one-found}
 use Rattle.book.specs.Cells.{dayFaultAt}
+use Rattle.book.proofs.Passed.{Passed, none-yet, one-more, at-fault, all-passed}
 use Rattle.book.proofs.sound.bad_day.Statement.{statement}
 use Rattle.book.proofs.sound.bad_day.Tie as tie
 
 abbrev Inv-loop : tie.InvT-loop
-Inv-loop holidays i₀ i = (i ≤ length holidays) × (any (dayFaultAt holidays) 0 i ≡ false)
+Inv-loop holidays i₀ i = Passed (dayFaultAt holidays) (length holidays) i
 
 abbrev μ-loop : tie.MeasureT-loop
 μ-loop holidays i₀ i = length holidays - i
 
+-- ---- Places
+
+abbrev at-loop : tie.After-day-fault Inv-loop μ-loop → tie.At-loop Inv-loop μ-loop
+at-loop c = c .before .before .before
+
+-- ---- Needs
+
 loop-holds : tie.Need-loop-holds Inv-loop μ-loop
-loop-holds c = (zero-le, any-empty _ _)
+loop-holds c = none-yet _ _
 
 shared-slice-read-day-fault : tie.Need-shared-slice-read-day-fault Inv-loop μ-loop
 shared-slice-read-day-fault c = omega arith
@@ -27,7 +32,8 @@ day-fault-requires : tie.Need-day-fault-requires Inv-loop μ-loop
 day-fault-requires c κs = search needs
 
 returns : tie.Need-returns Inv-loop μ-loop
-returns c = sym (one-found (dayFaultAt (c .before .before .before .before .before .before .args .holidays .now)) (c .before .before .before .before .loop .i) (length (c .before .before .before .before .before .before .args .holidays .now)) (c .before .before .before .loop-test .taken) (sym (c .before .day-fault .ensures) ∙ c .if1 .taken))
+returns c =
+    at-fault _ _ _ (c .before .before .before .loop-test .taken) (sym (c .before .day-fault .ensures) ∙ c .if1 .taken)
 
 add-i : tie.Need-add-i Inv-loop μ-loop
 add-i c = omega arith
@@ -36,11 +42,13 @@ loop-less : tie.Need-loop-less Inv-loop μ-loop
 loop-less c = omega arith
 
 loop-again : tie.Need-loop-again Inv-loop μ-loop
-loop-again c = (omega arith, none-on (dayFaultAt (c .before .before .before .before .before .before .args .holidays .now)) (c .before .before .before .before .loop .i) (c .before .before .before .before .loop .inv .1) (sym (c .before .day-fault .ensures) ∙ c .if1 .left))
+loop-again c =
+    one-more _ _ _ (at-loop (c .before) .loop .inv) (c .before .before .before .loop-test .taken)
+    (sym (c .before .day-fault .ensures) ∙ c .if1 .left)
 
 returns-2 : tie.Need-returns-2 Inv-loop μ-loop
-returns-2 c = let e : c .before .loop .i ≡ length (c .before .before .before .args .holidays .now) = omega arith in
-    sym (rw e at (c .before .loop .inv .1))
+returns-2 c =
+    all-passed _ _ _ (c .before .loop .inv) (c .loop-test .left)
 
 pub bad-day-spec : {M : Type 1} → statement M
 bad-day-spec =

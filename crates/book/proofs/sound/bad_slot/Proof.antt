@@ -1,25 +1,30 @@
 -- `sound::bad_slot`. No slot passed has a cell that no calls could leave.
 use borrow.Author.Needs.{needs}
-use mathlib.Core.Bool.{false}
-use mathlib.Core.Path.{_≡_, sym, _∙_}
-use Prim.Native.Nat.{_≤_, _-_, zero-le}
+use mathlib.Core.Path.{sym, _∙_}
+use Prim.Native.Nat.{_-_}
 use native.Mathlib.Omega.{arith}
 use lib.ListN.{length}
-use Rattle.base.specs.Lists.{any}
-use Rattle.base.proofs.Sums.{any-empty, none-on, one-found}
 use Rattle.rules.specs.Lent.{slots}
 use Rattle.book.specs.Cells.{slotFaultAt}
+use Rattle.book.proofs.Passed.{Passed, none-yet, one-more, at-fault, all-passed}
 use Rattle.book.proofs.sound.bad_slot.Statement.{statement}
 use Rattle.book.proofs.sound.bad_slot.Tie as tie
 
 abbrev Inv-loop : tie.InvT-loop
-Inv-loop values versions statuses i₀ i = (i ≤ length values) × (any (slotFaultAt (slots values versions statuses)) 0 i ≡ false)
+Inv-loop values versions statuses i₀ i = Passed (slotFaultAt (slots values versions statuses)) (length values) i
 
 abbrev μ-loop : tie.MeasureT-loop
 μ-loop values versions statuses i₀ i = length values - i
 
+-- ---- Places
+
+abbrev turn : tie.After-slot-fault Inv-loop μ-loop → tie.In-loop Inv-loop μ-loop
+turn c = c .before .before .before .before
+
+-- ---- Needs
+
 loop-holds : tie.Need-loop-holds Inv-loop μ-loop
-loop-holds c = (zero-le, any-empty _ _)
+loop-holds c = none-yet _ _
 
 mul-slot-fault : tie.Need-mul-slot-fault Inv-loop μ-loop
 mul-slot-fault c = search needs
@@ -40,7 +45,9 @@ slot-fault-requires : tie.Need-slot-fault-requires Inv-loop μ-loop
 slot-fault-requires c κs = search needs
 
 returns : tie.Need-returns Inv-loop μ-loop
-returns c = sym (one-found (slotFaultAt (slots (c .before .before .before .before .before .before .before .before .before .before .args .values .now) (c .before .before .before .before .before .before .before .before .before .before .args .versions .now) (c .before .before .before .before .before .before .before .before .before .before .args .statuses .now))) (c .before .before .before .before .before .before .loop .i) (length (c .before .before .before .before .before .before .before .before .before .before .args .values .now)) (c .before .before .before .before .before .loop-test .taken) (sym (c .before .slot-fault .ensures) ∙ c .if1 .taken))
+returns c =
+    let turned = turn (c .before) in
+    at-fault _ _ _ (turned .loop-test .taken) (sym (c .before .slot-fault .ensures) ∙ c .if1 .taken)
 
 add-i : tie.Need-add-i Inv-loop μ-loop
 add-i c = omega arith
@@ -49,11 +56,13 @@ loop-less : tie.Need-loop-less Inv-loop μ-loop
 loop-less c = omega arith
 
 loop-again : tie.Need-loop-again Inv-loop μ-loop
-loop-again c = (omega arith, none-on (slotFaultAt (slots (c .before .before .before .before .before .before .before .before .before .before .args .values .now) (c .before .before .before .before .before .before .before .before .before .before .args .versions .now) (c .before .before .before .before .before .before .before .before .before .before .args .statuses .now))) (c .before .before .before .before .before .before .loop .i) (c .before .before .before .before .before .before .loop .inv .1) (sym (c .before .slot-fault .ensures) ∙ c .if1 .left))
+loop-again c =
+    let turned = turn (c .before) in
+    one-more _ _ _ (turned .before .loop .inv) (turned .loop-test .taken) (sym (c .before .slot-fault .ensures) ∙ c .if1 .left)
 
 returns-2 : tie.Need-returns-2 Inv-loop μ-loop
-returns-2 c = let e : c .before .loop .i ≡ length (c .before .before .before .before .before .args .values .now) = omega arith in
-    sym (rw e at (c .before .loop .inv .1))
+returns-2 c =
+    all-passed _ _ _ (c .before .loop .inv) (c .loop-test .left)
 
 pub bad-slot-spec : {M : Type 1} → statement M
 bad-slot-spec =
