@@ -13,7 +13,9 @@ use Rattle.log.specs.declared.limits.Limits.{Limits}
 use Rattle.book.specs.declared.calls.Call.the-variants.{Delivery, Agreed, Holiday, Register}
 use Rattle.log.specs.Numbers.{valueAfter, valueOf, isDate, dateOf, yearPart, monthPart, dayPart}
 use Rattle.log.specs.Words.{words, same, areNumbers}
-use Rattle.log.specs.Line.{openWord, deliveryWord, holidayWord, registerWord, agreedWord, openOf, deliveryOf, holidayOf, sharpOf, registerOf, agreedOf, callOf, withoutCr, isPassed, areLimits, limitsOf, bare, limitsEntry, wordsEntry, entryOf, limitsWord}
+use Rattle.log.specs.Line.{openWord, deliveryWord, holidayWord, registerWord, agreedWord, openOf, deliveryOf, holidayOf, sharpOf}
+use Rattle.log.specs.Line.{registerOf, agreedOf, callOf, withoutCr, isPassed, areLimits, limitsOf, bare, limitsEntry, wordsEntry}
+use Rattle.log.specs.Line.{entryOf, limitsWord}
 use Rattle.log.proofs.Tables.{some-limits}
 
 -- ---- Fields
@@ -108,7 +110,15 @@ module _ (ws : List (List ℕ)) (word : List ℕ) (fields : List (List ℕ)) (e 
     no-open n = rw (e, is-date word y m d day .0, n)
 
     pub is-open : (vs : List ℕ) → areNumbers 4 fields ≡ true → take 4 vs ≡ map valueOf fields
-        → Open (record { year = y; month = m; day = d; days = getD vs 0 0; interval = getD vs 1 0; kind = getD vs 2 0; tolerance = getD vs 3 0 })
+        → Open (record {
+          year = y;
+          month = m;
+          day = d;
+          days = getD vs 0 0;
+          interval = getD vs 1 0;
+          kind = getD vs 2 0;
+          tolerance = getD vs 3 0;
+        })
         ≡ openOf ws
     unfolding openOf
     is-open vs n f =

@@ -80,7 +80,8 @@ module _ {bytes : List ℕ} {at i : ℕ} (b : Begun bytes at i) where
 
 -- ---- What a line is
 
-pub item-at : {bytes : List ℕ} {at : ℕ} {r : Cut} → LineAt bytes at r → ItemAt bytes at (itemOf (take (r .end - at) (drop at bytes))) (r .next)
+pub item-at : {bytes : List ℕ} {at : ℕ} {r : Cut} → LineAt bytes at r
+    → ItemAt bytes at (itemOf (take (r .end - at) (drop at bytes))) (r .next)
 unfolding items
 item-at cut = record { further = cut .further; inside = cut .inside; first = ap (map itemOf) (cut .first) }
 

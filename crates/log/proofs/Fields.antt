@@ -61,7 +61,8 @@ no-good e = let z : _≡_ {A = ℕ} 0 1 = cc in absurd (omega arith)
 pub numbers-start : (n : ℕ) (ws : List (List ℕ)) → areNumbers n ws ≡ areNumbers (n - 0) ws
 numbers-start n ws = let z : n - 0 ≡ n = omega arith in rw z
 
-pub numbers-end : (line : List ℕ) (at n i : ℕ) → at ≤ length line → n ≤ i → areNumbers (n - i) (piecesAfter 32 line at) ≡ eqb at (length line)
+pub numbers-end : (line : List ℕ) (at n i : ℕ) → at ≤ length line → n ≤ i
+    → areNumbers (n - i) (piecesAfter 32 line at) ≡ eqb at (length line)
 unfolding areNumbers
 numbers-end line at n i l m = let z : n - i ≡ 0 = omega arith in rw z (go (eqb at (length line)) refl)
   where

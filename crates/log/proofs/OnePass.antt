@@ -17,7 +17,8 @@ use Rattle.log.specs.declared.deliveries.Delivery.{Delivery}
 use Rattle.log.specs.declared.line.Line.the-variants.{Fill}
 use Rattle.log.specs.Numbers.{isDigit, areDigits, valueAfter, valueOf, isNumber}
 use Rattle.log.specs.Words.{split, words, same, areNumbers}
-use Rattle.log.specs.Line.{deliveryWord, openWord, limitsWord, deliveryOf, callOf, withoutCr, isPassed, bare, limitsOf, wordsEntry, entryOf}
+use Rattle.log.specs.Line.{deliveryWord, openWord, limitsWord, deliveryOf, callOf, withoutCr, isPassed, bare, limitsOf, wordsEntry}
+use Rattle.log.specs.Line.{entryOf}
 use Rattle.log.specs.Log.{withByte, lines, itemIn, itemOf, items}
 use Rattle.log.specs.Log.Item.{call}
 use Rattle.log.specs.Inner.Lines.{FoundAt}
@@ -45,7 +46,8 @@ module _ {bytes : List ℕ} {from : ℕ} where
       let z : from - from ≡ 0 = omega arith in
       record { begun = omega arith; near = omega arith; inside = l; digits = rw z; valued = rw z; low = omega arith }
 
-  digits-next : {value i : ℕ} → DigitsAt bytes from value i → i < from + 9 → i < length bytes → 48 ≤ getD bytes i 0 → getD bytes i 0 ≤ 57 → value ≤ 99_999_999
+  digits-next : {value i : ℕ} → DigitsAt bytes from value i → i < from + 9 → i < length bytes → 48 ≤ getD bytes i 0 → getD bytes i 0 ≤ 57
+      → value ≤ 99_999_999
       → DigitsAt bytes from (10 * value + (getD bytes i 0 - 48)) (i + 1)
   digits-next {value} {i} d n l p q low =
       let digit : isDigit (getD bytes i 0) ≡ true = rw (le-leb _ _ p, le-leb _ _ q) in
@@ -290,7 +292,8 @@ module _ (bytes : List ℕ) (at : ℕ) (r : Delivery) (n : NumbersAt bytes (at +
 
   item : itemOf found ≡ call (delivery (r .slot) (r .version) (r .value) (r .status))
   item =
-      text-item _ _ _ _ (n .slot .digits) (n .version .digits) (n .value .digits) (n .status .digits) (omega (arith, long, n .slot .near, n .version .near, n .value .near, n .status .near)) numbers
+      text-item _ _ _ _ (n .slot .digits) (n .version .digits) (n .value .digits) (n .status .digits)
+      (omega (arith, long, n .slot .near, n .version .near, n .value .near, n .status .near)) numbers
       ∙ rw (sym (n .slot .valued), sym (n .version .valued), sym (n .value .valued), sym (n .status .valued))
 
   first-line : lines (found ++ (10 ∷ drop (r .next) bytes)) ≡ found ∷ lines (drop (r .next) bytes)

@@ -56,7 +56,8 @@ drop-on (x ∷ xs) zero v k e = ap (drop 1) e
 drop-on [] (suc i) v k e = absurd (omega (arith, ap length e))
 drop-on (x ∷ xs) (suc i) v k e = drop-on xs i v k e
 
-module _ (words ws : List (List ℕ)) (w : List ℕ) (rest : List (List ℕ)) (values : List ℕ) (count : ℕ) (p : Passed words ws values count) (e : ws ≡ w ∷ rest) where
+module _ (words ws : List (List ℕ)) (w : List ℕ) (rest : List (List ℕ)) (values : List ℕ) (count : ℕ) (p : Passed words ws values count)
+    (e : ws ≡ w ∷ rest) where
   one-more : length words ≡ count + suc (length rest)
   one-more = p .many ∙ ap (λ (x : List (List ℕ)). count + length x) e
 
@@ -89,7 +90,8 @@ split-some s b (c ∷ cs) = go (eqb c s) (split-some s (b ++ (c ∷ [])) cs)
     go true l = omega arith
     go false l = l
 
-pub passed-too-many : (words : List (List ℕ)) (line values : List ℕ) (at count : ℕ) → at < length line → Passed words (piecesAfter 32 line at) values count
+pub passed-too-many : (words : List (List ℕ)) (line values : List ℕ) (at count : ℕ) → at < length line
+    → Passed words (piecesAfter 32 line at) values count
     → count ≡ 24 → limitsOf [] ≡ found words
 passed-too-many words line values at count l p c =
     too-many words (omega (arith, p .many, ap length (more-words line at l), split-some 32 [] (drop (at + 1) line)))
@@ -103,12 +105,15 @@ passed-all words ws values count p e =
     let numbers : areNumbers (length words) words ≡ true = p .numbers ∙ rw e refl in
     let taken : map valueOf words ≡ take count values = p .taken ∙ (rw (e, append-nil) refl) in
     let long : length (map valueOf words) ≡ count = length-map words valueOf ∙ many in
-    let whole : values ≡ take count values ++ replicate (24 - count) 0 = sym (take-append-drop count values) ∙ ap (λ (x : List ℕ). take count values ++ x) (p .zeros) in
+    let whole : values ≡ take count values ++ replicate (24 - count) 0 = sym (take-append-drop count values)
+    ∙ ap (λ (x : List ℕ). take count values ++ x) (p .zeros) in
     go (leb 1 (length words)) refl many numbers taken long whole
   where
-    go : (t : Bool) → leb 1 (length words) ≡ t → length words ≡ count → areNumbers (length words) words ≡ true → map valueOf words ≡ take count values
+    go : (t : Bool) → leb 1 (length words) ≡ t → length words ≡ count → areNumbers (length words) words ≡ true
+        → map valueOf words ≡ take count values
         → length (map valueOf words) ≡ count → values ≡ take count values ++ replicate (24 - count) 0
-        → record { values = values; count = count } ≡ cond (t && leb (length words) 24 && areNumbers (length words) words) (limitsOf (map valueOf words)) (limitsOf [])
+        → record { values = values; count = count }
+        ≡ cond (t && leb (length words) 24 && areNumbers (length words) words) (limitsOf (map valueOf words)) (limitsOf [])
     go true a many numbers taken long whole =
         let few : length words ≤ 24 = omega (arith, p .few) in
         let here : values ≡ map valueOf words ++ replicate (24 - length (map valueOf words)) 0 = rw (long, taken) whole in

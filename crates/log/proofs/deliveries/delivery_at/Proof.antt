@@ -44,7 +44,8 @@ numbers-at-requires : tie.Need-numbers-at-requires
 numbers-at-requires c κs = search needs
 
 returns-3 : tie.Need-returns-3
-returns-3 c = λ t. delivery-of _ _ _ (c .numbers-at .ensures t) (sym (c .before .before .is-same .ensures) ∙ not-false _ (c .before .if2 .left))
+returns-3 c =
+    λ t. delivery-of _ _ _ (c .numbers-at .ensures t) (sym (c .before .before .is-same .ensures) ∙ not-false _ (c .before .if2 .left))
 
 pub delivery-at-spec : {M : Type 1} → statement M
 delivery-at-spec =

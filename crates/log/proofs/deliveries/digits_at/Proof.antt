@@ -13,6 +13,11 @@ Inv-loop bytes from stop value₀ i₀ value i = Few bytes from value i
 abbrev μ-loop : tie.MeasureT-loop
 μ-loop bytes from stop value₀ i₀ value i = stop - i
 
+-- ---- Places
+
+abbrev at-loop : tie.Then2 Inv-loop μ-loop → tie.At-loop Inv-loop μ-loop
+at-loop c = c .before .before .before .before
+
 abbrev turn : tie.Else2 Inv-loop μ-loop → tie.In-loop Inv-loop μ-loop
 turn c = c .before .before .before
 
@@ -36,7 +41,7 @@ returns : tie.Need-returns Inv-loop μ-loop
 returns c = c .before .before .before .loop .inv .digits
 
 returns-2 : tie.Need-returns-2 Inv-loop μ-loop
-returns-2 c = (c .before .before .before) .before .loop .inv .digits
+returns-2 c = at-loop c .loop .inv .digits
 
 mul-value : tie.Need-mul-value Inv-loop μ-loop
 mul-value c = omega (arith, few-eight (room c) (turn c .before .loop .inv) (turn c .loop-test .taken))

@@ -14,6 +14,11 @@ Inv-loop bytes from stop i₀ i = Few bytes from (valueOf (take (i - from) (drop
 abbrev μ-loop : tie.MeasureT-loop
 μ-loop bytes from stop i₀ i = stop - i
 
+-- ---- Places
+
+abbrev at-loop : tie.Then2 Inv-loop μ-loop → tie.At-loop Inv-loop μ-loop
+at-loop c = c .before .before .before .before
+
 abbrev turn : tie.Else2 Inv-loop μ-loop → tie.In-loop Inv-loop μ-loop
 turn c = c .before .before .before
 
@@ -37,7 +42,7 @@ returns : tie.Need-returns Inv-loop μ-loop
 returns c = c .before .before .before .loop .inv .digits
 
 returns-2 : tie.Need-returns-2 Inv-loop μ-loop
-returns-2 c = (c .before .before .before) .before .loop .inv .digits
+returns-2 c = at-loop c .loop .inv .digits
 
 add-i : tie.Need-add-i Inv-loop μ-loop
 add-i c = search needs
@@ -46,7 +51,8 @@ loop-less : tie.Need-loop-less Inv-loop μ-loop
 loop-less c = search needs
 
 loop-again : tie.Need-loop-again Inv-loop μ-loop
-loop-again c = few-to (few-next (room c) (turn c .before .loop .inv) (turn c .loop-test .taken) (c .before .if1 .left) (omega (arith, c .if2 .left)))
+loop-again c =
+    few-to (few-next (room c) (turn c .before .loop .inv) (turn c .loop-test .taken) (c .before .if1 .left) (omega (arith, c .if2 .left)))
 
 returns-3 : tie.Need-returns-3 Inv-loop μ-loop
 returns-3 c = c .before .loop .inv .digits

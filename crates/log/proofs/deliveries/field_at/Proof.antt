@@ -7,6 +7,13 @@ use Rattle.log.proofs.OnePass.{field-of}
 use Rattle.log.proofs.deliveries.field_at.Statement.{statement}
 use Rattle.log.proofs.deliveries.field_at.Tie as tie
 
+-- ---- Places
+
+abbrev start : tie.Else2 → tie.Start
+start c = c .before .before .before .before .before
+
+-- ---- Needs
+
 digits-at-requires : tie.Need-digits-at-requires
 digits-at-requires c κs = search needs
 
@@ -32,7 +39,7 @@ returns-3 : tie.Need-returns-3
 returns-3 c = λ t.
     let b = c .before .before in
     let digits = b .before .digits-at .ensures in
-    field-of digits (b .if1 .left) (omega (arith, digits .near, b .before .before .before .pre)) (c .if2 .left)
+    field-of digits (b .if1 .left) (omega (arith, digits .near, start c .pre)) (c .if2 .left)
 
 pub field-at-spec : {M : Type 1} → statement M
 field-at-spec =

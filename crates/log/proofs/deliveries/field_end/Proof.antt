@@ -6,6 +6,13 @@ use Rattle.log.proofs.OnePass.{field-of}
 use Rattle.log.proofs.deliveries.field_end.Statement.{statement}
 use Rattle.log.proofs.deliveries.field_end.Tie as tie
 
+-- ---- Places
+
+abbrev start : tie.Else2 → tie.Start
+start c = c .before .before .before .before .before
+
+-- ---- Needs
+
 digits-end-requires : tie.Need-digits-end-requires
 digits-end-requires c κs = search needs
 
@@ -25,7 +32,7 @@ returns-3 : tie.Need-returns-3
 returns-3 c = λ some.
     let b = c .before .before in
     let digits = b .before .digits-end .ensures in
-    record { value = _; field = field-of digits (b .if1 .left) (omega (arith, digits .near, b .before .before .before .pre)) (c .if2 .left) }
+    record { value = _; field = field-of digits (b .if1 .left) (omega (arith, digits .near, start c .pre)) (c .if2 .left) }
 
 pub field-end-spec : {M : Type 1} → statement M
 field-end-spec = tie.close (tie.spec digits-end-requires returns shared-slice-read-if2 returns-2 add-result returns-3)

@@ -23,11 +23,13 @@ from1 c = c .before .before .before .before
 
 -- the fields that were found
 slot-found : (c : tie.Else1)
-    → FieldAt (from1 c .args .bytes .now) (from1 c .args .from) 32 (c .before .before .field-at .result .value) (c .before .before .field-at .result .next)
+    → FieldAt (from1 c .args .bytes .now) (from1 c .args .from) 32 (c .before .before .field-at .result .value)
+    (c .before .before .field-at .result .next)
 slot-found c = c .before .before .field-at .ensures (not-false _ (c .if1 .left))
 
 version-found : (c : tie.Else2)
-    → FieldAt (from1 (from2 c) .args .bytes .now) (from2 c .before .before .field-at .result .next) 32 (c .before .before .field-at2 .result .value)
+    → FieldAt (from1 (from2 c) .args .bytes .now) (from2 c .before .before .field-at .result .next) 32
+    (c .before .before .field-at2 .result .value)
     (c .before .before .field-at2 .result .next)
 version-found c = c .before .before .field-at2 .ensures (not-false _ (c .if2 .left))
 

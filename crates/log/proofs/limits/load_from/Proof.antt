@@ -9,6 +9,13 @@ use borrow.Author.Needs.{needs}
 use Rattle.log.proofs.limits.load_from.Statement.{statement}
 use Rattle.log.proofs.limits.load_from.Tie as tie
 
+-- ---- Places
+
+abbrev start : tie.After-load → tie.Start
+start c = c .before .before .before .before
+
+-- ---- Needs
+
 slice-aggregate-load : tie.Need-slice-aggregate-load
 slice-aggregate-load c = search needs
 
@@ -16,9 +23,12 @@ load-requires : tie.Need-load-requires
 load-requires c κs = search needs
 
 returns : tie.Need-returns
-returns c = let room : length (c .before .before .before .before .args .limits .values) ≡ 24 = search needs in
-    let long : length (c .before .before .before .before .args .limits .values) ≤ c .before .before .before .before .args .limits .count = omega (arith, room, c .before .before .if1 .taken) in
-    c .load .ensures ∙ ap (λ x. loadAnswer x (c .before .before .before .before .args .kind)) (sym (take-all (c .before .before .before .before .args .limits .count) (c .before .before .before .before .args .limits .values) long))
+returns c =
+    let begun = start c in
+    let room : length (begun .args .limits .values) ≡ 24 = search needs in
+    let long : length (begun .args .limits .values) ≤ begun .args .limits .count = omega (arith, room, c .before .before .if1 .taken) in
+    c .load .ensures ∙ ap (λ x. loadAnswer x (begun .args .kind))
+    (sym (take-all (begun .args .limits .count) (begun .args .limits .values) long))
 
 array-share-prefix-values : tie.Need-array-share-prefix-values
 array-share-prefix-values c =

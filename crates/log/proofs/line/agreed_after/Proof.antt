@@ -6,6 +6,13 @@ use borrow.Author.Needs.{needs}
 use Rattle.log.proofs.line.agreed_after.Statement.{statement}
 use Rattle.log.proofs.line.agreed_after.Tie as tie
 
+-- ---- Places
+
+abbrev after-values-after : tie.After-t15 → tie.After-values-after
+after-values-after c = c .before .before .before .before
+
+-- ---- Needs
+
 values-after-requires : tie.Need-values-after-requires
 values-after-requires c κs = search needs
 
@@ -22,7 +29,11 @@ element-copy-out-t15 : tie.Need-element-copy-out-t15
 element-copy-out-t15 c = search needs
 
 returns-2 : tie.Need-returns-2
-returns-2 c = is-agreed _ (c .before .before .before .before .values-after .result .values) (sym (c .before .before .before .before .values-after .ensures .0) ∙ not-false _ (c .before .before .before .if1 .left)) (c .before .before .before .before .values-after .ensures .1 (not-false _ (c .before .before .before .if1 .left)))
+returns-2 c =
+    let at-values-after = after-values-after c in
+    is-agreed _ (at-values-after .values-after .result .values)
+    (sym (at-values-after .values-after .ensures .0) ∙ not-false _ (c .before .before .before .if1 .left))
+    (at-values-after .values-after .ensures .1 (not-false _ (c .before .before .before .if1 .left)))
 
 pub agreed-after-spec : {M : Type 1} → statement M
 agreed-after-spec =

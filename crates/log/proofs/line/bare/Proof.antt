@@ -4,7 +4,6 @@ use mathlib.Core.Path.{ap}
 use borrow.Author.Needs.{needs}
 use Rattle.log.proofs.line.bare.Statement.{statement}
 use Rattle.log.proofs.line.bare.Tie as tie
-use Rattle.log.proofs.limits.none.Reads as none-reads
 
 none-requires : tie.Need-none-requires
 none-requires c κs = search needs

@@ -6,6 +6,13 @@ use borrow.Author.Needs.{needs}
 use Rattle.log.proofs.line.delivery_after.Statement.{statement}
 use Rattle.log.proofs.line.delivery_after.Tie as tie
 
+-- ---- Places
+
+abbrev passed1 : tie.After-t18 → tie.Else1
+passed1 c = c .before .before .before .before
+
+-- ---- Needs
+
 values-after-requires : tie.Need-values-after-requires
 values-after-requires c κs = search needs
 
@@ -26,8 +33,8 @@ element-copy-out-t18 c = search needs
 
 returns-2 : tie.Need-returns-2
 returns-2 c =
-    let e = c .before .before .before .before .before in
-    let good = not-false _ (c .before .before .before .before .if1 .left) in
+    let e = passed1 c .before in
+    let good = not-false _ (passed1 c .if1 .left) in
     is-delivery _ (e .values-after .result .values) (sym (e .values-after .ensures .0) ∙ good) (e .values-after .ensures .1 good)
 
 pub delivery-after-spec : {M : Type 1} → statement M

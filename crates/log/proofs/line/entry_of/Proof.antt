@@ -6,9 +6,25 @@ use Rattle.log.proofs.Calls.{line-empty, line-comment, line-long, line-
 use borrow.Author.Needs.{needs}
 use Rattle.log.proofs.line.entry_of.Statement.{statement}
 use Rattle.log.proofs.line.entry_of.Tie as tie
-use Rattle.log.proofs.line.bare.Reads as bare-reads
-use Rattle.log.proofs.line.without_cr.Reads as without-cr-reads
-use Rattle.log.proofs.line.words_entry.Reads as words-entry-reads
+
+-- ---- Places
+
+abbrev start : tie.After-bare → tie.Start
+start c = c .before .before .before .before
+
+abbrev passed1 : tie.After-bare2 → tie.Else1
+passed1 c = c .before .before .before
+
+abbrev passed1-passed3 : tie.Else3 → tie.Else1
+passed1-passed3 c = c .before .before .before
+
+abbrev start-bare2 : tie.After-bare2 → tie.Start
+start-bare2 c = passed1 c .before .before .before
+
+abbrev passed1-bare3 : tie.After-bare3 → tie.Else1
+passed1-bare3 c = c .before .before .before .before
+
+-- ---- Needs
 
 without-cr-requires : tie.Need-without-cr-requires
 without-cr-requires c κs = search needs
@@ -17,7 +33,9 @@ bare-requires : tie.Need-bare-requires
 bare-requires c κs = search needs
 
 returns : tie.Need-returns
-returns c = c .bare .ensures ∙ line-empty (c .before .before .before .before .args .bytes .now) _ (c .before .before .without-cr .ensures .0) (c .before .before .without-cr .ensures .1) (c .before .if1 .taken)
+returns c =
+    c .bare .ensures ∙ line-empty (start c .args .bytes .now) _ (c .before .before .without-cr .ensures .0)
+    (c .before .before .without-cr .ensures .1) (c .before .if1 .taken)
 
 shared-slice-read-if2 : tie.Need-shared-slice-read-if2
 shared-slice-read-if2 c = search needs
@@ -26,22 +44,32 @@ bare-requires-2 : tie.Need-bare-requires-2
 bare-requires-2 c κs = search needs
 
 returns-2 : tie.Need-returns-2
-returns-2 c = c .bare2 .ensures ∙ line-comment (c .before .before .before .before .before .before .args .bytes .now) _ (c .before .before .before .before .without-cr .ensures .0) (c .before .before .before .before .without-cr .ensures .1) (c .before .before .before .if1 .left) (c .before .if2 .taken)
+returns-2 c =
+    c .bare2 .ensures ∙ line-comment (start-bare2 c .args .bytes .now) _ (passed1 c .before .without-cr .ensures .0)
+    (passed1 c .before .without-cr .ensures .1) (c .before .before .before .if1 .left) (c .before .if2 .taken)
 
 bare-requires-3 : tie.Need-bare-requires-3
 bare-requires-3 c κs = search needs
 
 returns-3 : tie.Need-returns-3
-returns-3 c = c .bare3 .ensures ∙ line-long (c .before .before .before .before .before .before .before .args .bytes .now) (c .before .before .before .before .before .without-cr .result) (c .before .before .before .before .before .without-cr .ensures .0) (c .before .before .before .before .before .without-cr .ensures .1) (c .before .before .before .before .if1 .left) (c .before .before .if2 .left) (omega (arith, c .before .if3 .taken))
+returns-3 c =
+    let past1 = passed1-bare3 c in
+    c .bare3 .ensures ∙ line-long (past1 .before .before .before .args .bytes .now) (past1 .before .without-cr .result)
+    (past1 .before .without-cr .ensures .0) (past1 .before .without-cr .ensures .1) (past1 .if1 .left) (c .before .before .if2 .left)
+    (omega (arith, c .before .if3 .taken))
 
 slice-aggregate-words-entry : tie.Need-slice-aggregate-words-entry
-slice-aggregate-words-entry c = sym (length-take-le _ _ (c .before .before .before .before .before .without-cr .ensures .0))
+slice-aggregate-words-entry c = sym (length-take-le _ _ (passed1-passed3 (c .before) .before .without-cr .ensures .0))
 
 words-entry-requires : tie.Need-words-entry-requires
 words-entry-requires c κs = search needs
 
 returns-4 : tie.Need-returns-4
-returns-4 c = c .words-entry .ensures ∙ line-call (c .before .before .before .before .before .before .before .before .args .bytes .now) _ (c .before .before .before .before .before .before .without-cr .ensures .0) (c .before .before .before .before .before .before .without-cr .ensures .1) (c .before .before .before .before .before .if1 .left) (c .before .before .before .if2 .left) (c .before .before .if3 .left)
+returns-4 c =
+    let past1 = passed1-passed3 (c .before .before) in
+    c .words-entry .ensures
+    ∙ line-call (past1 .before .before .before .args .bytes .now) _ (past1 .before .without-cr .ensures .0)
+    (past1 .before .without-cr .ensures .1) (past1 .if1 .left) (c .before .before .before .if2 .left) (c .before .before .if3 .left)
 
 pub entry-of-spec : {M : Type 1} → statement M
 entry-of-spec =

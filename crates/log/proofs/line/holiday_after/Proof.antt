@@ -16,7 +16,10 @@ element-copy-out-t9 : tie.Need-element-copy-out-t9
 element-copy-out-t9 c = search needs
 
 returns-2 : tie.Need-returns-2
-returns-2 c = is-holiday _ (c .before .before .values-after .result .values) (sym (c .before .before .values-after .ensures .0) ∙ not-false _ (c .before .if1 .left)) (c .before .before .values-after .ensures .1 (not-false _ (c .before .if1 .left)))
+returns-2 c =
+    is-holiday _ (c .before .before .values-after .result .values)
+    (sym (c .before .before .values-after .ensures .0) ∙ not-false _ (c .before .if1 .left))
+    (c .before .before .values-after .ensures .1 (not-false _ (c .before .if1 .left)))
 
 pub holiday-after-spec : {M : Type 1} → statement M
 holiday-after-spec =

@@ -4,8 +4,6 @@ use Rattle.log.proofs.Calls.{is-table, no-table}
 use borrow.Author.Needs.{needs}
 use Rattle.log.proofs.line.limits_entry.Statement.{statement}
 use Rattle.log.proofs.line.limits_entry.Tie as tie
-use Rattle.log.proofs.limits.limits_after.Reads as limits-after-reads
-use Rattle.log.proofs.line.bare.Reads as bare-reads
 
 limits-after-requires : tie.Need-limits-after-requires
 limits-after-requires c κs = search needs

@@ -6,6 +6,13 @@ use borrow.Author.Needs.{needs}
 use Rattle.log.proofs.line.register_after.Statement.{statement}
 use Rattle.log.proofs.line.register_after.Tie as tie
 
+-- ---- Places
+
+abbrev passed1 : tie.After-t18 → tie.Else1
+passed1 c = c .before .before .before .before
+
+-- ---- Needs
+
 values-after-requires : tie.Need-values-after-requires
 values-after-requires c κs = search needs
 
@@ -28,7 +35,11 @@ element-copy-out-t18 : tie.Need-element-copy-out-t18
 element-copy-out-t18 c = search needs
 
 returns-2 : tie.Need-returns-2
-returns-2 c = is-register _ (c .before .before .before .before .before .values-after .result .values) (sym (c .before .before .before .before .before .values-after .ensures .0) ∙ not-false _ (c .before .before .before .before .if1 .left)) (c .before .before .before .before .before .values-after .ensures .1 (not-false _ (c .before .before .before .before .if1 .left)))
+returns-2 c =
+    let past1 = passed1 c in
+    is-register _ (past1 .before .values-after .result .values)
+    (sym (past1 .before .values-after .ensures .0) ∙ not-false _ (past1 .if1 .left))
+    (past1 .before .values-after .ensures .1 (not-false _ (past1 .if1 .left)))
 
 pub register-after-spec : {M : Type 1} → statement M
 register-after-spec =

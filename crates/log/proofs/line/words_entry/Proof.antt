@@ -7,11 +7,13 @@ use Rattle.log.proofs.Calls.{first-word, entry-table, entry-bare}
 use borrow.Author.Needs.{needs}
 use Rattle.log.proofs.line.words_entry.Statement.{statement}
 use Rattle.log.proofs.line.words_entry.Tie as tie
-use Rattle.log.proofs.line.bare.Reads as bare-reads
-use Rattle.log.proofs.line.call_of.Reads as call-of-reads
-use Rattle.log.proofs.line.limits_entry.Reads as limits-entry-reads
-use Rattle.log.proofs.pieces.end_of.Reads as end-of-reads
-use Rattle.log.proofs.words.is_same.Reads as is-same-reads
+
+-- ---- Places
+
+abbrev after-end-of : tie.After-is-same → tie.After-end-of
+after-end-of c = c .before .before .before
+
+-- ---- Needs
 
 end-of-requires : tie.Need-end-of-requires
 end-of-requires c κs = search needs
@@ -29,7 +31,12 @@ limits-entry-requires : tie.Need-limits-entry-requires
 limits-entry-requires c κs = search needs
 
 returns : tie.Need-returns
-returns c = c .limits-entry .ensures ∙ entry-table _ _ _ (first-word _ (c .before .before .before .before .before .end-of .result) _ (pieces 32 _ _ (c .before .before .before .before .before .end-of .result) (c .before .before .before .before .before .end-of .ensures .2))) (sym (c .before .before .is-same .ensures) ∙ c .before .if1 .taken)
+returns c =
+    let at-end-of = after-end-of (c .before .before) in
+    c .limits-entry .ensures
+    ∙ entry-table _ _ _ (first-word _ (at-end-of .end-of .result) _
+    (pieces 32 _ _ (at-end-of .end-of .result) (at-end-of .end-of .ensures .2))) (sym (c .before .before .is-same .ensures)
+    ∙ c .before .if1 .taken)
 
 call-of-requires : tie.Need-call-of-requires
 call-of-requires c κs = search needs
@@ -38,7 +45,12 @@ bare-requires : tie.Need-bare-requires
 bare-requires c κs = search needs
 
 returns-2 : tie.Need-returns-2
-returns-2 c = c .bare .ensures ∙ ap bare (c .before .call-of .ensures) ∙ entry-bare _ _ _ (first-word _ (c .before .before .before .before .before .before .end-of .result) _ (pieces 32 _ _ (c .before .before .before .before .before .before .end-of .result) (c .before .before .before .before .before .before .end-of .ensures .2))) (sym (c .before .before .before .is-same .ensures) ∙ c .before .before .if1 .left)
+returns-2 c =
+    let at-end-of = after-end-of (c .before .before .before) in
+    c .bare .ensures ∙ ap bare (c .before .call-of .ensures)
+    ∙ entry-bare _ _ _ (first-word _ (at-end-of .end-of .result) _
+    (pieces 32 _ _ (at-end-of .end-of .result) (at-end-of .end-of .ensures .2))) (sym (c .before .before .before .is-same .ensures)
+    ∙ c .before .before .if1 .left)
 
 pub words-entry-spec : {M : Type 1} → statement M
 words-entry-spec =

@@ -6,6 +6,34 @@ use borrow.Author.Needs.{needs}
 use Rattle.log.proofs.number.date_of.Statement.{statement}
 use Rattle.log.proofs.number.date_of.Tie as tie
 
+-- ---- Places
+
+abbrev passed1 : tie.After-shared-slice-known3 → tie.Else1
+passed1 c = c .before .before .before
+
+abbrev passed3 : tie.After-enum-told → tie.Else3
+passed3 c = c .before .before .before .before
+
+abbrev passed3-year : tie.After-year → tie.Else3
+passed3-year c = c .before .before .before .before
+
+abbrev after-year : tie.After-number-of2 → tie.After-year
+after-year c = c .before .before .before
+
+abbrev after-month : tie.After-number-of3 → tie.After-month
+after-month c = c .before .before .before
+
+abbrev passed3-number-of3 : tie.After-number-of3 → tie.Else3
+passed3-number-of3 c = passed3-year (c .before .before .before .before .before .before .before .before)
+
+abbrev passed2 : tie.After-number-of3 → tie.Else2
+passed2 c = passed3-number-of3 c .before .before
+
+abbrev passed1-number-of3 : tie.After-number-of3 → tie.Else1
+passed1-number-of3 c = passed2 c .before .before
+
+-- ---- Needs
+
 returns : tie.Need-returns
 returns c = sym (date-length _ (c .if1 .taken))
 
@@ -19,10 +47,10 @@ shared-slice-read-if3 : tie.Need-shared-slice-read-if3
 shared-slice-read-if3 c = search needs
 
 returns-3 : tie.Need-returns-3
-returns-3 c = sym (date-second _ (c .before .before .before .before .if1 .left) (c .before .before .if2 .left) (c .if3 .taken))
+returns-3 c = sym (date-second _ (passed1 (c .before) .if1 .left) (c .before .before .if2 .left) (c .if3 .taken))
 
 slice-aggregate-number-of : tie.Need-slice-aggregate-number-of
-slice-aggregate-number-of c = sym (length-take-le 4 (c .before .before .before .before .before .before .before .args .word .now) (search needs))
+slice-aggregate-number-of c = sym (length-take-le 4 (passed1 (c .before .before) .before .before .args .word .now) (search needs))
 
 number-of-requires : tie.Need-number-of-requires
 number-of-requires c κs = search needs
@@ -34,7 +62,10 @@ enum-told : tie.Need-enum-told
 enum-told c = search needs
 
 returns-4 : tie.Need-returns-4
-returns-4 c = sym (date-year _ (c .before .before .before .before .before .before .before .before .if1 .left) (c .before .before .before .before .before .before .if2 .left) (c .before .before .before .before .if3 .left) (sym (c .before .before .number-of .ensures) ∙ c .enum-told .given .1))
+returns-4 c =
+    let past3 = passed3 c in
+    sym (date-year _ (passed1 (past3 .before) .if1 .left) (past3 .before .before .if2 .left) (past3 .if3 .left)
+    (sym (c .before .before .number-of .ensures) ∙ c .enum-told .given .1))
 
 sub-number-of : tie.Need-sub-number-of
 sub-number-of c = search needs
@@ -55,7 +86,12 @@ enum-told-2 : tie.Need-enum-told-2
 enum-told-2 c = search needs
 
 returns-5 : tie.Need-returns-5
-returns-5 c = sym (date-month _ (c .before .before .before .before .before .before .before .before .before .before .before .before .before .if1 .left) (c .before .before .before .before .before .before .before .before .before .before .before .if2 .left) (c .before .before .before .before .before .before .before .before .before .if3 .left) _ (sym (c .before .before .before .before .before .before .before .number-of .ensures) ∙ c .before .before .before .before .before .year .given .1) (sym (c .before .before .number-of2 .ensures) ∙ c .enum-told2 .given .1))
+returns-5 c =
+    let at-year = after-year (c .before .before) in
+    let past3 = passed3-year at-year in
+    sym (date-month _ (passed1 (past3 .before) .if1 .left) (past3 .before .before .if2 .left) (past3 .if3 .left) _
+    (sym (at-year .before .before .number-of .ensures) ∙ at-year .year .given .1)
+    (sym (c .before .before .number-of2 .ensures) ∙ c .enum-told2 .given .1))
 
 sub-number-of-2 : tie.Need-sub-number-of-2
 sub-number-of-2 c = search needs
@@ -76,10 +112,23 @@ enum-told-3 : tie.Need-enum-told-3
 enum-told-3 c = search needs
 
 returns-6 : tie.Need-returns-6
-returns-6 c = sym (date-day _ (c .before .before .before .before .before .before .before .before .before .before .before .before .before .before .before .before .before .before .if1 .left) (c .before .before .before .before .before .before .before .before .before .before .before .before .before .before .before .before .if2 .left) (c .before .before .before .before .before .before .before .before .before .before .before .before .before .before .if3 .left) _ (sym (c .before .before .before .before .before .before .before .before .before .before .before .before .number-of .ensures) ∙ c .before .before .before .before .before .before .before .before .before .before .year .given .1) _ (sym (c .before .before .before .before .before .before .before .number-of2 .ensures) ∙ c .before .before .before .before .before .month .given .1) (sym (c .before .before .number-of3 .ensures) ∙ c .enum-told3 .given .1))
+returns-6 c =
+    let at-month = after-month (c .before .before) in
+    let at-year = after-year (at-month .before .before) in
+    sym (date-day _ (passed1-number-of3 (c .before .before) .if1 .left) (passed2 (c .before .before) .if2 .left)
+    (passed3-number-of3 (c .before .before) .if3 .left) _ (sym (at-year .before .before .number-of .ensures) ∙ at-year .year .given .1) _
+    (sym (at-month .before .before .number-of2 .ensures) ∙ at-month .month .given .1)
+    (sym (c .before .before .number-of3 .ensures) ∙ c .enum-told3 .given .1))
 
 returns-7 : tie.Need-returns-7
-returns-7 c = sym (date-whole _ (c .before .before .before .before .before .before .before .before .before .before .before .before .before .before .before .before .before .before .before .if1 .left) (c .before .before .before .before .before .before .before .before .before .before .before .before .before .before .before .before .before .if2 .left) (c .before .before .before .before .before .before .before .before .before .before .before .before .before .before .before .if3 .left) _ (sym (c .before .before .before .before .before .before .before .before .before .before .before .before .before .number-of .ensures) ∙ c .before .before .before .before .before .before .before .before .before .before .before .year .given .1) _ (sym (c .before .before .before .before .before .before .before .before .number-of2 .ensures) ∙ c .before .before .before .before .before .before .month .given .1) _ (sym (c .before .before .before .number-of3 .ensures) ∙ c .before .day .given .1))
+returns-7 c =
+    let at-month = after-month (c .before .before .before) in
+    let at-year = after-year (at-month .before .before) in
+    sym (date-whole _ (passed1-number-of3 (c .before .before .before) .if1 .left) (passed2 (c .before .before .before) .if2 .left)
+    (passed3-number-of3 (c .before .before .before) .if3 .left) _
+    (sym (at-year .before .before .number-of .ensures) ∙ at-year .year .given .1) _
+    (sym (at-month .before .before .number-of2 .ensures) ∙ at-month .month .given .1) _
+    (sym (c .before .before .before .number-of3 .ensures) ∙ c .before .day .given .1))
 
 pub date-of-spec : {M : Type 1} → statement M
 date-of-spec =

@@ -10,20 +10,41 @@ use Rattle.log.proofs.Splitting.{piece-begins, piece-goes-on, piece-end
 use Rattle.log.proofs.pieces.end_of.Statement.{statement}
 use Rattle.log.proofs.pieces.end_of.Tie as tie
 
+record Held (bytes : List ℕ) (at separator i : ℕ) : Type 0 where
+  low : at ≤ i
+  inside : i ≤ length bytes
+  known : (begun more : List ℕ)
+      → split separator begun (drop at bytes ++ more) ≡ split separator (begun ++ take (i - at) (drop at bytes)) (drop i bytes ++ more)
+
 abbrev Inv-loop : tie.InvT-loop
-Inv-loop bytes at separator i₀ i = (at ≤ i) × (i ≤ length bytes) × ((begun more : List ℕ) → split separator begun (drop at bytes ++ more) ≡ split separator (begun ++ take (i - at) (drop at bytes)) (drop i bytes ++ more))
+Inv-loop bytes at separator i₀ i = Held bytes at separator i
 
 abbrev μ-loop : tie.MeasureT-loop
 μ-loop bytes at separator i₀ i = length bytes - i
 
+-- ---- Places
+
+abbrev start : tie.After-shared-slice-known Inv-loop μ-loop → tie.Start Inv-loop μ-loop
+start c = c .before .before .before
+
+-- ---- Needs
+
 loop-holds : tie.Need-loop-holds Inv-loop μ-loop
-loop-holds c = (search needs, search needs, piece-begins (c .args .separator) (c .args .bytes .now) (c .args .at))
+loop-holds c =
+    record { low = search needs; inside = search needs; known = piece-begins (c .args .separator) (c .args .bytes .now) (c .args .at) }
 
 shared-slice-read-if1 : tie.Need-shared-slice-read-if1 Inv-loop μ-loop
 shared-slice-read-if1 c = search needs
 
 returns : tie.Need-returns Inv-loop μ-loop
-returns c = (search needs, search needs, λ begun more. c .before .before .before .loop .inv .2 begun more ∙ piece-ends (c .before .before .before .before .args .separator) (c .before .before .before .before .args .bytes .now) (c .before .before .before .before .args .at) (c .before .before .before .loop .i) (search needs) (search needs) (c .if1 .taken) begun more)
+returns c =
+    let begun-2 = start (c .before) in (
+      search needs,
+      search needs,
+      λ begun more. c .before .before .before .loop .inv .known begun more
+          ∙ piece-ends (begun-2 .args .separator) (begun-2 .args .bytes .now) (begun-2 .args .at) (c .before .before .before .loop .i)
+          (search needs) (search needs) (c .if1 .taken) begun more,
+    )
 
 add-i : tie.Need-add-i Inv-loop μ-loop
 add-i c = search needs
@@ -32,10 +53,25 @@ loop-less : tie.Need-loop-less Inv-loop μ-loop
 loop-less c = search needs
 
 loop-again : tie.Need-loop-again Inv-loop μ-loop
-loop-again c = (search needs, search needs, λ begun more. c .before .before .before .loop .inv .2 begun more ∙ piece-goes-on (c .before .before .before .before .args .separator) (c .before .before .before .before .args .bytes .now) (c .before .before .before .before .args .at) (c .before .before .before .loop .i) (search needs) (search needs) (c .if1 .left) begun more)
+loop-again c =
+    let begun-2 = start (c .before) in
+    record {
+      low = search needs;
+      inside = search needs;
+      known =
+          λ begun more. c .before .before .before .loop .inv .known begun more
+          ∙ piece-goes-on (begun-2 .args .separator) (begun-2 .args .bytes .now) (begun-2 .args .at) (c .before .before .before .loop .i)
+          (search needs) (search needs) (c .if1 .left) begun more;
+    }
 
 returns-2 : tie.Need-returns-2 Inv-loop μ-loop
-returns-2 c = (search needs, search needs, λ begun more. c .before .loop .inv .2 begun more ∙ bytes-end (c .before .before .args .separator) (c .before .before .args .bytes .now) (c .before .before .args .at) (c .before .loop .i) (search needs) (omega arith) begun more)
+returns-2 c = (
+  search needs,
+  search needs,
+  λ begun more. c .before .loop .inv .known begun more
+      ∙ bytes-end (c .before .before .args .separator) (c .before .before .args .bytes .now) (c .before .before .args .at)
+      (c .before .loop .i) (search needs) (omega arith) begun more,
+)
 
 pub end-of-spec : {M : Type 1} → statement M
 end-of-spec =

@@ -1,7 +1,8 @@
 -- `log::words::is_same` meets its contract.
+use mathlib.Core.List.{List}
 use borrow.Author.Needs.{needs}
 use mathlib.Core.Path.{_≡_, refl, sym, _∙_}
-use Prim.Native.Nat.{_≤_, _-_}
+use Prim.Native.Nat.{ℕ, _≤_, _-_}
 use native.Mathlib.Omega.{arith}
 use lib.ListN.{length, drop}
 use Rattle.log.specs.Words.{same}
@@ -9,17 +10,28 @@ use Rattle.log.proofs.Splitting.{same-length, same-next, same-not, same
 use Rattle.log.proofs.words.is_same.Statement.{statement}
 use Rattle.log.proofs.words.is_same.Tie as tie
 
+record Held (word other : List ℕ) (i : ℕ) : Type 0 where
+  inside : i ≤ length word
+  known : same word other ≡ same (drop i word) (drop i other)
+
 abbrev Inv-loop : tie.InvT-loop
-Inv-loop word other i₀ i = (i ≤ length word) × (same word other ≡ same (drop i word) (drop i other))
+Inv-loop word other i₀ i = Held word other i
 
 abbrev μ-loop : tie.MeasureT-loop
 μ-loop word other i₀ i = length word - i
+
+-- ---- Places
+
+abbrev at-loop : tie.After-shared-slice-known2 Inv-loop μ-loop → tie.At-loop Inv-loop μ-loop
+at-loop c = c .before .before .before
+
+-- ---- Needs
 
 returns : tie.Need-returns Inv-loop μ-loop
 returns c = sym (same-length (c .before .args .word .now) (c .before .args .other .now) (λ e. omega (arith, c .if1 .taken)))
 
 loop-holds : tie.Need-loop-holds Inv-loop μ-loop
-loop-holds c = (search needs, refl)
+loop-holds c = record { inside = search needs; known = refl }
 
 shared-slice-read-if2 : tie.Need-shared-slice-read-if2 Inv-loop μ-loop
 shared-slice-read-if2 c = search needs
@@ -28,7 +40,11 @@ shared-slice-read-if2-2 : tie.Need-shared-slice-read-if2-2 Inv-loop μ-loop
 shared-slice-read-if2-2 c = search needs
 
 returns-2 : tie.Need-returns-2 Inv-loop μ-loop
-returns-2 c = sym (c .before .before .before .before .loop .inv .1 ∙ same-not (c .before .before .before .before .before .before .args .word .now) (c .before .before .before .before .before .before .args .other .now) (c .before .before .before .before .loop .i) (search needs) (search needs) (c .if2 .taken))
+returns-2 c =
+    let looped = at-loop (c .before) in
+    sym (looped .loop .inv .known
+    ∙ same-not (looped .before .before .args .word .now) (looped .before .before .args .other .now) (looped .loop .i) (search needs)
+    (search needs) (c .if2 .taken))
 
 add-i : tie.Need-add-i Inv-loop μ-loop
 add-i c = search needs
@@ -37,10 +53,21 @@ loop-less : tie.Need-loop-less Inv-loop μ-loop
 loop-less c = search needs
 
 loop-again : tie.Need-loop-again Inv-loop μ-loop
-loop-again c = (search needs, c .before .before .before .before .loop .inv .1 ∙ same-next (c .before .before .before .before .before .before .args .word .now) (c .before .before .before .before .before .before .args .other .now) (c .before .before .before .before .loop .i) (search needs) (search needs) (c .if2 .left))
+loop-again c =
+    let looped = at-loop (c .before) in
+    record {
+      inside = search needs;
+      known =
+          looped .loop .inv .known
+          ∙ same-next (looped .before .before .args .word .now) (looped .before .before .args .other .now) (looped .loop .i) (search needs)
+          (search needs) (c .if2 .left);
+    }
 
 returns-3 : tie.Need-returns-3 Inv-loop μ-loop
-returns-3 c = sym (c .before .loop .inv .1 ∙ same-ends (c .before .before .before .args .word .now) (c .before .before .before .args .other .now) (c .before .loop .i) (omega arith) (c .before .before .if1 .left))
+returns-3 c =
+    sym (c .before .loop .inv .known
+    ∙ same-ends (c .before .before .before .args .word .now) (c .before .before .before .args .other .now) (c .before .loop .i)
+    (omega arith) (c .before .before .if1 .left))
 
 pub is-same-spec : {M : Type 1} → statement M
 is-same-spec =
