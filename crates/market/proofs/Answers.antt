@@ -19,14 +19,16 @@ use Rattle.market.specs.declared.Exported.the-variants.{Length, Refused}
 use Rattle.market.specs.declared.checks.Class.the-variants.{Plain, Digit}
 use Rattle.market.specs.Fields.{Texts}
 use Rattle.market.specs.Records.{record900}
-use Rattle.market.specs.Export.{contentOf, bodyOf, exportOf, allOf, identifierOk, timeOk, codesOk, suppliedTests, suppliedOk, answerFor, exportAnswer, exportAfter}
+use Rattle.market.specs.Export.{contentOf, bodyOf, exportOf, allOf, identifierOk, timeOk, codesOk, suppliedTests, suppliedOk}
+use Rattle.market.specs.Export.{answerFor, exportAnswer, exportAfter}
 use Rattle.line.specs.Inner.Writing.{capped, Added}
 use Rattle.line.proofs.Putting.{capped-low, capped-high, stored-all}
 
 -- ---- What is supplied
 
 supplied-parts : (a b c d e f g h i j k : Bool)
-    → (every ((a && b) ∷ (c && d) ∷ (e && f) ∷ (g && h) ∷ []) && every (i ∷ j ∷ k ∷ [])) ≡ every (a ∷ b ∷ c ∷ d ∷ e ∷ f ∷ g ∷ h ∷ i ∷ j ∷ k ∷ [])
+    → (every ((a && b) ∷ (c && d) ∷ (e && f) ∷ (g && h) ∷ []) && every (i ∷ j ∷ k ∷ []))
+    ≡ every (a ∷ b ∷ c ∷ d ∷ e ∷ f ∷ g ∷ h ∷ i ∷ j ∷ k ∷ [])
 supplied-parts a b c d e f g h i j k = simp (and-assoc, and-true)
 
 -- the header texts in pairs, and the others
@@ -41,8 +43,10 @@ pub supplied-by : (t : Texts) (codes : Codes)
     ≡ suppliedOk t codes
 unfolding suppliedOk
 supplied-by t codes =
-    supplied-parts (allOf Plain (t .from)) (allOf Plain (t .to)) (allOf Plain (t .configuration)) (allOf Plain (t .register)) (allOf Plain (t .suffix))
-    (allOf Plain (t .stream)) (allOf Plain (t .serial)) (allOf Plain (t .nextRead)) (allOf Plain (t .reason)) (timeOk (t .created)) (codesOk codes)
+    supplied-parts (allOf Plain (t .from)) (allOf Plain (t .to)) (allOf Plain (t .configuration)) (allOf Plain (t .register))
+    (allOf Plain (t .suffix))
+    (allOf Plain (t .stream)) (allOf Plain (t .serial)) (allOf Plain (t .nextRead)) (allOf Plain (t .reason)) (timeOk (t .created))
+    (codesOk codes)
 
 pub time-long : (t : Texts) (codes : Codes) → suppliedOk t codes ≡ true → length (t .created) ≡ 14
 unfolding suppliedOk timeOk
@@ -87,7 +91,8 @@ module _ (bs : List ℕ) (g : Figures) (e : readFile bs ≡ verdict.Accepted g) 
         unfolding exportOf
         long = length-append (bodyOf t (contentOf codes bs)) record900
 
-        pub refused-7 : leb (length (bodyOf t (contentOf codes bs)) + 5) (length out) ≡ false → (Refused 7 ≡ exportAnswer bs t codes out) × (out ≡ exportAfter bs t codes out)
+        pub refused-7 : leb (length (bodyOf t (contentOf codes bs)) + 5) (length out) ≡ false
+            → (Refused 7 ≡ exportAnswer bs t codes out) × (out ≡ exportAfter bs t codes out)
         unfolding exportAfter exportAnswer
         refused-7 p = rw (e, identifier, supplied, long, p) (refl, refl)
 
@@ -138,9 +143,12 @@ answered (verdict.Accepted g) true true false n m e = absurd (never e)
 answered (verdict.Accepted g) true true true n m e = record { figures = g; accepted = refl; supplied = refl; room = refl; long = cc }
 
 module _ (bs : List ℕ) (t : Texts) (codes : Codes) (out : List ℕ) (m : ℕ) (e : exportAnswer bs t codes out ≡ Length m) where
-  pub answer-is : Answered (readFile bs) (identifierOk (t .identifier)) (suppliedOk t codes) (leb (length (exportOf t (contentOf codes bs))) (length out)) (length (exportOf t (contentOf codes bs))) m
+  pub answer-is : Answered (readFile bs) (identifierOk (t .identifier)) (suppliedOk t codes)
+      (leb (length (exportOf t (contentOf codes bs))) (length out)) (length (exportOf t (contentOf codes bs))) m
   unfolding exportAnswer
-  answer-is = answered (readFile bs) (identifierOk (t .identifier)) (suppliedOk t codes) (leb (length (exportOf t (contentOf codes bs))) (length out)) (length (exportOf t (contentOf codes bs))) m e
+  answer-is =
+      answered (readFile bs) (identifierOk (t .identifier)) (suppliedOk t codes)
+      (leb (length (exportOf t (contentOf codes bs))) (length out)) (length (exportOf t (contentOf codes bs))) m e
 
   -- the buffer then holds so many bytes
   pub length-fits : m ≤ length (exportAfter bs t codes out)

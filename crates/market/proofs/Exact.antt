@@ -42,17 +42,21 @@ front-parts : (a b c d e f g h x r : List ℕ)
 front-parts a b c d e f g h x r = simp append-assoc
 
 split-200 : (identifier configuration register suffix stream serial nextRead : List ℕ) (l m : ℕ) → l < 2 ^ 32 → m < 2 ^ 32 → (r r′ : List ℕ)
-    → record200 identifier configuration register suffix stream serial l nextRead ++ r ≡ record200 identifier configuration register suffix stream serial m nextRead ++ r′
+    → record200 identifier configuration register suffix stream serial l nextRead ++ r
+    ≡ record200 identifier configuration register suffix stream serial m nextRead ++ r′
     → (l ≡ m) × (r ≡ r′)
 unfolding record200 fields
 split-200 identifier configuration register suffix stream serial nextRead l m p q r r′ e =
     let unit : List ℕ = field (107 ∷ 87 ∷ 104 ∷ []) in
-    let front : List ℕ = ascii "200" ++ (field identifier ++ (field configuration ++ (field register ++ (field suffix ++ (field stream ++ (field serial ++ unit)))))) in
+    let front : List ℕ = ascii "200" ++
+    (field identifier ++ (field configuration ++ (field register ++ (field suffix ++ (field stream ++ (field serial ++ unit)))))) in
     let end : List ℕ = nextRead ++ (13 ∷ 10 ∷ []) in
     let parts : (x s : List ℕ)
-    → (ascii "200" ++ (field identifier ++ (field configuration ++ (field register ++ (field suffix ++ (field stream ++ (field serial ++ (unit ++ x)))))))) ++ s
+    → (ascii "200" ++ (field identifier ++
+    (field configuration ++ (field register ++ (field suffix ++ (field stream ++ (field serial ++ (unit ++ x)))))))) ++ s
     ≡ front ++ (x ++ s) =
-    λ x s. front-parts (ascii "200") (field identifier) (field configuration) (field register) (field suffix) (field stream) (field serial) unit x s in
+    λ x s. front-parts (ascii "200") (field identifier) (field configuration) (field register) (field suffix) (field stream) (field serial)
+    unit x s in
     let flat =
     append-cancel-left front _ _
     (sym (parts (field (decimal l) ++ (44 ∷ end)) r) ∙ e ∙ parts (field (decimal m) ++ (44 ∷ end)) r′) in
@@ -73,7 +77,8 @@ record Sound (c : Content) : Type 0 where
   slots : Slots (c .value) (c .mark) (1440 / c .interval * c .days)
 
 -- the slots of a told list of days
-by-slot : (first first′ : ℕ) (v w : ℕ → ℕ) (mark other : ℕ → Mark) (n D : ℕ) → 1 ≤ n → ((d : ℕ) → 0 ≤ d → d < D → Told first first′ v w mark other n d)
+by-slot : (first first′ : ℕ) (v w : ℕ → ℕ) (mark other : ℕ → Mark) (n D : ℕ) → 1 ≤ n
+    → ((d : ℕ) → 0 ≤ d → d < D → Told first first′ v w mark other n d)
     → (i : ℕ) → i < n * D → (v i ≡ w i) × (mark i ≡ other i)
 by-slot first first′ v w mark other n D some told i l =
     let pos : 0 < n = omega arith in
@@ -90,19 +95,24 @@ content-told : (t : Texts) (c d : Content) → Sound c → Sound d → exportOf 
 unfolding exportOf bodyOf daysOf
 content-told t c d p q e =
     let head : List ℕ = record100 (t .created) (t .from) (t .to) in
-    let meter : ℕ → List ℕ = λ l. record200 (t .identifier) (t .configuration) (t .register) (t .suffix) (t .stream) (t .serial) l (t .nextRead) in
+    let meter : ℕ → List ℕ =
+    λ l. record200 (t .identifier) (t .configuration) (t .register) (t .suffix) (t .stream) (t .serial) l (t .nextRead) in
     let days : ℕ → Content → List ℕ = λ n x. daysOf (t .reason) (t .created) (x .first) (x .value) (x .mark) n (x .days) in
     let flat =
     append-cancel-left head _ _
-    (sym (body-parts head (meter (c .interval)) (days (1440 / c .interval) c) record900) ∙ e ∙ body-parts head (meter (d .interval)) (days (1440 / d .interval) d) record900) in
+    (sym (body-parts head (meter (c .interval)) (days (1440 / c .interval) c) record900) ∙ e
+    ∙ body-parts head (meter (d .interval)) (days (1440 / d .interval) d) record900) in
     let split =
-    split-200 (t .identifier) (t .configuration) (t .register) (t .suffix) (t .stream) (t .serial) (t .nextRead) (c .interval) (d .interval) (p .short) (q .short)
+    split-200 (t .identifier) (t .configuration) (t .register) (t .suffix) (t .stream) (t .serial) (t .nextRead) (c .interval) (d .interval)
+    (p .short) (q .short)
     (days (1440 / c .interval) c ++ record900) (days (1440 / d .interval) d ++ record900) flat in
     let n : ℕ = 1440 / c .interval in
     let same : days n c ++ record900 ≡ days n d ++ record900 = split .1 ∙ ap (λ (x : ℕ). days (1440 / x) d ++ record900) (sym (split .0)) in
-    let others : Slots (d .value) (d .mark) (n * d .days) = subst (λ (x : ℕ). Slots (d .value) (d .mark) (1440 / x * d .days)) (sym (split .0)) (q .slots) in
+    let others : Slots (d .value) (d .mark) (n * d .days) =
+    subst (λ (x : ℕ). Slots (d .value) (d .mark) (1440 / x * d .days)) (sym (split .0)) (q .slots) in
     let told =
-    days-split (t .reason) (t .created) (c .first) (d .first) (c .value) (d .value) (c .mark) (d .mark) n (c .days) (d .days) (p .few) (p .some) (p .slots) others (p .dates)
+    days-split (t .reason) (t .created) (c .first) (d .first) (c .value) (d .value) (c .mark) (d .mark) n (c .days) (d .days) (p .few)
+    (p .some) (p .slots) others (p .dates)
     (q .dates) (c .days) (d .days) 0 (omega arith) (omega arith) same in
     let slot = by-slot (c .first) (d .first) (c .value) (d .value) (c .mark) (d .mark) n (c .days) (p .some) (told .1) in
     let begun : 0 < c .days = omega (arith, p .begun) in
@@ -125,7 +135,8 @@ cond-le false x y p q = q
 code-le : (codes : Codes) → codesOk codes ≡ true → (method : ℕ) → codeFor codes method ≤ 99
 unfolding codesOk codeFor
 code-le codes ok method =
-    let tests = leb (codes .two) 99 ∷ leb (codes .three) 99 ∷ leb (codes .five) 99 ∷ leb (codes .eighteen) 99 ∷ leb (codes .nineteen) 99 ∷ [] in
+    let tests = leb (codes .two) 99 ∷ leb (codes .three) 99 ∷ leb (codes .five) 99 ∷ leb (codes .eighteen) 99 ∷ leb (codes .nineteen) 99
+    ∷ [] in
     cond-le (eqb method 2) _ _ (leb-true _ _ (passed tests ok 0))
     (cond-le (eqb method 3) _ _ (leb-true _ _ (passed tests ok 1))
     (cond-le (eqb method 5) _ _ (leb-true _ _ (passed tests ok 2))
@@ -144,7 +155,8 @@ not-v s ok e =
     let no : recordOk s ≡ false = rw e in
     false≢true (sym no ∙ ok)
 
-sound : (bs : List ℕ) → Bytes bs → (g : Figures) → readFile bs ≡ verdict.Accepted g → (t : Texts) (codes : Codes) → suppliedOk t codes ≡ true → Sound (contentOf codes bs)
+sound : (bs : List ℕ) → Bytes bs → (g : Figures) → readFile bs ≡ verdict.Accepted g → (t : Texts) (codes : Codes)
+    → suppliedOk t codes ≡ true → Sound (contentOf codes bs)
 unfolding contentOf suppliedOk markOf tablesOk
 sound bs b g e t codes ok =
     let all-passed = tests-passed bs g e in
@@ -180,7 +192,8 @@ module _ (bs : List ℕ) (t : Texts) (codes : Codes) (out : List ℕ) (m : ℕ) 
   written-is : take m (exportAfter bs t codes out) ≡ exportOf t (contentOf codes bs)
   unfolding exportAfter
   written-is =
-      rw (e, ← answer-is bs t codes out m e .long) (take-append-seam (exportOf t (contentOf codes bs)) (drop (length (exportOf t (contentOf codes bs))) out))
+      rw (e, ← answer-is bs t codes out m e .long)
+      (take-append-seam (exportOf t (contentOf codes bs)) (drop (length (exportOf t (contentOf codes bs))) out))
 
 pub equal-exactly : EqualExactly
 equal-exactly bs cs b c t codes out other m n e f =

@@ -24,11 +24,13 @@ joined-more : (f : ℕ → List ℕ) (a i : ℕ) → joined f a (i + 1) ≡ join
 unfolding joined
 joined-more f a i = rw (add-one i)
 
-pub joined-next : (f : ℕ → List ℕ) (a i : ℕ) {d e x : List ℕ} {at j k : ℕ} → Added d at e j (joined f a i) → Added e j x k (f (a + i)) → Added d at x k (joined f a (i + 1))
+pub joined-next : (f : ℕ → List ℕ) (a i : ℕ) {d e x : List ℕ} {at j k : ℕ} → Added d at e j (joined f a i) → Added e j x k (f (a + i))
+    → Added d at x k (joined f a (i + 1))
 joined-next f a i p q = same (sym (joined-more f a i)) (then p q)
 
 -- from place 0 on
-pub joined-next-0 : (f : ℕ → List ℕ) (i : ℕ) {d e x : List ℕ} {at j k : ℕ} → Added d at e j (joined f 0 i) → Added e j x k (f i) → Added d at x k (joined f 0 (i + 1))
+pub joined-next-0 : (f : ℕ → List ℕ) (i : ℕ) {d e x : List ℕ} {at j k : ℕ} → Added d at e j (joined f 0 i) → Added e j x k (f i)
+    → Added d at x k (joined f 0 (i + 1))
 joined-next-0 f i p q = joined-next f 0 i p (same (ap f (sym (zero-add i))) q)
 
 -- ---- Quality, method and reason
@@ -37,7 +39,8 @@ pub without-code : (m : Mark) (reason : List ℕ) → hasCode (m .letter) ≡ fa
 unfolding marked
 without-code m reason e = rw e
 
-pub with-code : (m : Mark) (reason : List ℕ) → hasCode (m .letter) ≡ true → (44 ∷ m .letter ∷ []) ++ (digits 2 (m .code) ++ (field reason ++ (44 ∷ []))) ≡ marked m reason
+pub with-code : (m : Mark) (reason : List ℕ) → hasCode (m .letter) ≡ true
+    → (44 ∷ m .letter ∷ []) ++ (digits 2 (m .code) ++ (field reason ++ (44 ∷ []))) ≡ marked m reason
 unfolding marked
 with-code m reason e = rw e
 
@@ -48,7 +51,8 @@ module _ (mark : ℕ → Mark) (a n : ℕ) where
   unfolding startOf
   start-none = refl
 
-  pub start-next : (j : ℕ) (ends : Bool) (start : ℕ) → ends ≡ endsRun mark a n j → start ≡ startOf mark a n j → cond ends (j + 1) start ≡ startOf mark a n (j + 1)
+  pub start-next : (j : ℕ) (ends : Bool) (start : ℕ) → ends ≡ endsRun mark a n j → start ≡ startOf mark a n j
+      → cond ends (j + 1) start ≡ startOf mark a n (j + 1)
   unfolding startOf
   start-next j ends start e s = rw (e, s, add-one j)
 
@@ -61,18 +65,22 @@ module _ (mark : ℕ → Mark) (a n : ℕ) where
       by-end true start l = omega arith
       by-end false start l = omega arith
 
-  pub run-piece : (reason : List ℕ) (j : ℕ) (ends : Bool) (start : ℕ) (m : Mark) → ends ≡ endsRun mark a n j → start ≡ startOf mark a n j → m ≡ mark (a + j)
-      → cond ends (record400 reason (start + 1) (j + 1) m) [] ≡ cond (endsRun mark a n j) (record400 reason (startOf mark a n j + 1) (j + 1) (mark (a + j))) []
+  pub run-piece : (reason : List ℕ) (j : ℕ) (ends : Bool) (start : ℕ) (m : Mark) → ends ≡ endsRun mark a n j → start ≡ startOf mark a n j
+      → m ≡ mark (a + j)
+      → cond ends (record400 reason (start + 1) (j + 1) m) []
+      ≡ cond (endsRun mark a n j) (record400 reason (startOf mark a n j + 1) (j + 1) (mark (a + j))) []
   run-piece reason j ends start m e s k = rw (e, s, k)
 
   -- ---- A day
 
-  module _ (reason created : List ℕ) (day : ℕ) (value : ℕ → ℕ) (one : Bool) (m : Mark) (e : one ≡ oneMark mark a n) (k : m ≡ dayMark one (mark a)) where
+  module _ (reason created : List ℕ) (day : ℕ) (value : ℕ → ℕ) (one : Bool) (m : Mark) (e : one ≡ oneMark mark a n)
+      (k : m ≡ dayMark one (mark a)) where
     pub day-alike : one ≡ true → record300 reason created day value a n m ≡ dayRecords reason created day value mark a n
     unfolding dayRecords
     day-alike t = rw (k, ← e, t) (sym (append-nil _))
 
-    pub day-varies : one ≡ false → record300 reason created day value a n m ++ runs reason mark a n ≡ dayRecords reason created day value mark a n
+    pub day-varies : one ≡ false
+        → record300 reason created day value a n m ++ runs reason mark a n ≡ dayRecords reason created day value mark a n
     unfolding dayRecords
     day-varies t = rw (k, ← e, t)
 

@@ -83,7 +83,8 @@ stop-split (b ∷ s) (c ∷ t) p q x y l m r r′ e =
     (ap₂ (λ (h : ℕ) (z : List ℕ). h ∷ z) (head-eq-of-cons-eq e) (rest .0), rest .1)
 
 -- a number, and what follows it
-pub decimal-split : (a b : ℕ) → a < 2 ^ 32 → b < 2 ^ 32 → (x y : ℕ) → x < 48 → y < 48 → (r r′ : List ℕ) → decimal a ++ (x ∷ r) ≡ decimal b ++ (y ∷ r′)
+pub decimal-split : (a b : ℕ) → a < 2 ^ 32 → b < 2 ^ 32 → (x y : ℕ) → x < 48 → y < 48 → (r r′ : List ℕ)
+    → decimal a ++ (x ∷ r) ≡ decimal b ++ (y ∷ r′)
     → (a ≡ b) × (r ≡ r′)
 unfolding decimal
 decimal-split a b l m x y p q r r′ e =
@@ -133,7 +134,8 @@ kwh-split v w l m r r′ e =
     let whole : v / 1000 < 2 ^ 32 = omega arith in
     let whole′ : w / 1000 < 2 ^ 32 = omega arith in
     let flat = sym (append-assoc (decimal (v / 1000)) (46 ∷ digits 3 v) r) ∙ e ∙ append-assoc (decimal (w / 1000)) (46 ∷ digits 3 w) r′ in
-    let front = decimal-split (v / 1000) (w / 1000) whole whole′ 46 46 (omega arith) (omega arith) (digits 3 v ++ r) (digits 3 w ++ r′) flat in
+    let front = decimal-split (v / 1000) (w / 1000) whole whole′ 46 46 (omega arith) (omega arith) (digits 3 v ++ r) (digits 3 w ++ r′)
+    flat in
     let back = width-split 3 v w r r′ (front .1) in
     (thousandths v w (front .0) (back .0), back .1)
 
@@ -179,7 +181,13 @@ unfolding dateField
 length-date n =
     let d = dateOf n in
     length-append (digits 4 (d .year)) (digits 2 (d .month) ++ digits 2 (d .day))
-    ∙ omega (arith, length-append (digits 2 (d .month)) (digits 2 (d .day)), length-digits 4 (d .year), length-digits 2 (d .month), length-digits 2 (d .day))
+    ∙ omega (
+      arith,
+      length-append (digits 2 (d .month)) (digits 2 (d .day)),
+      length-digits 4 (d .year),
+      length-digits 2 (d .month),
+      length-digits 2 (d .day),
+    )
 
 pub date-split : (m n : ℕ) → m < 36525 → n < 36525 → (r r′ : List ℕ) → dateField m ++ r ≡ dateField n ++ r′ → (m ≡ n) × (r ≡ r′)
 unfolding dateField
@@ -187,7 +195,8 @@ date-split m n l k r r′ e =
     let parts = even-split (dateField m) (dateField n) (length-date m ∙ sym (length-date n)) r r′ e in
     let d = dateOf m in
     let f = dateOf n in
-    let years = width-split 4 (d .year) (f .year) (digits 2 (d .month) ++ digits 2 (d .day)) (digits 2 (f .month) ++ digits 2 (f .day)) (parts .0) in
+    let years = width-split 4 (d .year) (f .year) (digits 2 (d .month) ++ digits 2 (d .day)) (digits 2 (f .month) ++ digits 2 (f .day))
+    (parts .0) in
     let months = width-split 2 (d .month) (f .month) (digits 2 (d .day)) (digits 2 (f .day)) (years .1) in
     let p = written m l in
     let q = written n k in

@@ -22,13 +22,15 @@ next-le : (i n : ℕ) → i < n → i + 1 ≤ n
 next-le i n l = omega arith
 
 module _ (reason : List ℕ) (mark : ℕ → Mark) (a n : ℕ) where
-  piece-ends : (j : ℕ) → endsRun mark a n j ≡ true → pieceAt reason mark a n j ≡ record400 reason (startOf mark a n j + 1) (j + 1) (mark (a + j))
+  piece-ends : (j : ℕ) → endsRun mark a n j ≡ true
+      → pieceAt reason mark a n j ≡ record400 reason (startOf mark a n j + 1) (j + 1) (mark (a + j))
   piece-ends j e = rw e
 
   piece-goes-on : (j : ℕ) → endsRun mark a n j ≡ false → pieceAt reason mark a n j ≡ []
   piece-goes-on j e = rw e
 
-  front : (r : List ℕ) (j k : ℕ) → joined (pieceAt reason mark a n) j (suc k) ++ r ≡ pieceAt reason mark a n j ++ (joined (pieceAt reason mark a n) (suc j) k ++ r)
+  front : (r : List ℕ) (j k : ℕ)
+      → joined (pieceAt reason mark a n) j (suc k) ++ r ≡ pieceAt reason mark a n j ++ (joined (pieceAt reason mark a n) (suc j) k ++ r)
   front r j k =
       ap (λ (x : List ℕ). x ++ r) (joined-front (pieceAt reason mark a n) j k)
       ∙ append-assoc (pieceAt reason mark a n j) (joined (pieceAt reason mark a n) (suc j) k) r
@@ -44,7 +46,8 @@ record FirstRun (reason text : List ℕ) (i n : ℕ) : Type 0 where
   before : end < n
   is : text ≡ record400 reason (start + 1) (end + 1) mark ++ rest
 
-first-run : (reason r : List ℕ) (mark : ℕ → Mark) (a n k i : ℕ) → i + k ≡ n → i < n → FirstRun reason (joined (pieceAt reason mark a n) i k ++ r) i n
+first-run : (reason r : List ℕ) (mark : ℕ → Mark) (a n k i : ℕ) → i + k ≡ n → i < n
+    → FirstRun reason (joined (pieceAt reason mark a n) i k ++ r) i n
 first-run reason r mark a n zero i e l = absurd (omega arith)
 first-run reason r mark a n (suc k) i e l =
     ⊎-elim
@@ -56,7 +59,9 @@ first-run reason r mark a n (suc k) i e l =
       begun = start-le mark a n i;
       after = omega arith;
       before = l;
-      is = front reason mark a n r i k ∙ ap (λ (x : List ℕ). x ++ (joined (pieceAt reason mark a n) (suc i) k ++ r)) (piece-ends reason mark a n i t);
+      is =
+          front reason mark a n r i k
+          ∙ ap (λ (x : List ℕ). x ++ (joined (pieceAt reason mark a n) (suc i) k ++ r)) (piece-ends reason mark a n i t);
     })
     (λ f.
     let not-last = goes-on mark a n i f .1 in
@@ -70,7 +75,9 @@ first-run reason r mark a n (suc k) i e l =
       begun = next .begun;
       after = omega (arith, next .after);
       before = next .before;
-      is = front reason mark a n r i k ∙ ap (λ (x : List ℕ). x ++ (joined (pieceAt reason mark a n) (suc i) k ++ r)) (piece-goes-on reason mark a n i f) ∙ next .is;
+      is =
+          front reason mark a n r i k
+          ∙ ap (λ (x : List ℕ). x ++ (joined (pieceAt reason mark a n) (suc i) k ++ r)) (piece-goes-on reason mark a n i f) ∙ next .is;
     })
     (either (endsRun mark a n i))
 
@@ -88,21 +95,24 @@ apart reason mark other a n few j k e r r′ t f h =
     ∙ next .is in
     let ends =
     split-ends reason (startOf mark a n j + 1) (next .start + 1) (j + 1) (next .end + 1) (omega (arith, start-le mark a n j))
-    (omega (arith, next .begun, next .before)) (omega arith) (omega (arith, next .before)) (mark (a + j)) (next .mark) r (next .rest) texts .0 in
+    (omega (arith, next .begun, next .before)) (omega arith) (omega (arith, next .before)) (mark (a + j)) (next .mark) r (next .rest)
+    texts .0 in
     omega (arith, ends, next .after)
 
 -- two days' slots from slot j on are alike, and so is what stands behind their runs
 abbrev pub AlikeFrom : (mark other : ℕ → Mark) (a n : ℕ) (r r′ : List ℕ) → ℕ → Type 0
 AlikeFrom mark other a n r r′ j = ((i : ℕ) → j ≤ i → i < n → mark (a + i) ≡ other (a + i)) × (r ≡ r′)
 
-alike-more : (mark other : ℕ → Mark) (a n : ℕ) (r r′ : List ℕ) (j : ℕ) → mark (a + j) ≡ other (a + j) → AlikeFrom mark other a n r r′ (suc j) → AlikeFrom mark other a n r r′ j
+alike-more : (mark other : ℕ → Mark) (a n : ℕ) (r r′ : List ℕ) (j : ℕ) → mark (a + j) ≡ other (a + j)
+    → AlikeFrom mark other a n r r′ (suc j) → AlikeFrom mark other a n r r′ j
 alike-more mark other a n r r′ j h next =
     (λ i l m. ⊎-elim (λ z. subst (λ (x : ℕ). mark (a + x) ≡ other (a + x)) z h) (λ k. next .0 i k m) (eq-or-lt-of-le l), next .1)
 
 -- one slot more
 module _
     (reason : List ℕ) (mark other : ℕ → Mark) (a n : ℕ) (few : n ≤ 288) (p : (j : ℕ) → j < n → Plainly (mark (a + j)))
-    (q : (j : ℕ) → j < n → Plainly (other (a + j))) (k j : ℕ) (e : j + suc k ≡ n) (s : startOf mark a n j ≡ startOf other a n j) (r r′ : List ℕ)
+    (q : (j : ℕ) → j < n → Plainly (other (a + j))) (k j : ℕ) (e : j + suc k ≡ n) (s : startOf mark a n j ≡ startOf other a n j)
+    (r r′ : List ℕ)
     (flat :
     pieceAt reason mark a n j ++ (joined (pieceAt reason mark a n) (suc j) k ++ r)
     ≡ pieceAt reason other a n j ++ (joined (pieceAt reason other a n) (suc j) k ++ r′))
@@ -114,12 +124,15 @@ module _
     both-end t u =
         let rest : List ℕ = joined (pieceAt reason mark a n) (suc j) k ++ r in
         let rest′ : List ℕ = joined (pieceAt reason other a n) (suc j) k ++ r′ in
-        let texts = sym (ap (λ (x : List ℕ). x ++ rest) (piece-ends reason mark a n j t)) ∙ flat ∙ ap (λ (x : List ℕ). x ++ rest′) (piece-ends reason other a n j u) in
+        let texts = sym (ap (λ (x : List ℕ). x ++ rest) (piece-ends reason mark a n j t)) ∙ flat
+        ∙ ap (λ (x : List ℕ). x ++ rest′) (piece-ends reason other a n j u) in
         let here : j < n = omega arith in
         let behind =
-        split-ends reason (startOf mark a n j + 1) (startOf other a n j + 1) (j + 1) (j + 1) (omega (arith, start-le mark a n j)) (omega (arith, start-le other a n j))
+        split-ends reason (startOf mark a n j + 1) (startOf other a n j + 1) (j + 1) (j + 1) (omega (arith, start-le mark a n j))
+        (omega (arith, start-le other a n j))
         (omega arith) (omega arith) (mark (a + j)) (other (a + j)) rest rest′ texts .1 in
-        let marks = marked-split (mark (a + j)) (other (a + j)) (p j here) (q j here) reason (fields [] ++ rest) (fields [] ++ rest′) behind in
+        let marks = marked-split (mark (a + j)) (other (a + j)) (p j here) (q j here) reason (fields [] ++ rest) (fields [] ++ rest′)
+        behind in
         alike-more mark other a n r r′ j (marks .0)
         (onward (start-after mark a n j t ∙ sym (start-after other a n j u)) (append-cancel-left (fields []) rest rest′ (marks .1)))
 
@@ -127,7 +140,8 @@ module _
     both-go-on t u =
         let rest : List ℕ = joined (pieceAt reason mark a n) (suc j) k ++ r in
         let rest′ : List ℕ = joined (pieceAt reason other a n) (suc j) k ++ r′ in
-        let texts = sym (ap (λ (x : List ℕ). x ++ rest) (piece-goes-on reason mark a n j t)) ∙ flat ∙ ap (λ (x : List ℕ). x ++ rest′) (piece-goes-on reason other a n j u) in
+        let texts = sym (ap (λ (x : List ℕ). x ++ rest) (piece-goes-on reason mark a n j t)) ∙ flat
+        ∙ ap (λ (x : List ℕ). x ++ rest′) (piece-goes-on reason other a n j u) in
         let next = onward (start-stays mark a n j t ∙ s ∙ sym (start-stays other a n j u)) texts in
         let one = goes-on mark a n j t in
         let two = goes-on other a n j u in
@@ -137,8 +151,12 @@ module _
     run-step : AlikeFrom mark other a n r r′ j
     run-step =
         ⊎-elim
-        (λ t. ⊎-elim (λ u. both-end t u) (λ u. absurd (apart reason mark other a n few j k e (joined (pieceAt reason mark a n) (suc j) k ++ r) r′ t u flat)) (either (endsRun other a n j)))
-        (λ t. ⊎-elim (λ u. absurd (apart reason other mark a n few j k e (joined (pieceAt reason other a n) (suc j) k ++ r′) r u t (sym flat))) (λ u. both-go-on t u) (either (endsRun other a n j)))
+        (λ t. ⊎-elim (λ u. both-end t u)
+        (λ u. absurd (apart reason mark other a n few j k e (joined (pieceAt reason mark a n) (suc j) k ++ r) r′ t u flat))
+        (either (endsRun other a n j)))
+        (λ t. ⊎-elim (λ u. absurd
+        (apart reason other mark a n few j k e (joined (pieceAt reason other a n) (suc j) k ++ r′) r u t (sym flat))) (λ u. both-go-on t u)
+        (either (endsRun other a n j)))
         (either (endsRun mark a n j))
 
 -- two days' runs from slot j on

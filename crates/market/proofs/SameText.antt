@@ -45,7 +45,8 @@ module _ (mark other : ℕ → Mark) (a n : ℕ) (h : (i : ℕ) → a ≤ i → 
       (λ e.
       let near : j + 1 ≤ n = omega arith in
       let inside : j + 1 < n = ⊎-elim (λ z. absurd (eqb-false (j + 1) n e z)) (λ m. m) (eq-or-lt-of-le near) in
-      ap₂ (λ (p q : Mark). eqb (j + 1) n || not (alike p q)) (h (a + j) (omega arith) (omega arith)) (h (a + (j + 1)) (omega arith) (omega arith)))
+      ap₂ (λ (p q : Mark). eqb (j + 1) n || not (alike p q)) (h (a + j) (omega arith) (omega arith))
+      (h (a + (j + 1)) (omega arith) (omega arith)))
       (either (eqb (j + 1) n))
 
   start-alike : (j : ℕ) → j ≤ n → startOf mark a n j ≡ startOf other a n j
@@ -69,9 +70,11 @@ module _ (mark other : ℕ → Mark) (a n : ℕ) (h : (i : ℕ) → a ≤ i → 
       let values : joined (λ i. field (kwh (v i))) a n ≡ joined (λ i. field (kwh (w i))) a n =
       joined-same (λ i. field (kwh (v i))) (λ i. field (kwh (w i))) a n (λ i l m. ap (λ (x : ℕ). field (kwh x)) (g i l m)) in
       let ones = one-alike some in
-      let marks : dayMark (oneMark mark a n) (mark a) ≡ dayMark (oneMark other a n) (other a) = ap₂ dayMark ones (h a (omega arith) (omega arith)) in
+      let marks : dayMark (oneMark mark a n) (mark a) ≡ dayMark (oneMark other a n) (other a) =
+      ap₂ dayMark ones (h a (omega arith) (omega arith)) in
       ap₂ (λ (x y : List ℕ). x ++ y)
-      (ap₂ (λ (x : List ℕ) (m : Mark). (51 ∷ 48 ∷ 48 ∷ []) ++ (field (dateField day) ++ (x ++ (marked m reason ++ fields (created ∷ [] ∷ []))))) values marks)
+      (ap₂ (λ (x : List ℕ) (m : Mark). (51 ∷ 48 ∷ 48 ∷ []) ++
+      (field (dateField day) ++ (x ++ (marked m reason ++ fields (created ∷ [] ∷ []))))) values marks)
       (ap₂ (λ (o : Bool) (x : List ℕ). cond o [] x) ones (runs-alike reason))
 
 -- an export from its parts
@@ -84,7 +87,8 @@ days-same : (t : Texts) (first days interval : ℕ) (v w : ℕ → ℕ) (mark ot
 unfolding exportOf bodyOf daysOf
 days-same t first days interval v w mark other some g h =
     let n : ℕ = 1440 / interval in
-    let parts : joined (λ d. dayRecords (t .reason) (t .created) (first + d) v mark (d * n) n) 0 days ≡ joined (λ d. dayRecords (t .reason) (t .created) (first + d) w other (d * n) n) 0 days =
+    let parts : joined (λ d. dayRecords (t .reason) (t .created) (first + d) v mark (d * n) n) 0 days
+    ≡ joined (λ d. dayRecords (t .reason) (t .created) (first + d) w other (d * n) n) 0 days =
     joined-same _ _ 0 days
     (λ d l m.
     let here : d < days = omega arith in

@@ -45,15 +45,18 @@ behind-split true a b l m p q reason r r′ e =
 behind-split false a b l m p q reason r r′ e =
     (p refl ∙ sym (q refl), tail-eq-of-cons-eq (tail-eq-of-cons-eq e))
 
-pub marked-split : (p q : Mark) → Plainly p → Plainly q → (reason r r′ : List ℕ) → marked p reason ++ r ≡ marked q reason ++ r′ → (p ≡ q) × (r ≡ r′)
+pub marked-split : (p q : Mark) → Plainly p → Plainly q → (reason r r′ : List ℕ) → marked p reason ++ r ≡ marked q reason ++ r′
+    → (p ≡ q) × (r ≡ r′)
 unfolding marked behind
 marked-split p q a b reason r r′ e =
     let letters : p .letter ≡ q .letter = head-eq-of-cons-eq (tail-eq-of-cons-eq e) in
-    let rest : behind (hasCode (p .letter)) (p .code) reason ++ r ≡ behind (hasCode (q .letter)) (q .code) reason ++ r′ = tail-eq-of-cons-eq (tail-eq-of-cons-eq e) in
+    let rest : behind (hasCode (p .letter)) (p .code) reason ++ r ≡ behind (hasCode (q .letter)) (q .code) reason ++ r′ =
+    tail-eq-of-cons-eq (tail-eq-of-cons-eq e) in
     let alone : behind (hasCode (p .letter)) (p .code) reason ++ r ≡ behind (hasCode (p .letter)) (q .code) reason ++ r′ =
     rest ∙ ap (λ (l : ℕ). behind (hasCode l) (q .code) reason ++ r′) (sym letters) in
     let parts =
-    behind-split (hasCode (p .letter)) (p .code) (q .code) (a .small) (b .small) (a .none) (λ n. b .none (ap hasCode (sym letters) ∙ n)) reason r r′ alone in
+    behind-split (hasCode (p .letter)) (p .code) (q .code) (a .small) (b .small) (a .none) (λ n. b .none (ap hasCode (sym letters) ∙ n))
+    reason r r′ alone in
     (same-mark p q letters (parts .0), parts .1)
 
 -- ---- A list of texts
@@ -107,8 +110,10 @@ split-300 reason created day day′ l l′ v w a n p p′ m m′ q q′ r r′ e
     let f : ℕ → List ℕ = λ i. field (kwh (v i)) in
     let g : ℕ → List ℕ = λ i. field (kwh (w i)) in
     let inner = tail-eq-of-cons-eq (tail-eq-of-cons-eq (tail-eq-of-cons-eq (tail-eq-of-cons-eq e))) in
-    let dated = sym (parts (dateField day) (joined f a n) (marked m reason) end r) ∙ inner ∙ parts (dateField day′) (joined g a n) (marked m′ reason) end r′ in
-    let date = date-split day day′ l l′ (joined f a n ++ (marked m reason ++ (end ++ r))) (joined g a n ++ (marked m′ reason ++ (end ++ r′))) dated in
+    let dated = sym (parts (dateField day) (joined f a n) (marked m reason) end r) ∙ inner
+    ∙ parts (dateField day′) (joined g a n) (marked m′ reason) end r′ in
+    let date = date-split day day′ l l′ (joined f a n ++ (marked m reason ++ (end ++ r)))
+    (joined g a n ++ (marked m′ reason ++ (end ++ r′))) dated in
     let valued =
     joined-split f g (λ i. v i ≡ w i) a n (λ i j k s s′ x. kwh-split (v i) (w i) (p i) (p′ i) s s′ (tail-eq-of-cons-eq x))
     (marked m reason ++ (end ++ r)) (marked m′ reason ++ (end ++ r′)) (date .1) in
@@ -125,7 +130,8 @@ pub split-ends : (reason : List ℕ) (s t e f : ℕ) → s < 2 ^ 32 → t < 2 ^ 
 unfolding record400 marked
 split-ends reason s t e f l l′ k k′ m m′ r r′ x =
     let inner = tail-eq-of-cons-eq (tail-eq-of-cons-eq (tail-eq-of-cons-eq (tail-eq-of-cons-eq x))) in
-    let flat = sym (parts (decimal s) (field (decimal e)) (marked m reason) (fields []) r) ∙ inner ∙ parts (decimal t) (field (decimal f)) (marked m′ reason) (fields []) r′ in
+    let flat = sym (parts (decimal s) (field (decimal e)) (marked m reason) (fields []) r) ∙ inner
+    ∙ parts (decimal t) (field (decimal f)) (marked m′ reason) (fields []) r′ in
     let starts = decimal-split s t l l′ 44 44 (omega arith) (omega arith) _ _ flat in
     let ends = decimal-split e f k k′ 44 44 (omega arith) (omega arith) _ _ (starts .1) in
     (ends .0, ap (λ (z : List ℕ). 44 ∷ z) (ends .1))

@@ -12,23 +12,58 @@ use borrow.Author.Needs.{needs}
 use Rattle.market.proofs.export_in.Statement.{statement}
 use Rattle.market.proofs.export_in.Tie as tie
 
+-- ---- Places
+
+abbrev start : tie.After-slice-known → tie.Start
+start c = c .before .before .before .before .before .before .before .before .before .before .before .before .before
+
+abbrev start-passed1 : tie.Else1 → tie.Start
+start-passed1 c = start (c .before .before .before)
+
+abbrev after-put-body : tie.After-out2 → tie.After-put-body
+after-put-body c = c .before .before .before .before .before .before
+
+abbrev after-is-room : tie.After-out2 → tie.After-is-room
+after-is-room c = after-put-body c .before .before .before
+
+-- ---- Needs
+
 body-length-requires : tie.Need-body-length-requires
-body-length-requires c κs = let a = c .before .before .before .before .before .before .before .before .before .before .before .before .before .args in
-    (c .before .before .before .before .before .before .before .before .before .before .before .before .before .pre .0, time-long (texts (a .identifier .now) (a .from .now) (a .to .now) (a .configuration .now) (a .register .now) (a .suffix .now) (a .stream .now) (a .serial .now) (a .next-read .now) (a .reason .now) (a .created .now)) (a .codes) (c .before .before .before .before .before .before .before .before .before .before .before .before .before .pre .2))
+body-length-requires c κs =
+    let begun = start c in
+    let a = begun .args in (
+      begun .pre .0,
+      time-long
+          (texts (a .identifier .now) (a .from .now) (a .to .now) (a .configuration .now) (a .register .now) (a .suffix .now)
+          (a .stream .now)
+          (a .serial .now) (a .next-read .now) (a .reason .now) (a .created .now)) (a .codes) (begun .pre .2),
+    )
 
 is-room-requires : tie.Need-is-room-requires
 is-room-requires c κs = search needs
 
 returns : tie.Need-returns
-returns c = let a = c .before .before .before .before .before .before .before .before .before .before .before .before .before .before .before .before .args in
-    let t = (texts (a .identifier .now) (a .from .now) (a .to .now) (a .configuration .now) (a .register .now) (a .suffix .now) (a .stream .now) (a .serial .now) (a .next-read .now) (a .reason .now) (a .created .now)) in
+returns c =
+    let begun = start (c .before .before .before) in
+    let a = begun .args in
+    let t = (texts (a .identifier .now) (a .from .now) (a .to .now) (a .configuration .now) (a .register .now) (a .suffix .now)
+    (a .stream .now) (a .serial .now) (a .next-read .now) (a .reason .now) (a .created .now)) in
     let n = length (bodyOf t (contentOf (a .codes) (a .file .now))) in
-    let no = sym (room-for n (length (a .out .now)) (c .before .is-room .ensures .1)) ∙ ap (λ x. leb (x + 5) (length (a .out .now))) (sym (c .before .before .body-length .ensures)) ∙ sym (c .before .is-room .ensures .0) ∙ not-true _ (c .if1 .taken) in
-    refused-7 (a .file .now) (a .g) (c .before .before .before .before .before .before .before .before .before .before .before .before .before .before .before .before .pre .0) t (a .codes) (a .out .now) (c .before .before .before .before .before .before .before .before .before .before .before .before .before .before .before .before .pre .1) (c .before .before .before .before .before .before .before .before .before .before .before .before .before .before .before .before .pre .2) no
+    let no = sym (room-for n (length (a .out .now)) (c .before .is-room .ensures .1))
+    ∙ ap (λ x. leb (x + 5) (length (a .out .now))) (sym (c .before .before .body-length .ensures)) ∙ sym (c .before .is-room .ensures .0)
+    ∙ not-true _ (c .if1 .taken) in
+    refused-7 (a .file .now) (a .g) (begun .pre .0) t (a .codes) (a .out .now) (begun .pre .1) (begun .pre .2) no
 
 put-body-requires : tie.Need-put-body-requires
-put-body-requires c κs = let a = c .before .before .before .before .before .before .before .before .before .before .before .before .before .before .before .before .before .args in
-    (c .before .before .before .before .before .before .before .before .before .before .before .before .before .before .before .before .before .pre .0, time-long (texts (a .identifier .now) (a .from .now) (a .to .now) (a .configuration .now) (a .register .now) (a .suffix .now) (a .stream .now) (a .serial .now) (a .next-read .now) (a .reason .now) (a .created .now)) (a .codes) (c .before .before .before .before .before .before .before .before .before .before .before .before .before .before .before .before .before .pre .2))
+put-body-requires c κs =
+    let begun = start-passed1 (c .before) in
+    let a = begun .args in (
+      begun .pre .0,
+      time-long
+          (texts (a .identifier .now) (a .from .now) (a .to .now) (a .configuration .now) (a .register .now) (a .suffix .now)
+          (a .stream .now)
+          (a .serial .now) (a .next-read .now) (a .reason .now) (a .created .now)) (a .codes) (begun .pre .2),
+    )
 
 slice-aggregate-put-text : tie.Need-slice-aggregate-put-text
 slice-aggregate-put-text c = search needs
@@ -41,12 +76,18 @@ same-length c = search needs
 
 returns-2 : tie.Need-returns-2
 unfolding exportOf
-returns-2 c = let a = c .before .before .before .before .before .before .before .before .before .before .before .before .before .before .before .before .before .before .before .before .before .before .before .before .before .args in
-    let t = (texts (a .identifier .now) (a .from .now) (a .to .now) (a .configuration .now) (a .register .now) (a .suffix .now) (a .stream .now) (a .serial .now) (a .next-read .now) (a .reason .now) (a .created .now)) in
-    let added = then (c .before .before .before .before .before .before .before .put-body .ensures) (c .before .before .put-text .ensures) in
+returns-2 c =
+    let at-put-body = after-put-body (c .before) in
+    let begun = start-passed1 (at-put-body .before .before) in
+    let a = begun .args in
+    let t = (texts (a .identifier .now) (a .from .now) (a .to .now) (a .configuration .now) (a .register .now) (a .suffix .now)
+    (a .stream .now) (a .serial .now) (a .next-read .now) (a .reason .now) (a .created .now)) in
+    let added = then (at-put-body .put-body .ensures) (c .before .before .put-text .ensures) in
     let n = length (bodyOf t (contentOf (a .codes) (a .file .now))) in
-    let yes = sym (room-for n (length (a .out .now)) (added .fits)) ∙ ap (λ x. leb (x + 5) (length (a .out .now))) (sym (c .before .before .before .before .before .before .before .before .before .before .before .body-length .ensures)) ∙ sym (c .before .before .before .before .before .before .before .before .before .before .is-room .ensures .0) ∙ not-false _ (c .before .before .before .before .before .before .before .before .before .if1 .left) in
-    exported (a .file .now) (a .g) (c .before .before .before .before .before .before .before .before .before .before .before .before .before .before .before .before .before .before .before .before .before .before .before .before .before .pre .0) t (a .codes) (a .out .now) (c .before .before .before .before .before .before .before .before .before .before .before .before .before .before .before .before .before .before .before .before .before .before .before .before .before .pre .1) (c .before .before .before .before .before .before .before .before .before .before .before .before .before .before .before .before .before .before .before .before .before .before .before .before .before .pre .2) _ _ yes added
+    let yes = sym (room-for n (length (a .out .now)) (added .fits))
+    ∙ ap (λ x. leb (x + 5) (length (a .out .now))) (sym (after-is-room (c .before) .before .body-length .ensures))
+    ∙ sym (after-is-room (c .before) .is-room .ensures .0) ∙ not-false _ (at-put-body .before .before .if1 .left) in
+    exported (a .file .now) (a .g) (begun .pre .0) t (a .codes) (a .out .now) (begun .pre .1) (begun .pre .2) _ _ yes added
 
 pub export-in-spec : {M : Type 1} → statement M
 export-in-spec =

@@ -6,6 +6,16 @@ use borrow.Author.Needs.{needs}
 use Rattle.market.proofs.nem12.Statement.{statement}
 use Rattle.market.proofs.nem12.Tie as tie
 
+-- ---- Places
+
+abbrev start : tie.After-read → tie.Start
+start c = c .before .before .before .before .before .before .before .before .before .before .before .before .before .before
+
+abbrev after-read : tie.After-export-of-arg → tie.After-read
+after-read c = c .before .before .before .before
+
+-- ---- Needs
+
 read-requires : tie.Need-read-requires
 read-requires c κs = search needs
 
@@ -13,7 +23,7 @@ enum-known-g : tie.Need-enum-known-g
 enum-known-g c = search needs
 
 export-of-requires : tie.Need-export-of-requires
-export-of-requires c κs = sym (c .before .before .before .before .read .ensures) ∙ c .before .before .g .given .1
+export-of-requires c κs = sym (after-read c .read .ensures) ∙ c .before .before .g .given .1
 
 enum-known-number : tie.Need-enum-known-number
 enum-known-number c = search needs
@@ -25,8 +35,10 @@ returns : tie.Need-returns
 returns c = search needs
 
 returns-2 : tie.Need-returns-2
-returns-2 c = let a = c .before .before .before .before .before .before .before .before .before .before .before .before .before .before .before .before .before .args in
-    refused-by-reader (a .file .now) _ (sym (c .before .before .before .read .ensures) ∙ c .before .number .given .1) (texts (a .identifier .now) (a .from .now) (a .to .now) (a .configuration .now) (a .register .now) (a .suffix .now) (a .stream .now) (a .serial .now) (a .next-read .now) (a .reason .now) (a .created .now)) (a .codes) (a .out .now)
+returns-2 c = let a = start (c .before .before .before) .args in
+    refused-by-reader (a .file .now) _ (sym (c .before .before .before .read .ensures) ∙ c .before .number .given .1)
+    (texts (a .identifier .now) (a .from .now) (a .to .now) (a .configuration .now) (a .register .now) (a .suffix .now) (a .stream .now)
+    (a .serial .now) (a .next-read .now) (a .reason .now) (a .created .now)) (a .codes) (a .out .now)
 
 pub nem12-spec : {M : Type 1} → statement M
 nem12-spec =

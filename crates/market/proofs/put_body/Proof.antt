@@ -14,6 +14,22 @@ use borrow.Author.Needs.{needs}
 use Rattle.market.proofs.put_body.Statement.{statement}
 use Rattle.market.proofs.put_body.Tie as tie
 
+-- ---- Places
+
+abbrev start : tie.After-put-100 → tie.Start
+start c = c .before .before .before .before .before .before .before .before .before .before .before .before .before .before .before
+
+abbrev after-put-100 : tie.After-put-200 → tie.After-put-100
+after-put-100 c = c .before .before .before .before
+
+abbrev after-put-200 : tie.After-put-days-arg → tie.After-put-200
+after-put-200 c = c .before .before .before .before
+
+abbrev start-put-days-arg : tie.After-put-days-arg → tie.Start
+start-put-days-arg c = start (c .before .before .before .before .before .before .before .before)
+
+-- ---- Needs
+
 put-100-requires : tie.Need-put-100-requires
 put-100-requires c κs = search needs
 
@@ -24,11 +40,11 @@ cast-n : tie.Need-cast-n
 cast-n c = search needs
 
 div-n : tie.Need-div-n
-div-n c = omega (arith, some-interval _ _ (c .before .before .before .before .before .before .before .before .before .before .before .before .before .before .before .before .before .before .before .before .before .before .pre .0))
+div-n c = omega (arith, some-interval _ _ (start (after-put-100 (c .before .before .before)) .pre .0))
 
 put-days-requires : tie.Need-put-days-requires
 put-days-requires c κs =
-    let accepted = c .before .before .before .before .before .before .before .before .before .before .before .before .before .before .before .before .before .before .before .before .before .before .before .pre .0 in
+    let accepted = start-put-days-arg c .pre .0 in
     (tabled _ _ accepted, dates-le _ _ accepted)
 
 same-length : tie.Need-same-length
@@ -36,11 +52,18 @@ same-length c = search needs
 
 returns : tie.Need-returns
 unfolding contentOf bodyOf
-returns c = let a = c .before .before .before .before .before .before .before .before .before .before .before .before .before .before .before .before .before .before .before .before .before .before .before .before .before .before .args in
+returns c =
+    let at-put-200 = after-put-200 (c .before .before .before) in
+    let begun = start-put-days-arg (c .before .before .before) in
+    let a = begun .args in
     let figured = ap (λ (f : Figures). record100 (a .created .now) (a .from .now) (a .to .now)
-    ++ (record200 (a .identifier .now) (a .configuration .now) (a .register .now) (a .suffix .now) (a .stream .now) (a .serial .now) (f .interval) (a .next-read .now)
-    ++ daysOf (a .reason .now) (a .created .now) (f .first) (λ i. slotAt (a .file .now) i .value) (λ i. markOf (a .codes) (slotAt (a .file .now) i)) (1440 / f .interval) (f .days))) (sym (figures-are (a .file .now) (a .g) (c .before .before .before .before .before .before .before .before .before .before .before .before .before .before .before .before .before .before .before .before .before .before .before .before .before .before .pre .0))) in
-    same figured (then (c .before .before .before .before .before .before .before .before .before .before .before .put-100 .ensures) (then (c .before .before .before .before .before .before .before .put-200 .ensures) (c .before .before .put-days .ensures)))
+    ++ (record200 (a .identifier .now) (a .configuration .now) (a .register .now) (a .suffix .now) (a .stream .now) (a .serial .now)
+    (f .interval) (a .next-read .now)
+    ++ daysOf (a .reason .now) (a .created .now) (f .first) (λ i. slotAt (a .file .now) i .value)
+    (λ i. markOf (a .codes) (slotAt (a .file .now) i)) (1440 / f .interval) (f .days))) (sym (figures-are (a .file .now) (a .g)
+    (begun .pre .0))) in
+    same figured (then (after-put-100 at-put-200 .put-100 .ensures)
+    (then (at-put-200 .put-200 .ensures) (c .before .before .put-days .ensures)))
 
 pub put-body-spec : {M : Type 1} → statement M
 put-body-spec =

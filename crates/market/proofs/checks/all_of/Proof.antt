@@ -1,7 +1,9 @@
 -- `checks::all_of` meets its contract.
+use mathlib.Core.List.{List}
+use Rattle.market.specs.declared.checks.Class.{Class}
 use borrow.Author.Needs.{needs}
 use mathlib.Core.Path.{_≡_, sym, _∙_}
-use Prim.Native.Nat.{_≤_, _-_}
+use Prim.Native.Nat.{ℕ, _≤_, _-_}
 use native.Mathlib.Nat.{sub-zero}
 use borrow.Author.Tests.{not-true, not-false}
 use lib.ListN.{length, getD}
@@ -11,15 +13,26 @@ use Rattle.market.specs.Export.{inClass, allOf}
 use Rattle.market.proofs.checks.all_of.Statement.{statement}
 use Rattle.market.proofs.checks.all_of.Tie as tie
 
+record Held (class : Class) (text : List ℕ) (i : ℕ) : Type 0 where
+  inside : i ≤ length text
+  known : allOf class text ≡ all (λ j. inClass class (getD text j 0)) i (length text - i)
+
 abbrev Inv-loop : tie.InvT-loop
-Inv-loop class text i₀ i = (i ≤ length text) × (allOf class text ≡ all (λ j. inClass class (getD text j 0)) i (length text - i))
+Inv-loop class text i₀ i = Held class text i
 
 abbrev μ-loop : tie.MeasureT-loop
 μ-loop class text i₀ i = length text - i
 
+-- ---- Places
+
+abbrev at-loop : tie.After-is-in Inv-loop μ-loop → tie.At-loop Inv-loop μ-loop
+at-loop c = c .before .before .before
+
+-- ---- Needs
+
 loop-holds : tie.Need-loop-holds Inv-loop μ-loop
 unfolding allOf
-loop-holds c = (search needs, rw sub-zero)
+loop-holds c = record { inside = search needs; known = rw sub-zero }
 
 shared-slice-read-is-in : tie.Need-shared-slice-read-is-in Inv-loop μ-loop
 shared-slice-read-is-in c = search needs
@@ -28,7 +41,9 @@ is-in-requires : tie.Need-is-in-requires Inv-loop μ-loop
 is-in-requires c κs = search needs
 
 returns : tie.Need-returns Inv-loop μ-loop
-returns c = sym (c .before .before .before .before .loop .inv .1 ∙ all-fails _ (c .before .before .before .before .loop .i) _ (search needs) (sym (c .before .is-in .ensures) ∙ not-true _ (c .if1 .taken)))
+returns c =
+    sym (at-loop (c .before) .loop .inv .known
+    ∙ all-fails _ (at-loop (c .before) .loop .i) _ (search needs) (sym (c .before .is-in .ensures) ∙ not-true _ (c .if1 .taken)))
 
 add-i : tie.Need-add-i Inv-loop μ-loop
 add-i c = search needs
@@ -37,10 +52,16 @@ loop-less : tie.Need-loop-less Inv-loop μ-loop
 loop-less c = search needs
 
 loop-again : tie.Need-loop-again Inv-loop μ-loop
-loop-again c = (search needs, c .before .before .before .before .loop .inv .1 ∙ all-more _ (c .before .before .before .before .loop .i) _ (search needs) (sym (c .before .is-in .ensures) ∙ not-false _ (c .if1 .left)))
+loop-again c =
+    record {
+      inside = search needs;
+      known =
+          at-loop (c .before) .loop .inv .known
+          ∙ all-more _ (at-loop (c .before) .loop .i) _ (search needs) (sym (c .before .is-in .ensures) ∙ not-false _ (c .if1 .left));
+    }
 
 returns-2 : tie.Need-returns-2 Inv-loop μ-loop
-returns-2 c = sym (c .before .loop .inv .1 ∙ all-done _ (c .before .loop .i) _ (search needs))
+returns-2 c = sym (c .before .loop .inv .known ∙ all-done _ (c .before .loop .i) _ (search needs))
 
 pub all-of-spec : {M : Type 1} → statement M
 all-of-spec =

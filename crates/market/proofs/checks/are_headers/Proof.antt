@@ -6,6 +6,16 @@ use borrow.Author.Needs.{needs}
 use Rattle.market.proofs.checks.are_headers.Statement.{statement}
 use Rattle.market.proofs.checks.are_headers.Tie as tie
 
+-- ---- Places
+
+abbrev after-are-plain2 : tie.Then3 → tie.After-are-plain2
+after-are-plain2 c = c .before .before .before
+
+abbrev after-are-plain2-are-plain4 : tie.After-are-plain4 → tie.After-are-plain2
+after-are-plain2-are-plain4 c = c .before .before .before .before
+
+-- ---- Needs
+
 are-plain-requires : tie.Need-are-plain-requires
 are-plain-requires c κs = search needs
 
@@ -16,19 +26,35 @@ are-plain-requires-2 : tie.Need-are-plain-requires-2
 are-plain-requires-2 c κs = search needs
 
 returns-2 : tie.Need-returns-2
-returns-2 c = rw (sym (c .before .before .before .are-plain .ensures) ∙ not-false _ (c .before .before .if1 .left), sym (c .before .are-plain2 .ensures) ∙ not-true _ (c .if2 .taken))
+returns-2 c =
+    rw (
+      sym (c .before .before .before .are-plain .ensures) ∙ not-false _ (c .before .before .if1 .left),
+      sym (c .before .are-plain2 .ensures) ∙ not-true _ (c .if2 .taken),
+    )
 
 are-plain-requires-3 : tie.Need-are-plain-requires-3
 are-plain-requires-3 c κs = search needs
 
 returns-3 : tie.Need-returns-3
-returns-3 c = rw (sym (c .before .before .before .before .before .are-plain .ensures) ∙ not-false _ (c .before .before .before .before .if1 .left), sym (c .before .before .before .are-plain2 .ensures) ∙ not-false _ (c .before .before .if2 .left), sym (c .before .are-plain3 .ensures) ∙ not-true _ (c .if3 .taken))
+returns-3 c =
+    rw (
+      sym (after-are-plain2 c .before .before .are-plain .ensures) ∙ not-false _ (after-are-plain2 c .before .if1 .left),
+      sym (c .before .before .before .are-plain2 .ensures) ∙ not-false _ (c .before .before .if2 .left),
+      sym (c .before .are-plain3 .ensures) ∙ not-true _ (c .if3 .taken),
+    )
 
 are-plain-requires-4 : tie.Need-are-plain-requires-4
 are-plain-requires-4 c κs = search needs
 
 returns-4 : tie.Need-returns-4
-returns-4 c = rw (sym (c .before .before .before .before .before .before .are-plain .ensures) ∙ not-false _ (c .before .before .before .before .before .if1 .left), sym (c .before .before .before .before .are-plain2 .ensures) ∙ not-false _ (c .before .before .before .if2 .left), sym (c .before .before .are-plain3 .ensures) ∙ not-false _ (c .before .if3 .left), and-true) (c .are-plain4 .ensures)
+returns-4 c =
+    let at-are-plain2 = after-are-plain2-are-plain4 c in
+    rw (
+      sym (at-are-plain2 .before .before .are-plain .ensures) ∙ not-false _ (at-are-plain2 .before .if1 .left),
+      sym (at-are-plain2 .are-plain2 .ensures) ∙ not-false _ (c .before .before .before .if2 .left),
+      sym (c .before .before .are-plain3 .ensures) ∙ not-false _ (c .before .if3 .left),
+      and-true,
+    ) (c .are-plain4 .ensures)
 
 pub are-headers-spec : {M : Type 1} → statement M
 are-headers-spec =

@@ -6,6 +6,13 @@ use borrow.Author.Needs.{needs}
 use Rattle.market.proofs.checks.are_others.Statement.{statement}
 use Rattle.market.proofs.checks.are_others.Tie as tie
 
+-- ---- Places
+
+abbrev after-all-of : tie.After-are-codes → tie.After-all-of
+after-all-of c = c .before .before .before .before
+
+-- ---- Needs
+
 all-of-requires : tie.Need-all-of-requires
 all-of-requires c κs = search needs
 
@@ -16,13 +23,22 @@ is-time-requires : tie.Need-is-time-requires
 is-time-requires c κs = search needs
 
 returns-2 : tie.Need-returns-2
-returns-2 c = rw (sym (c .before .before .before .all-of .ensures) ∙ not-false _ (c .before .before .if1 .left), sym (c .before .is-time .ensures) ∙ not-true _ (c .if2 .taken))
+returns-2 c =
+    rw (
+      sym (c .before .before .before .all-of .ensures) ∙ not-false _ (c .before .before .if1 .left),
+      sym (c .before .is-time .ensures) ∙ not-true _ (c .if2 .taken),
+    )
 
 are-codes-requires : tie.Need-are-codes-requires
 are-codes-requires c κs = search needs
 
 returns-3 : tie.Need-returns-3
-returns-3 c = rw (sym (c .before .before .before .before .all-of .ensures) ∙ not-false _ (c .before .before .before .if1 .left), sym (c .before .before .is-time .ensures) ∙ not-false _ (c .before .if2 .left), and-true) (c .are-codes .ensures)
+returns-3 c =
+    rw (
+      sym (after-all-of c .all-of .ensures) ∙ not-false _ (c .before .before .before .if1 .left),
+      sym (c .before .before .is-time .ensures) ∙ not-false _ (c .before .if2 .left),
+      and-true,
+    ) (c .are-codes .ensures)
 
 pub are-others-spec : {M : Type 1} → statement M
 are-others-spec =

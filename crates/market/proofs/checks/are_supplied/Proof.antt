@@ -8,19 +8,32 @@ use borrow.Author.Needs.{needs}
 use Rattle.market.proofs.checks.are_supplied.Statement.{statement}
 use Rattle.market.proofs.checks.are_supplied.Tie as tie
 
+-- ---- Places
+
+abbrev start : tie.After-are-headers → tie.Start
+start c = c .before .before .before .before .before .before .before .before .before .before .before
+
+-- ---- Needs
+
 are-headers-requires : tie.Need-are-headers-requires
 are-headers-requires c κs = search needs
 
 returns : tie.Need-returns
-returns c = let a = c .before .before .before .before .before .before .before .before .before .before .before .before .args in
-    sym (sym (supplied-by (texts [] (a .from .now) (a .to .now) (a .configuration .now) (a .register .now) (a .suffix .now) (a .stream .now) (a .serial .now) (a .next-read .now) (a .reason .now) (a .created .now)) (a .codes)) ∙ rw (sym (c .before .are-headers .ensures) ∙ not-true _ (c .if1 .taken)))
+returns c = let a = start (c .before) .args in
+    sym (sym (supplied-by
+    (texts [] (a .from .now) (a .to .now) (a .configuration .now) (a .register .now) (a .suffix .now) (a .stream .now) (a .serial .now)
+    (a .next-read .now) (a .reason .now) (a .created .now)) (a .codes)) ∙ rw (sym (c .before .are-headers .ensures)
+    ∙ not-true _ (c .if1 .taken)))
 
 are-others-requires : tie.Need-are-others-requires
 are-others-requires c κs = search needs
 
 returns-2 : tie.Need-returns-2
-returns-2 c = let a = c .before .before .before .before .before .before .before .before .before .before .before .before .before .args in
-    sym (sym (supplied-by (texts [] (a .from .now) (a .to .now) (a .configuration .now) (a .register .now) (a .suffix .now) (a .stream .now) (a .serial .now) (a .next-read .now) (a .reason .now) (a .created .now)) (a .codes)) ∙ rw (sym (c .before .before .are-headers .ensures) ∙ not-false _ (c .before .if1 .left)) (sym (c .are-others .ensures)))
+returns-2 c = let a = start (c .before .before) .args in
+    sym (sym (supplied-by
+    (texts [] (a .from .now) (a .to .now) (a .configuration .now) (a .register .now) (a .suffix .now) (a .stream .now) (a .serial .now)
+    (a .next-read .now) (a .reason .now) (a .created .now)) (a .codes)) ∙ rw (sym (c .before .before .are-headers .ensures)
+    ∙ not-false _ (c .before .if1 .left)) (sym (c .are-others .ensures)))
 
 pub are-supplied-spec : {M : Type 1} → statement M
 are-supplied-spec = tie.close (tie.spec are-headers-requires returns are-others-requires returns-2)

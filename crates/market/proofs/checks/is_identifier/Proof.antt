@@ -5,6 +5,13 @@ use borrow.Author.Needs.{needs}
 use Rattle.market.proofs.checks.is_identifier.Statement.{statement}
 use Rattle.market.proofs.checks.is_identifier.Tie as tie
 
+-- ---- Places
+
+abbrev after-is-digit : tie.Else3 → tie.After-is-digit
+after-is-digit c = c .before .before .before
+
+-- ---- Needs
+
 is-digit-requires : tie.Need-is-digit-requires
 is-digit-requires c κs = search needs
 
@@ -20,11 +27,11 @@ returns-3 c = let no = sym (c .before .before .before .is-digit .ensures) ∙ c 
     rw (no, le-leb _ _ (c .before .if2 .left), lt-leb _ _ (c .if3 .taken))
 
 returns-4 : tie.Need-returns-4
-returns-4 c = let no = sym (c .before .before .before .before .is-digit .ensures) ∙ c .before .before .before .if1 .left in
+returns-4 c = let no = sym (after-is-digit (c .before) .is-digit .ensures) ∙ c .before .before .before .if1 .left in
     rw (no, le-leb _ _ (c .before .before .if2 .left), le-leb _ _ (c .before .if3 .left), ne-eqb _ _ (c .if4 .taken))
 
 returns-5 : tie.Need-returns-5
-returns-5 c = let no = sym (c .before .before .before .before .is-digit .ensures) ∙ c .before .before .before .if1 .left in
+returns-5 c = let no = sym (after-is-digit (c .before) .is-digit .ensures) ∙ c .before .before .before .if1 .left in
     rw (no, le-leb _ _ (c .before .before .if2 .left), le-leb _ _ (c .before .if3 .left), eq-eqb _ _ (c .if4 .left))
 
 pub is-identifier-spec : {M : Type 1} → statement M

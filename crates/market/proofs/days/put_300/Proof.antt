@@ -6,6 +6,25 @@ use borrow.Author.Needs.{needs}
 use Rattle.market.proofs.days.put_300.Statement.{statement}
 use Rattle.market.proofs.days.put_300.Tie as tie
 
+-- ---- Places
+
+abbrev after-put-text : tie.After-put-date → tie.After-put-text
+after-put-text c = c .before .before .before .before
+
+abbrev after-put-date : tie.After-put-values → tie.After-put-date
+after-put-date c = c .before .before .before .before
+
+abbrev after-put-values : tie.After-put-mark → tie.After-put-values
+after-put-values c = c .before .before .before .before
+
+abbrev after-put-mark : tie.After-put-field → tie.After-put-mark
+after-put-mark c = c .before .before .before .before
+
+abbrev after-put-field : tie.After-out6 → tie.After-put-field
+after-put-field c = c .before .before .before .before .before .before
+
+-- ---- Needs
+
 slice-aggregate-put-text : tie.Need-slice-aggregate-put-text
 slice-aggregate-put-text c = search needs
 
@@ -35,7 +54,14 @@ same-length c = search needs
 
 returns : tie.Need-returns
 unfolding record300 fields
-returns c = then (c .before .before .before .before .before .before .before .before .before .before .before .before .before .before .before .before .before .before .before .before .before .before .before .put-text .ensures) (then (c .before .before .before .before .before .before .before .before .before .before .before .before .before .before .before .before .before .before .before .put-date .ensures) (then (c .before .before .before .before .before .before .before .before .before .before .before .before .before .before .before .put-values .ensures) (then (c .before .before .before .before .before .before .before .before .before .before .before .put-mark .ensures) (then (c .before .before .before .before .before .before .before .put-field .ensures) (c .before .before .put-text2 .ensures)))))
+returns c =
+    let at-put-field = after-put-field (c .before) in
+    let at-put-mark = after-put-mark at-put-field in
+    let at-put-values = after-put-values at-put-mark in
+    then (after-put-text (after-put-date at-put-values) .put-text .ensures)
+    (then (after-put-date at-put-values .put-date .ensures)
+    (then (at-put-values .put-values .ensures)
+    (then (at-put-mark .put-mark .ensures) (then (at-put-field .put-field .ensures) (c .before .before .put-text2 .ensures)))))
 
 pub put-300-spec : {M : Type 1} → statement M
 put-300-spec =

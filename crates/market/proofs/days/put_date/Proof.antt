@@ -9,6 +9,16 @@ use borrow.Author.Needs.{needs}
 use Rattle.market.proofs.days.put_date.Statement.{statement}
 use Rattle.market.proofs.days.put_date.Tie as tie
 
+-- ---- Places
+
+abbrev after-put-digits : tie.After-put-digits2 → tie.After-put-digits
+after-put-digits c = c .before .before .before .before .before
+
+abbrev after-put-digits2 : tie.After-out3 → tie.After-put-digits2
+after-put-digits2 c = c .before .before .before .before .before .before
+
+-- ---- Needs
+
 date-of-requires : tie.Need-date-of-requires
 date-of-requires c κs = search needs
 
@@ -35,7 +45,12 @@ same-length c = search needs
 
 returns : tie.Need-returns
 unfolding dateField
-returns c = same (ap (λ (d : Date). digits 4 (d .year) ++ (digits 2 (d .month) ++ digits 2 (d .day))) (c .before .before .before .before .before .before .before .before .before .before .before .before .before .before .before .date-of .ensures)) (then (c .before .before .before .before .before .before .before .before .before .before .before .before .put-digits .ensures) (then (c .before .before .before .before .before .before .before .put-digits2 .ensures) (c .before .before .put-digits3 .ensures)))
+returns c =
+    let at-put-digits2 = after-put-digits2 (c .before) in
+    let at-put-digits = after-put-digits at-put-digits2 in
+    same (ap (λ (d : Date). digits 4 (d .year) ++ (digits 2 (d .month) ++ digits 2 (d .day)))
+    (at-put-digits .before .before .before .date-of .ensures)) (then (at-put-digits .put-digits .ensures)
+    (then (at-put-digits2 .put-digits2 .ensures) (c .before .before .put-digits3 .ensures)))
 
 pub put-date-spec : {M : Type 1} → statement M
 put-date-spec =

@@ -1,7 +1,9 @@
 -- `days::put_days` meets its contract.
+use mathlib.Core.List.{List}
+use Rattle.market.specs.declared.Codes.{Codes}
 use borrow.Author.Needs.{needs}
 use mathlib.Core.Path.{_≡_, ap, _∙_}
-use Prim.Native.Nat.{_≤_, _-_, _+_, _*_}
+use Prim.Native.Nat.{ℕ, _≤_, _-_, _+_, _*_}
 use native.Mathlib.Nat.{mul-le-mul}
 use native.Mathlib.Omega.{arith}
 use lib.ListN.{length}
@@ -14,26 +16,53 @@ use Rattle.market.proofs.Joining.{joined-none, joined-next-0, day-withi
 use Rattle.market.proofs.days.put_days.Statement.{statement}
 use Rattle.market.proofs.days.put_days.Tie as tie
 
+record Held (out₀ : List ℕ) (at : ℕ) (file : List ℕ) (codes : Codes) (first n days : ℕ) (reason created out : List ℕ) (next d : ℕ) : Type 0
+  where
+    inside : d ≤ days
+    added : Added out₀ at out next
+        (joined (λ k. dayRecords reason created (first + k) (λ i. slotAt file i .value) (λ i. markOf codes (slotAt file i)) (k * n) n) 0 d)
+
 abbrev Inv-loop : tie.InvT-loop
-Inv-loop out₀ at file codes first n days reason created next₀ d₀ out next d = (d ≤ days) × Added out₀ at out next (joined (λ k. dayRecords reason created (first + k) (λ i. slotAt file i .value) (λ i. markOf codes (slotAt file i)) (k * n) n) 0 d)
+Inv-loop out₀ at file codes first n days reason created next₀ d₀ out next d = Held out₀ at file codes first n days reason created out next d
 
 abbrev μ-loop : tie.MeasureT-loop
 μ-loop out₀ at file codes first n days reason created next₀ d₀ out next d = days - d
 
+-- ---- Places
+
+abbrev start : tie.At-loop Inv-loop μ-loop → tie.Start Inv-loop μ-loop
+start c = c .before .before .before .before .before
+
+abbrev at-loop : tie.After-out Inv-loop μ-loop → tie.At-loop Inv-loop μ-loop
+at-loop c = c .before .before .before .before
+
+-- ---- Needs
+
 loop-holds : tie.Need-loop-holds Inv-loop μ-loop
-loop-holds c = (search needs, joined-none _ _ _ _ (search needs) (search needs))
+loop-holds c = record { inside = search needs; added = joined-none _ _ _ _ (search needs) (search needs) }
 
 add-t14 : tie.Need-add-t14 Inv-loop μ-loop
-add-t14 c = omega (arith, c .before .before .before .before .before .before .pre .1)
+add-t14 c = omega (arith, start (c .before) .pre .1)
 
 cast-t15 : tie.Need-cast-t15 Inv-loop μ-loop
 cast-t15 c = search needs
 
 mul-t16 : tie.Need-mul-t16 Inv-loop μ-loop
-mul-t16 c = omega (arith, day-within (c .before .before .before .before .before .before .args .n) (c .before .loop .d) (c .before .before .before .before .before .before .args .days) (search needs), mul-le-mul (c .before .before .before .before .before .before .pre .0 .day) (c .before .before .before .before .before .before .pre .0 .few))
+mul-t16 c =
+    let begun = start (c .before) in
+    omega (
+      arith,
+      day-within (begun .args .n) (c .before .loop .d) (begun .args .days) (search needs),
+      mul-le-mul (begun .pre .0 .day) (begun .pre .0 .few),
+    )
 
 put-day-requires : tie.Need-put-day-requires Inv-loop μ-loop
-put-day-requires c κs = (omega (arith, day-within (c .before .before .before .before .before .before .before .args .n) (c .before .before .loop .d) (c .before .before .before .before .before .before .before .args .days) (search needs), c .before .before .before .before .before .before .before .pre .0 .long), c .before .before .before .before .before .before .before .pre .0 .some, omega (arith, c .before .before .before .before .before .before .before .pre .1))
+put-day-requires c κs =
+    let begun = start (c .before .before) in (
+      omega (arith, day-within (begun .args .n) (c .before .before .loop .d) (begun .args .days) (search needs), begun .pre .0 .long),
+      begun .pre .0 .some,
+      omega (arith, begun .pre .1),
+    )
 
 add-d : tie.Need-add-d Inv-loop μ-loop
 add-d c = search needs
@@ -42,15 +71,19 @@ loop-less : tie.Need-loop-less Inv-loop μ-loop
 loop-less c = search needs
 
 loop-again : tie.Need-loop-again Inv-loop μ-loop
-loop-again c = (search needs, joined-next-0 _ (c .before .before .before .before .before .loop .d) (c .before .before .before .before .before .loop .inv .1) (c .before .before .put-day .ensures))
+loop-again c =
+    record {
+      inside = search needs;
+      added = joined-next-0 _ (at-loop (c .before) .loop .d) (at-loop (c .before) .loop .inv .added) (c .before .before .put-day .ensures);
+    }
 
 same-length : tie.Need-same-length Inv-loop μ-loop
-same-length c = ap length (c .before .loop .inv .1 .has) ∙ length-stored _ _ _
+same-length c = ap length (c .before .loop .inv .added .has) ∙ length-stored _ _ _
 
 returns : tie.Need-returns Inv-loop μ-loop
 unfolding daysOf
-returns c = let done : c .before .loop .d ≡ c .before .before .before .before .before .before .args .days = omega arith in
-    rw done at (c .before .loop .inv .1)
+returns c = let done : c .before .loop .d ≡ start (c .before) .args .days = omega arith in
+    rw done at (c .before .loop .inv .added)
 
 pub put-days-spec : {M : Type 1} → statement M
 put-days-spec =

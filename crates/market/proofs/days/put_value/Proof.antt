@@ -7,6 +7,16 @@ use borrow.Author.Needs.{needs}
 use Rattle.market.proofs.days.put_value.Statement.{statement}
 use Rattle.market.proofs.days.put_value.Tie as tie
 
+-- ---- Places
+
+abbrev after-put-number : tie.After-put-text → tie.After-put-number
+after-put-number c = c .before .before .before .before .before
+
+abbrev after-put-text : tie.After-out3 → tie.After-put-text
+after-put-text c = c .before .before .before .before .before
+
+-- ---- Needs
+
 mul-number : tie.Need-mul-number
 mul-number c = search needs
 
@@ -30,7 +40,11 @@ same-length c = search needs
 
 returns : tie.Need-returns
 unfolding kwh
-returns c = rw (slot-at _ _) (same (ap (λ v. field (kwh v)) (c .before .before .before .before .before .before .before .before .before .before .before .before .before .number .ensures .0)) (then (c .before .before .before .before .before .before .before .before .before .before .before .put-number .ensures) (then (c .before .before .before .before .before .before .put-text .ensures) (c .before .before .put-digits .ensures))))
+returns c =
+    let at-put-text = after-put-text (c .before) in
+    rw (slot-at _ _) (same (ap (λ v. field (kwh v)) (after-put-number at-put-text .before .before .number .ensures .0))
+    (then (after-put-number at-put-text .put-number .ensures)
+    (then (at-put-text .put-text .ensures) (c .before .before .put-digits .ensures))))
 
 pub put-value-spec : {M : Type 1} → statement M
 put-value-spec =

@@ -32,7 +32,13 @@ are-alike-requires c κs = search needs
 
 returns-2 : tie.Need-returns-2
 unfolding endsRun
-returns-2 c = rw (ne-eqb _ _ (c .before .before .before .if1 .left), c .are-alike .ensures, c .before .before .mark-at .ensures, c .before .mark-at2 .ensures)
+returns-2 c =
+    rw (
+      ne-eqb _ _ (c .before .before .before .if1 .left),
+      c .are-alike .ensures,
+      c .before .before .mark-at .ensures,
+      c .before .mark-at2 .ensures,
+    )
 
 pub ends-run-spec : {M : Type 1} → statement M
 ends-run-spec =

@@ -1,7 +1,9 @@
 -- `marks::is_one` meets its contract.
+use mathlib.Core.List.{List}
+use Rattle.market.specs.declared.Codes.{Codes}
 use borrow.Author.Needs.{needs}
 use mathlib.Core.Path.{_≡_, sym, ap₂, _∙_}
-use Prim.Native.Nat.{_≤_, _-_, _+_}
+use Prim.Native.Nat.{ℕ, _≤_, _-_, _+_}
 use native.Mathlib.Nat.{sub-zero}
 use borrow.Author.Tests.{not-true, not-false}
 use Rattle.base.specs.Lists.{all}
@@ -11,18 +13,30 @@ use Rattle.market.specs.Fields.{markOf, alike, oneMark}
 use Rattle.market.proofs.marks.is_one.Statement.{statement}
 use Rattle.market.proofs.marks.is_one.Tie as tie
 
+record Held (file : List ℕ) (codes : Codes) (a n j : ℕ) : Type 0 where
+  inside : j ≤ n
+  known : oneMark (λ i. markOf codes (slotAt file i)) a n
+      ≡ all (λ i. alike (markOf codes (slotAt file a)) (markOf codes (slotAt file (a + i)))) j (n - j)
+
 abbrev Inv-loop : tie.InvT-loop
-Inv-loop file codes a n first j₀ j = (j ≤ n) × (oneMark (λ i. markOf codes (slotAt file i)) a n ≡ all (λ i. alike (markOf codes (slotAt file a)) (markOf codes (slotAt file (a + i)))) j (n - j))
+Inv-loop file codes a n first j₀ j = Held file codes a n j
 
 abbrev μ-loop : tie.MeasureT-loop
 μ-loop file codes a n first j₀ j = n - j
+
+-- ---- Places
+
+abbrev at-loop : tie.After-are-alike Inv-loop μ-loop → tie.At-loop Inv-loop μ-loop
+at-loop c = c .before .before .before
+
+-- ---- Needs
 
 mark-at-requires : tie.Need-mark-at-requires Inv-loop μ-loop
 mark-at-requires c κs = search needs
 
 loop-holds : tie.Need-loop-holds Inv-loop μ-loop
 unfolding oneMark
-loop-holds c = (search needs, rw sub-zero)
+loop-holds c = record { inside = search needs; known = rw sub-zero }
 
 add-mark-at : tie.Need-add-mark-at Inv-loop μ-loop
 add-mark-at c = search needs
@@ -34,7 +48,12 @@ are-alike-requires : tie.Need-are-alike-requires Inv-loop μ-loop
 are-alike-requires c κs = search needs
 
 returns : tie.Need-returns Inv-loop μ-loop
-returns c = sym (c .before .before .before .before .loop .inv .1 ∙ all-fails _ (c .before .before .before .before .loop .j) _ (search needs) (sym (c .before .are-alike .ensures ∙ ap₂ alike (c .before .before .before .before .before .mark-at .ensures) (c .before .before .mark-at2 .ensures)) ∙ not-true _ (c .if1 .taken)))
+returns c =
+    let looped = at-loop (c .before) in
+    sym (looped .loop .inv .known
+    ∙ all-fails _ (looped .loop .j) _ (search needs)
+    (sym (c .before .are-alike .ensures ∙ ap₂ alike (looped .before .mark-at .ensures) (c .before .before .mark-at2 .ensures))
+    ∙ not-true _ (c .if1 .taken)))
 
 add-j : tie.Need-add-j Inv-loop μ-loop
 add-j c = search needs
@@ -43,10 +62,19 @@ loop-less : tie.Need-loop-less Inv-loop μ-loop
 loop-less c = search needs
 
 loop-again : tie.Need-loop-again Inv-loop μ-loop
-loop-again c = (search needs, c .before .before .before .before .loop .inv .1 ∙ all-more _ (c .before .before .before .before .loop .j) _ (search needs) (sym (c .before .are-alike .ensures ∙ ap₂ alike (c .before .before .before .before .before .mark-at .ensures) (c .before .before .mark-at2 .ensures)) ∙ not-false _ (c .if1 .left)))
+loop-again c =
+    let looped = at-loop (c .before) in
+    record {
+      inside = search needs;
+      known =
+          looped .loop .inv .known
+          ∙ all-more _ (looped .loop .j) _ (search needs)
+          (sym (c .before .are-alike .ensures ∙ ap₂ alike (looped .before .mark-at .ensures) (c .before .before .mark-at2 .ensures))
+          ∙ not-false _ (c .if1 .left));
+    }
 
 returns-2 : tie.Need-returns-2 Inv-loop μ-loop
-returns-2 c = sym (c .before .loop .inv .1 ∙ all-done _ (c .before .loop .j) _ (search needs))
+returns-2 c = sym (c .before .loop .inv .known ∙ all-done _ (c .before .loop .j) _ (search needs))
 
 pub is-one-spec : {M : Type 1} → statement M
 is-one-spec =

@@ -7,6 +7,31 @@ use borrow.Author.Needs.{needs}
 use Rattle.market.proofs.marks.put_mark.Statement.{statement}
 use Rattle.market.proofs.marks.put_mark.Tie as tie
 
+-- ---- Places
+
+abbrev start : tie.After-put-text → tie.Start
+start c = c .before .before .before .before .before
+
+abbrev after-put-text : tie.After-has-code → tie.After-put-text
+after-put-text c = c .before .before .before
+
+abbrev taken1 : tie.After-out2 → tie.Then1
+taken1 c = c .before .before .before .before
+
+abbrev after-put-digits : tie.After-put-field → tie.After-put-digits
+after-put-digits c = c .before .before .before .before
+
+abbrev after-put-field : tie.After-out5 → tie.After-put-field
+after-put-field c = c .before .before .before .before .before .before
+
+abbrev passed1 : tie.After-out5 → tie.Else1
+passed1 c = after-put-digits (after-put-field c) .before .before .before
+
+abbrev start-out5 : tie.After-out5 → tie.Start
+start-out5 c = start (after-put-text (passed1 c .before))
+
+-- ---- Needs
+
 slice-aggregate-put-text : tie.Need-slice-aggregate-put-text
 slice-aggregate-put-text c = search needs
 
@@ -26,7 +51,12 @@ same-length : tie.Need-same-length
 same-length c = search needs
 
 returns : tie.Need-returns
-returns c = same (without-code (c .before .before .before .before .before .before .before .before .before .before .before .before .before .before .args .mark) (c .before .before .before .before .before .before .before .before .before .before .before .before .before .before .args .reason .now) (sym (c .before .before .before .before .before .before .has-code .ensures) ∙ not-true _ (c .before .before .before .before .before .if1 .taken))) (then (c .before .before .before .before .before .before .before .before .before .put-text .ensures) (c .before .before .put-text2 .ensures))
+returns c =
+    let chosen1 = taken1 (c .before) in
+    let at-put-text = after-put-text (chosen1 .before) in
+    same (without-code (start at-put-text .args .mark) (start at-put-text .args .reason .now)
+    (sym (chosen1 .before .has-code .ensures) ∙ not-true _ (chosen1 .if1 .taken))) (then (at-put-text .put-text .ensures)
+    (c .before .before .put-text2 .ensures))
 
 cast-put-digits : tie.Need-cast-put-digits
 cast-put-digits c = search needs
@@ -47,7 +77,12 @@ same-length-2 : tie.Need-same-length-2
 same-length-2 c = search needs
 
 returns-2 : tie.Need-returns-2
-returns-2 c = same (with-code (c .before .before .before .before .before .before .before .before .before .before .before .before .before .before .before .before .before .before .before .before .before .before .before .args .mark) (c .before .before .before .before .before .before .before .before .before .before .before .before .before .before .before .before .before .before .before .before .before .before .before .args .reason .now) (sym (c .before .before .before .before .before .before .before .before .before .before .before .before .before .before .before .has-code .ensures) ∙ not-false _ (c .before .before .before .before .before .before .before .before .before .before .before .before .before .before .if1 .left))) (then (c .before .before .before .before .before .before .before .before .before .before .before .before .before .before .before .before .before .before .put-text .ensures) (then (c .before .before .before .before .before .before .before .before .before .before .before .put-digits .ensures) (then (c .before .before .before .before .before .before .before .put-field .ensures) (c .before .before .put-text3 .ensures))))
+returns-2 c =
+    let past1 = passed1 (c .before) in
+    same (with-code (start-out5 (c .before) .args .mark) (start-out5 (c .before) .args .reason .now)
+    (sym (past1 .before .has-code .ensures) ∙ not-false _ (past1 .if1 .left))) (then (after-put-text (past1 .before) .put-text .ensures)
+    (then (after-put-digits (after-put-field (c .before)) .put-digits .ensures)
+    (then (after-put-field (c .before) .put-field .ensures) (c .before .before .put-text3 .ensures))))
 
 pub put-mark-spec : {M : Type 1} → statement M
 put-mark-spec =

@@ -4,6 +4,13 @@ use borrow.Author.Needs.{needs}
 use Rattle.market.proofs.writing.put_number.Statement.{statement}
 use Rattle.market.proofs.writing.put_number.Tie as tie
 
+-- ---- Places
+
+abbrev after-put-text : tie.After-out2 → tie.After-put-text
+after-put-text c = c .before .before .before .before .before
+
+-- ---- Needs
+
 slice-aggregate-put-text : tie.Need-slice-aggregate-put-text
 slice-aggregate-put-text c = search needs
 
@@ -17,7 +24,7 @@ same-length : tie.Need-same-length
 same-length c = search needs
 
 returns : tie.Need-returns
-returns c = then (c .before .before .before .before .before .before .put-text .ensures) (c .before .before .put-decimal .ensures)
+returns c = then (after-put-text (c .before) .put-text .ensures) (c .before .before .put-decimal .ensures)
 
 pub put-number-spec : {M : Type 1} → statement M
 put-number-spec =
