@@ -28,7 +28,8 @@ use Rattle.play.specs.declared.Checked.{Checked}
 use Rattle.play.specs.declared.Checked.the-variants as coded
 use Rattle.play.specs.declared.Played.{Played}
 use Rattle.play.specs.declared.Played.the-variants.{Is, Lengths}
-use Rattle.play.specs.Playing.{callsOf, checkedOf, checked, lengthsOk, codes, playedAs, playAnswer, listsAs, playAfter, answersAs, answersAfter}
+use Rattle.play.specs.Playing.{callsOf, checkedOf, checked, lengthsOk, codes, playedAs, playAnswer, listsAs, playAfter, answersAs}
+use Rattle.play.specs.Playing.{answersAfter}
 use Rattle.play.specs.Inner.Filling.{isDone}
 
 never : {A : Type 0} → _≡_ {A = ℕ} 0 1 → A
@@ -153,13 +154,15 @@ module _ (bytes : List ℕ) {found : Checked} (e : found ≡ checked bytes) (h :
           fails false = refl
 
       -- lists of other lengths
-      pub not-opened : {a : Answer} {b' : Book} → a ≡ openAnswer h b → isDone a ≡ false → b' ≡ openAfter h b → Meant bytes b answers Lengths b' answers
+      pub not-opened : {a : Answer} {b' : Book} → a ≡ openAnswer h b → isDone a ≡ false → b' ≡ openAfter h b
+          → Meant bytes b answers Lengths b' answers
       unfolding lengthsOk
       not-opened f off left =
           let unfit : bookFits h b ≡ false = sym (done-where-fits h b found-head) ∙ ap isDone (sym f) ∙ off in
           rw (left ∙ after-where-fits h b found-head, unfit) (refuse (rw unfit))
 
-      pub played : {a : Answer} {o b' : Book} {answers' : List ℕ} → a ≡ openAnswer h b → isDone a ≡ true → o ≡ openAfter h b → length answers ≡ n
+      pub played : {a : Answer} {o b' : Book} {answers' : List ℕ} → a ≡ openAnswer h b → isDone a ≡ true → o ≡ openAfter h b
+          → length answers ≡ n
           → (answers' ≡ codes h o (items bytes)) × (b' ≡ afterAll h o (callsOf bytes)) → Meant bytes b answers (Is found) b' answers'
       unfolding lengthsOk playAnswer playedAs playAfter listsAs answersAfter answersAs
       played f on first count made =
@@ -180,7 +183,8 @@ module _ (bytes : List ℕ) (b : Book) (answers : List ℕ) where
   other-reading (notACall- n) e other = record { answer = rw e; lists = rw e; told = rw e }
   other-reading (refused- n k) e other = record { answer = rw e; lists = rw e; told = rw e }
 
-  pub no-log : {found : Checked} → found ≡ checked bytes → ((h : Head) → found ≡ coded.Log h (length (lines bytes)) (length (callsOf bytes)) → ⊥)
+  pub no-log : {found : Checked} → found ≡ checked bytes
+      → ((h : Head) → found ≡ coded.Log h (length (lines bytes)) (length (callsOf bytes)) → ⊥)
       → Meant bytes b answers (Is found) b answers
   unfolding checked checkedOf
   no-log e other = rw e (other-reading (readLog bytes) refl (λ h f. other h (e ∙ ap (checkedOf bytes) f)))

@@ -18,7 +18,8 @@ use Rattle.log.specs.declared.line.Line.{Line}
 use Rattle.log.specs.declared.line.Line.the-variants as line
 use Rattle.log.specs.declared.line.Opening.{Opening}
 use Rattle.log.specs.declared.lines.Cut.{Cut}
-use Rattle.log.specs.Log.{lines, Item, itemIn, itemOf, items, callsIn, Reading, readOpen, headWith, orBuiltIn, withTable, withOpening, readClosed, readLog}
+use Rattle.log.specs.Log.{lines, Item, itemIn, itemOf, items, callsIn, Reading, readOpen, headWith, orBuiltIn, withTable, withOpening}
+use Rattle.log.specs.Log.{readClosed, readLog}
 use Rattle.log.specs.Log.Item.{passed, table, opening, call, neither}
 use Rattle.log.specs.Log.Reading.{log, notACall, refused}
 use Rattle.log.specs.Inner.Lines.{LineAt, ItemAt, FoundAt}
@@ -29,7 +30,8 @@ use Rattle.play.specs.declared.Checked.the-variants as coded
 use Rattle.play.specs.declared.reading.Step.{Step}
 use Rattle.play.specs.declared.reading.Step.the-variants.{On, Opened, NotACall, Refused}
 use Rattle.play.specs.Playing.{callsOf, checkedOf, checked}
-use Rattle.play.specs.Inner.Steps.{tableStep, headStep, openingStep, stepOf, goesOn, tableAfter, leadOf, isOutside, callsAt, PassingAt, Reached, LeadMeant}
+use Rattle.play.specs.Inner.Steps.{tableStep, headStep, openingStep, stepOf, goesOn, tableAfter, leadOf, isOutside, callsAt}
+use Rattle.play.specs.Inner.Steps.{PassingAt, Reached, LeadMeant}
 
 -- ---- A line before the opening
 
@@ -46,7 +48,8 @@ module _ (n : ℕ) (rest : Reading) (xs : List Item) where
   by-table (loaded.Limit w) = refl
   by-table (loaded.Refused k) = refl
 
-  by-head : (h : Head) (good : Bool) → cond good (readOpen h (suc n) xs) (refused n 1) ≡ closedAs (cond good (Opened h) (Refused 1)) n rest xs
+  by-head : (h : Head) (good : Bool)
+      → cond good (readOpen h (suc n) xs) (refused n 1) ≡ closedAs (cond good (Opened h) (Refused 1)) n rest xs
   unfolding closedAs
   by-head h true = refl
   by-head h false = refl
@@ -77,7 +80,8 @@ items-long : (bytes : List ℕ) → length (items bytes) ≡ length (lines bytes
 unfolding items
 items-long bytes = rw length-map
 
-pub lines-first : {bytes : List ℕ} {at next : ℕ} {x : Item} → ItemAt bytes at x next → length (lines (drop at bytes)) ≡ suc (length (lines (drop next bytes)))
+pub lines-first : {bytes : List ℕ} {at next : ℕ} {x : Item} → ItemAt bytes at x next
+    → length (lines (drop at bytes)) ≡ suc (length (lines (drop next bytes)))
 lines-first {bytes} {at} {next} item =
     omega (arith, ap length (item .first), items-long (drop at bytes), items-long (drop next bytes))
 
@@ -168,7 +172,8 @@ module _ (count : ℕ) (values : List ℕ) (room : length values ≡ 24) where
       go (suc k) (w ∷ ws) l m = refl
 
 -- the first table, that loads or is refused
-pub step-first : (count : ℕ) (values u : List ℕ) → count ≡ 0 → (l : Loaded) → loadAnswer u 1 ≡ l → tableStep l ≡ stepOf (take count values) (table u)
+pub step-first : (count : ℕ) (values u : List ℕ) → count ≡ 0 → (l : Loaded) → loadAnswer u 1 ≡ l
+    → tableStep l ≡ stepOf (take count values) (table u)
 unfolding stepOf
 step-first count values u e l f = rw (e, f)
 
@@ -236,7 +241,8 @@ open-goes-on h n xs (line.Open o) limits e = absurd (true≢false e)
 open-goes-on h n xs (line.Fill c) limits e = refl
 open-goes-on h n xs line.NoCall limits e = absurd (true≢false e)
 
-open-ends : (h : Head) (n : ℕ) (xs : List Item) (l : Line) (limits : Limits) → isOutside l ≡ true → readOpen h n (itemIn l limits ∷ xs) ≡ notACall n
+open-ends : (h : Head) (n : ℕ) (xs : List Item) (l : Line) (limits : Limits) → isOutside l ≡ true
+    → readOpen h n (itemIn l limits ∷ xs) ≡ notACall n
 unfolding readOpen itemIn
 open-ends h n xs line.Passed limits e = absurd (false≢true e)
 open-ends h n xs line.Table limits e = refl
@@ -260,7 +266,8 @@ calls-little (line.Fill c) = omega arith
 calls-little line.NoCall = omega arith
 
 -- a delivery can stand there, and is one call
-pub passing-delivery : {bytes : List ℕ} {at next : ℕ} → DeliveryTo bytes at next → PassingAt bytes at (record { outside = false; calls = 1; next = next })
+pub passing-delivery : {bytes : List ℕ} {at next : ℕ} → DeliveryTo bytes at next
+    → PassingAt bytes at (record { outside = false; calls = 1; next = next })
 passing-delivery {bytes} {at} d =
     subst (λ next. PassingAt bytes at (record { outside = false; calls = 1; next = next })) (d .ends)
     record { line = _; found = delivery-found bytes at (d .delivery) (d .line); outside = refl; calls = refl }
@@ -270,7 +277,8 @@ pub record Following (bytes : List ℕ) (h : Head) (from before at n calls : ℕ
   pub reached : Reached bytes at n calls
   pub read : readOpen h (suc before) (items (drop from bytes)) ≡ readOpen h (suc n) (items (drop at bytes))
 
-pub following-first : {bytes : List ℕ} {h : Head} {from before : ℕ} → Reached bytes from before 0 → Following bytes h from before from before 0
+pub following-first : {bytes : List ℕ} {h : Head} {from before : ℕ} → Reached bytes from before 0
+    → Following bytes h from before from before 0
 following-first reached = record { reached = reached; read = refl }
 
 module _ {bytes : List ℕ} {h : Head} {from before at n calls : ℕ} (w : Following bytes h from before at n calls) where

@@ -80,7 +80,8 @@ module _ (h : Head) (x : List ℕ) (b : Book) (p : List ℕ) (is : readLog x ≡
 
 pub two-logs : TwoLogs
 two-logs h g x y b c p q is is' long long' =
-    let whole : Claim h g b c (callsOf x) (callsOf y) = claim h g b c (callsOf x) (callsOf y) (opens h x b p is long) (opens g y c q is' long') in
+    let whole : Claim h g b c (callsOf x) (callsOf y) =
+    claim h g b c (callsOf x) (callsOf y) (opens h x b p is long) (opens g y c q is' long') in
     let ours = new h x b p is long in
     let theirs = new g y c q is' long' in
     record {

@@ -5,6 +5,13 @@ use borrow.Author.Needs.{needs}
 use Rattle.play.proofs.check.Statement.{statement}
 use Rattle.play.proofs.check.Tie as tie
 
+-- ---- Places
+
+abbrev after-leading : tie.After-following → tie.After-leading
+after-leading c = c .before .before .before .before
+
+-- ---- Needs
+
 leading-requires : tie.Need-leading-requires
 leading-requires c κs = search needs
 
@@ -19,7 +26,8 @@ enum-known-lead-2 c = search needs
 
 returns : tie.Need-returns
 unfolding checked
-returns c = c .following .ensures ∙ ap (checkedOf _) (sym ((rw (c .before .before .lead .given .1) at (c .before .before .before .before .leading .ensures)) .1))
+returns c =
+    c .following .ensures ∙ ap (checkedOf _) (sym ((simp (c .before .before .lead .given .1) at (after-leading c .leading .ensures)) .1))
 
 returns-2 : tie.Need-returns-2
 returns-2 c = rw (c .before .lead2 .given .1) at (c .before .before .before .leading .ensures)

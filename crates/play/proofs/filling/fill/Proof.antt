@@ -7,6 +7,18 @@ use borrow.Author.Needs.{needs}
 use Rattle.play.proofs.filling.fill.Statement.{statement}
 use Rattle.play.proofs.filling.fill.Tie as tie
 
+-- ---- Places
+
+abbrev after-line : tie.After-fill → tie.After-line
+after-line c = c .before .before .before .before .before .before .before .before .before .before .before .before
+
+abbrev after-fill : tie.After-code-of → tie.After-fill
+after-fill c =
+    c .before .before .before .before .before .before .before .before .before .before .before .before .before .before .before .before
+    .before .before .before .before .before
+
+-- ---- Needs
+
 enum-told : tie.Need-enum-told
 enum-told c = search needs
 
@@ -72,7 +84,12 @@ same-length-10 c = search needs
 
 returns-4 : tie.Need-returns-4
 unfolding codeOf afterItem itemIn
-returns-4 c = λ limits. rw (c .before .before .before .before .before .before .before .before .before .before .before .before .before .before .before .before .before .before .before .before .before .before .before .before .before .before .before .before .before .before .before .before .before .line .given .1) (c .code-of .ensures ∙ ap answerCode (c .before .before .before .before .before .before .before .before .before .before .before .before .before .before .before .before .before .before .before .before .before .fill .ensures .0), c .before .before .before .before .before .before .before .before .before .before .before .before .before .before .before .before .before .before .before .before .before .fill .ensures .1)
+returns-4 c =
+    let at-fill = after-fill c in
+    λ limits. rw (after-line at-fill .line .given .1) (
+      c .code-of .ensures ∙ ap answerCode (at-fill .fill .ensures .0),
+      at-fill .fill .ensures .1,
+    )
 
 returns-5 : tie.Need-returns-5
 unfolding codeOf afterItem itemIn

@@ -18,6 +18,19 @@ Inv-loop log table₀ at₀ n₀ table at n = Leading log (tableOf table) at n
 abbrev μ-loop : tie.MeasureT-loop
 μ-loop log table₀ at₀ n₀ table at n = length log - at
 
+-- ---- Places
+
+abbrev at-loop : tie.After-entry-of Inv-loop μ-loop → tie.At-loop Inv-loop μ-loop
+at-loop c = c .before .before .before .before
+
+abbrev after-entry-of : tie.After-lead-of Inv-loop μ-loop → tie.After-entry-of Inv-loop μ-loop
+after-entry-of c = c .before .before .before .before
+
+abbrev after-entry-of-table-after : tie.After-table-after Inv-loop μ-loop → tie.After-entry-of Inv-loop μ-loop
+after-entry-of-table-after c = c .before .before .before .before
+
+-- ---- Needs
+
 none-requires : tie.Need-none-requires Inv-loop μ-loop
 none-requires c κs = search needs
 
@@ -53,7 +66,12 @@ lead-of-requires c κs = search needs
 
 returns : tie.Need-returns Inv-loop μ-loop
 unfolding itemOf
-returns c = rw (c .lead-of .ensures) (leading-ends (c .before .before .before .before .before .before .before .before .loop .inv) (c .before .before .before .before .before .before .line-at .ensures) _ (ap (λ (e : Entry). itemIn (e .line) (e .limits)) (c .before .before .before .before .entry-of .ensures)) _ (c .before .before .before .step-of .ensures) (sym (c .before .before .goes-on .ensures) ∙ not-true _ (c .before .if1 .taken)))
+returns c =
+    let at-entry-of = after-entry-of c in
+    rw (c .lead-of .ensures)
+    (leading-ends (at-loop at-entry-of .loop .inv) (at-entry-of .before .before .line-at .ensures) _
+    (ap (λ (e : Entry). itemIn (e .line) (e .limits)) (at-entry-of .entry-of .ensures)) _ (c .before .before .before .step-of .ensures)
+    (sym (c .before .before .goes-on .ensures) ∙ not-true _ (c .before .if1 .taken)))
 
 table-after-requires : tie.Need-table-after-requires Inv-loop μ-loop
 table-after-requires c κs = search needs
@@ -63,7 +81,12 @@ loop-less c = search needs
 
 loop-again : tie.Need-loop-again Inv-loop μ-loop
 unfolding itemOf
-loop-again c = rw (c .table-after .ensures) (leading-next (c .before .before .before .before .before .before .before .before .loop .inv) (c .before .before .before .before .before .before .line-at .ensures) _ (ap (λ (e : Entry). itemIn (e .line) (e .limits)) (c .before .before .before .before .entry-of .ensures)) _ (c .before .before .before .step-of .ensures) (sym (c .before .before .goes-on .ensures) ∙ not-false _ (c .before .if1 .left)))
+loop-again c =
+    let at-entry-of = after-entry-of-table-after c in
+    rw (c .table-after .ensures)
+    (leading-next (at-loop at-entry-of .loop .inv) (at-entry-of .before .before .line-at .ensures) _
+    (ap (λ (e : Entry). itemIn (e .line) (e .limits)) (at-entry-of .entry-of .ensures)) _ (c .before .before .before .step-of .ensures)
+    (sym (c .before .before .goes-on .ensures) ∙ not-false _ (c .before .if1 .left)))
 
 returns-2 : tie.Need-returns-2 Inv-loop μ-loop
 returns-2 c = leading-none (c .before .loop .inv) (omega arith)

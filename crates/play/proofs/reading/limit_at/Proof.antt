@@ -8,6 +8,13 @@ use borrow.Author.Needs.{needs}
 use Rattle.play.proofs.reading.limit_at.Statement.{statement}
 use Rattle.play.proofs.reading.limit_at.Tie as tie
 
+-- ---- Places
+
+abbrev start : tie.After-load → tie.Start
+start c = c .before .before .before .before
+
+-- ---- Needs
+
 slice-aggregate-load : tie.Need-slice-aggregate-load
 slice-aggregate-load c = search needs
 
@@ -15,13 +22,16 @@ load-requires : tie.Need-load-requires
 load-requires c κs = search needs
 
 returns : tie.Need-returns
-returns c = c .load .ensures ∙ ap (λ (t : List ℕ). loadAnswer t ((c .before .before .before .before) .args .kind)) (built-in _ _ (c .before .before .if1 .taken))
+returns c = c .load .ensures ∙ ap (λ (t : List ℕ). loadAnswer t ((start c) .args .kind)) (built-in _ _ (c .before .before .if1 .taken))
 
 load-from-requires : tie.Need-load-from-requires
 load-from-requires c κs = search needs
 
 returns-2 : tie.Need-returns-2
-returns-2 c = c .load-from .ensures ∙ ap (λ (t : List ℕ). loadAnswer t ((c .before .before .before) .args .kind)) (sym (own-limits _ _ (search needs) (c .before .if1 .left)))
+returns-2 c =
+    c .load-from .ensures
+    ∙ ap (λ (t : List ℕ). loadAnswer t ((c .before .before .before) .args .kind))
+    (sym (own-limits _ _ (search needs) (c .before .if1 .left)))
 
 pub limit-at-spec : {M : Type 1} → statement M
 limit-at-spec =

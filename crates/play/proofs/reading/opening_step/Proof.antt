@@ -5,6 +5,13 @@ use borrow.Author.Needs.{needs}
 use Rattle.play.proofs.reading.opening_step.Statement.{statement}
 use Rattle.play.proofs.reading.opening_step.Tie as tie
 
+-- ---- Places
+
+abbrev after-limit-at : tie.After-head-step → tie.After-limit-at
+after-limit-at c = c .before .before .before .before .before
+
+-- ---- Needs
+
 limit-at-requires : tie.Need-limit-at-requires
 limit-at-requires c κs = search needs
 
@@ -22,7 +29,9 @@ enum-known-loaded-2 c = search needs
 
 returns : tie.Need-returns
 unfolding openingStep
-returns c = rw (sym (c .before .before .before .before .before .limit-at .ensures) ∙ c .before .before .before .loaded .given .1) (rw (c .before .head-with .ensures) at (c .head-step .ensures))
+returns c =
+    rw (sym (after-limit-at c .limit-at .ensures) ∙ c .before .before .before .loaded .given .1)
+    (rw (c .before .head-with .ensures) at (c .head-step .ensures))
 
 returns-2 : tie.Need-returns-2
 unfolding openingStep
