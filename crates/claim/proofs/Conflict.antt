@@ -33,7 +33,8 @@ abbrev six : Call
 six = delivery 0 1 6 0
 
 opens : openAnswer day (opened day) ≡ done
-unfolding openAnswer opened bookFits cellsFit slotsFit daysFit readsFit agreedFits countsFit allLong headOk intervalOk firstDay slotsPerDay slotCount leap monthLengths monthLength yearLength daysBeforeMonth daysBeforeYear dayNumber isDate sum
+unfolding openAnswer opened bookFits cellsFit slotsFit daysFit readsFit agreedFits countsFit allLong headOk intervalOk firstDay slotsPerDay
+    slotCount leap monthLengths monthLength yearLength daysBeforeMonth daysBeforeYear dayNumber isDate sum
 opens = refl
 
 -- either order has the same calls
@@ -43,8 +44,11 @@ turned a b x (List·Memᴰ·tail (List·Memᴰ·head e)) = List·Memᴰ·head e
 turned a b x (List·Memᴰ·tail (List·Memᴰ·tail m)) = absurd (List·Memᴰ·not-nil m)
 
 -- what is published of slot 0, by computing it
-published-first : (outcomeAt day (plainOf day (five ∷ six ∷ [])) 0 .value ≡ 5) × (outcomeAt day (plainOf day (six ∷ five ∷ [])) 0 .value ≡ 6)
-unfolding outcomeAt between lastRead nextRead isRead filledAt goodAt causeAt causeOf isGap timeChangeBit partialBit upTo bookOf keptOf keep plainAnswer againstKept deliveries keptReads highest contentWith argumentRules byVersion headOk intervalOk firstDay slotsPerDay slotCount leap monthLengths monthLength yearLength daysBeforeMonth daysBeforeYear dayNumber isDate sum
+published-first : (outcomeAt day (plainOf day (five ∷ six ∷ [])) 0 .value ≡ 5)
+    × (outcomeAt day (plainOf day (six ∷ five ∷ [])) 0 .value ≡ 6)
+unfolding outcomeAt between lastRead nextRead isRead filledAt goodAt causeAt causeOf isGap timeChangeBit partialBit upTo bookOf keptOf keep
+    plainAnswer againstKept deliveries keptReads highest contentWith argumentRules byVersion headOk intervalOk firstDay slotsPerDay
+    slotCount leap monthLengths monthLength yearLength daysBeforeMonth daysBeforeYear dayNumber isDate sum
 published-first = (refl, refl)
 
 inside : 0 < slotCount day

@@ -12,6 +12,7 @@ use Rattle.publishing.specs.declared.Published.the-variants as published
 use Rattle.publishing.specs.Publishing.{fileLength, publishAnswer}
 
 module _ (h : Head) (b : Book) (out : List ℕ) (good : headOk h ≡ true) (fit : bookFits h b ≡ true) (ok : bookOk h b ≡ true) where
-  pub answer-last : publishAnswer h b out ≡ cond (ltb (length out) (fileLength h (b .cells))) (published.Refused 7) (published.Length (fileLength h (b .cells)))
+  pub answer-last : publishAnswer h b out
+      ≡ cond (ltb (length out) (fileLength h (b .cells))) (published.Refused 7) (published.Length (fileLength h (b .cells)))
   unfolding publishAnswer
   answer-last = rw (good, fit, ok)

@@ -50,11 +50,13 @@ long h b = sym (length-file (published h b))
 
 -- publishing after a list of calls
 module _ (h : Head) (good : headOk h ≡ true) (cs : List Call) (out : List ℕ) where
-  answered : publishAnswer h (leftBy h cs) out ≡ cond (ltb (length out) (length (plainFile h cs))) (Refused 7) (Length (length (plainFile h cs)))
+  answered : publishAnswer h (leftBy h cs) out
+      ≡ cond (ltb (length out) (length (plainFile h cs))) (Refused 7) (Length (length (plainFile h cs)))
   answered =
       answer-last h (leftBy h cs) out good (book-sound h cs .0) (book-sound h cs .1) ∙ (rw (cells-agree h cs, long h (plainOf h cs)))
 
-  pub wrote : publishAfter h (leftBy h cs) out ≡ cond (ltb (length out) (length (plainFile h cs))) out (plainFile h cs ++ drop (length (plainFile h cs)) out)
+  pub wrote : publishAfter h (leftBy h cs) out
+      ≡ cond (ltb (length out) (length (plainFile h cs))) out (plainFile h cs ++ drop (length (plainFile h cs)) out)
   unfolding publishAfter
   wrote = rw (answered, cells-agree h cs) (go (ltb (length out) (length (plainFile h cs))))
     where
@@ -157,7 +159,8 @@ module _ (h g : Head) (b c : Book) (cs ds : List Call) (p : openAnswer h b ≡ d
   any : h ≡ g → NoConflict h (openAfter h b) cs → SameCalls cs ds → plainFile h cs ≡ plainFile g ds
   any one free same =
       same-file h g cs ds one
-      (any-order h cs ds (λ m. free (subst (λ (l : List Answer). List·Memᴰ (refused 10) l) (sym (plain h b cs p)) m)) (λ x. same x .0) (λ x. same x .1))
+      (any-order h cs ds (λ m. free (subst (λ (l : List Answer). List·Memᴰ (refused 10) l) (sym (plain h b cs p)) m)) (λ x. same x .0)
+      (λ x. same x .1))
 
   pub of-two : Claim h g b c cs ds
   of-two =

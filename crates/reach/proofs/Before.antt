@@ -10,7 +10,8 @@ use Rattle.base.proofs.Logic.{either}
 use Rattle.rules.specs.declared.Head.{Head}
 use Rattle.rules.specs.Opening.{Slots, slotCount}
 use Rattle.rules.specs.Tests.{goodAt}
-use Rattle.rules.specs.Filling.{outageBefore, outageAfter, isOutageZero, inRun, runBefore, runFrom, runStart, runLength, isLinear, linearValue}
+use Rattle.rules.specs.Filling.{outageBefore, outageAfter, isOutageZero, inRun, runBefore, runFrom, runStart, runLength, isLinear}
+use Rattle.rules.specs.Filling.{linearValue}
 use Rattle.rules.proofs.Runs.{run-good, before-low}
 use Rattle.reach.proofs.Alike.{SameAt, cond-same, and-same, gap-same, outage-same, good-same, short-of-gap}
 
@@ -26,7 +27,8 @@ module _ (h : Head) (s t : Slots) (v : List ℕ) (m : ℕ) (same : (k : ℕ) →
   unfolding outageAfter
   outage-after zero j l = refl
   outage-after (suc n) j l =
-      cond-same _ _ (gap-same h s t j (same j l)) (λ e. outage-after n (suc j) (short-of-gap h s m j g e l)) (outage-same h s t j (same j l))
+      cond-same _ _ (gap-same h s t j (same j l)) (λ e. outage-after n (suc j) (short-of-gap h s m j g e l))
+      (outage-same h s t j (same j l))
 
   pub zero-before : (j : ℕ) → j ≤ m → isOutageZero h s j ≡ isOutageZero h t j
   unfolding isOutageZero

@@ -10,7 +10,8 @@ use Rattle.base.proofs.Logic.{either}
 use Rattle.rules.specs.declared.Head.{Head}
 use Rattle.rules.specs.Opening.{Slots, slotCount}
 use Rattle.rules.specs.Tests.{goodAt}
-use Rattle.rules.specs.Filling.{outageBefore, outageAfter, isOutageZero, inRun, runBefore, runFrom, runStart, runLength, isLinear, linearValue}
+use Rattle.rules.specs.Filling.{outageBefore, outageAfter, isOutageZero, inRun, runBefore, runFrom, runStart, runLength, isLinear}
+use Rattle.rules.specs.Filling.{linearValue}
 use Rattle.rules.proofs.Runs.{run-good}
 use Rattle.reach.proofs.Alike.{SameAt, cond-same, and-same, gap-same, outage-same, good-same, past-gap}
 

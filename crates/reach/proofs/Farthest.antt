@@ -9,7 +9,8 @@ use lib.Dec.{lit<, lit≤}
 use lib.ListN.{getD, take}
 use Rattle.base.specs.Lists.{sum}
 use Rattle.base.proofs.Lists.{upTo-at}
-use Rattle.calendar.specs.Calendar.{leap, monthLengths, monthLength, yearLength, daysBeforeMonth, daysBeforeYear, dayNumber, isDate, toSunday}
+use Rattle.calendar.specs.Calendar.{leap, monthLengths, monthLength, yearLength, daysBeforeMonth, daysBeforeYear, dayNumber, isDate}
+use Rattle.calendar.specs.Calendar.{toSunday}
 use Rattle.rules.specs.declared.Head.{Head}
 use Rattle.rules.specs.declared.Outcome.{Outcome}
 use Rattle.reach.proofs.Heads.{headOn}
@@ -29,8 +30,10 @@ unfolding bookOf
 holiday-at h kept d m = upTo-at (λ d. cond (named d kept) 1 0) 0 (h .days) d m
 
 -- slot k is a reference where its kept delivery is good and has no outage bit
-reference-at : (h : Head) (kept : List Call) (k : ℕ) (t : Bool) → k < slotCount h → k / slotsPerDay h < h .days → named (k / slotsPerDay h) kept ≡ false
-    → goodIn h kept k ≡ true → outageBit (slotContent kept k .status) ≡ t → isReference h (bookOf h kept .slots) (bookOf h kept .holidays) k ≡ not t
+reference-at : (h : Head) (kept : List Call) (k : ℕ) (t : Bool) → k < slotCount h → k / slotsPerDay h < h .days
+    → named (k / slotsPerDay h) kept ≡ false
+    → goodIn h kept k ≡ true → outageBit (slotContent kept k .status) ≡ t
+    → isReference h (bookOf h kept .slots) (bookOf h kept .holidays) k ≡ not t
 unfolding isReference
 reference-at h kept k t l d e g o = rw (good-at h kept k l ∙ g, status-at h kept k l, o, holiday-at h kept (k / slotsPerDay h) d, e) (go t)
   where
@@ -136,32 +139,39 @@ weeks-first kept e = rw (holiday-at year kept 364 (lit< tt), e) (refl, refl)
 feast-first : (kept : List Call) → named 370 kept ≡ true
     → (firstBack more (bookOf more kept .holidays) (17_807 / slotsPerDay more) ≡ 6)
     × (weeksWithin 6 (farthestBack (bookOf more kept .holidays) (17_807 / slotsPerDay more)) ≡ 53)
-unfolding slotsPerDay firstBack farthestBack weeksWithin firstDay leap monthLengths monthLength yearLength daysBeforeMonth daysBeforeYear dayNumber isDate toSunday sum
+unfolding slotsPerDay firstBack farthestBack weeksWithin firstDay leap monthLengths monthLength yearLength daysBeforeMonth daysBeforeYear
+    dayNumber isDate toSunday sum
 feast-first kept e = rw (holiday-at more kept 370 (lit< tt), e) (refl, refl)
 
 -- the method of the last slot, where slot 47 is the only one that can be its reference
 last-method : (h : Head) (kept : List Call) (p j first k : ℕ) (t : Bool) → Sparse h kept 47 p j
-    → (firstBack h (bookOf h kept .holidays) (j / slotsPerDay h) ≡ first) × (weeksWithin first (farthestBack (bookOf h kept .holidays) (j / slotsPerDay h)) ≡ suc k)
+    → (firstBack h (bookOf h kept .holidays) (j / slotsPerDay h) ≡ first)
+    × (weeksWithin first (farthestBack (bookOf h kept .holidays) (j / slotsPerDay h)) ≡ suc k)
     → j ≡ 47 + (first + 7 * k) * 48 → 1 ≤ first → isReference h (bookOf h kept .slots) (bookOf h kept .holidays) 47 ≡ t
     → outcomeAt h (bookOf h kept) j .method ≡ cond t 3 0
 last-method h kept p j first k t x f far later e =
-    ap (λ (o : Outcome). o .method) (outcome-last h kept 47 p j x first k (f .0) (f .1) far later) ∙ rw e (method-of t (getD (bookOf h kept .slots .values) 47 0))
+    ap (λ (o : Outcome). o .method) (outcome-last h kept 47 p j x first k (f .0) (f .1) far later)
+    ∙ rw e (method-of t (getD (bookOf h kept .slots .values) 47 0))
 
 -- without and with the outage bit at slot 47
-pub weeks-method : (outcomeAt year (bookOf year weeksKept) 17_519 .method ≡ 3) × (outcomeAt year (bookOf year (again ∷ weeksKept)) 17_519 .method ≡ 0)
+pub weeks-method : (outcomeAt year (bookOf year weeksKept) 17_519 .method ≡ 3)
+    × (outcomeAt year (bookOf year (again ∷ weeksKept)) 17_519 .method ≡ 0)
 unfolding named deliveries highest contentWith causeOf timeChangeBit partialBit outageBit
 weeks-method = (
   last-method year weeksKept 17_518 17_519 7 51 true weeks-before (weeks-first weeksKept refl) refl (lit≤ tt)
       (reference year weeksKept false (weeks-before .days) (omega (arith, year-count)) (lit< tt) refl refl refl),
-  last-method year (again ∷ weeksKept) 17_518 17_519 7 51 false (sparse-again weeks-before) (weeks-first (again ∷ weeksKept) refl) refl (lit≤ tt)
+  last-method year (again ∷ weeksKept) 17_518 17_519 7 51 false (sparse-again weeks-before) (weeks-first (again ∷ weeksKept) refl) refl
+      (lit≤ tt)
       (reference year (again ∷ weeksKept) true (weeks-before .days) (omega (arith, year-count)) (lit< tt) refl refl refl),
 )
 
-pub feast-method : (outcomeAt more (bookOf more feastKept) 17_807 .method ≡ 3) × (outcomeAt more (bookOf more (again ∷ feastKept)) 17_807 .method ≡ 0)
+pub feast-method : (outcomeAt more (bookOf more feastKept) 17_807 .method ≡ 3)
+    × (outcomeAt more (bookOf more (again ∷ feastKept)) 17_807 .method ≡ 0)
 unfolding named deliveries highest contentWith causeOf timeChangeBit partialBit outageBit
 feast-method = (
   last-method more feastKept 17_806 17_807 6 52 true feast-before (feast-first feastKept refl) refl (lit≤ tt)
       (reference more feastKept false (feast-before .days) (omega (arith, more-count)) (lit< tt) refl refl refl),
-  last-method more (again ∷ feastKept) 17_806 17_807 6 52 false (sparse-again feast-before) (feast-first (again ∷ feastKept) refl) refl (lit≤ tt)
+  last-method more (again ∷ feastKept) 17_806 17_807 6 52 false (sparse-again feast-before) (feast-first (again ∷ feastKept) refl) refl
+      (lit≤ tt)
       (reference more (again ∷ feastKept) true (feast-before .days) (omega (arith, more-count)) (lit< tt) refl refl refl),
 )

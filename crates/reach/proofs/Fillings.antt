@@ -110,7 +110,8 @@ module _ (h : Head) (s t : Slots) (i : ℕ) (in-book : i < slotCount h) (same : 
         ⊎-elim (fills-good j apart)
         (λ cause.
         let x = alike j lt apart clear cause (a .versions) in
-        let refs = references-same h s t holidays i same pos j (λ days (p, w). far (record { days = days; place = p; cause = cause; within = w })) in
+        let refs = references-same h s t holidays i same pos j
+        (λ days (p, w). far (record { days = days; place = p; cause = cause; within = w })) in
         let c' : HasCause h t j = sym (good-same h s t j (same j apart)) ∙ cause in
         (rw (cause, c', x .zeroed, x .linear, x .value, refs), rw (cause, c', x .zeroed, x .linear, x .value, refs)))
         (either (goodAt h s j))

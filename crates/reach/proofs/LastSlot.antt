@@ -11,7 +11,8 @@ use lib.ListN.{length, getD}
 use Rattle.rules.specs.declared.Head.{Head}
 use Rattle.rules.specs.Opening.{Slots, Agreed, Cells, slotsPerDay, slotCount}
 use Rattle.rules.specs.Tests.{isGap, goodAt}
-use Rattle.rules.specs.Filling.{outageAt, outageBefore, outageAfter, isOutageZero, isAgreed, inRun, runStart, runLength, isLinear, isReference, references, fromReferences, filledAt}
+use Rattle.rules.specs.Filling.{outageAt, outageBefore, outageAfter, isOutageZero, isAgreed, inRun, runStart, runLength, isLinear}
+use Rattle.rules.specs.Filling.{isReference, references, fromReferences, filledAt}
 use Rattle.rules.specs.Inner.Ways.{searched}
 use Rattle.rules.proofs.Outages.{good-delivered}
 use Rattle.rules.proofs.Runs.{from-on, before-low}
@@ -72,7 +73,8 @@ module _ (h : Head) (s : Slots) (holidays : List ℕ) (i : ℕ) where
 
   -- the last slot of a book, a gap, behind a good slot without the outage bit
   module _ (a : Agreed) (p j : ℕ) (next : j ≡ suc p) (end : slotCount h ≡ suc j) (gap : isGap (s .versions) j ≡ true)
-      (cause : goodAt h s j ≡ false) (free : isAgreed (a .versions) j ≡ false) (left : goodAt h s p ≡ true) (calm : outageAt (s .versions) (s .statuses) p ≡ false) where
+      (cause : goodAt h s j ≡ false) (free : isAgreed (a .versions) j ≡ false) (left : goodAt h s p ≡ true)
+      (calm : outageAt (s .versions) (s .statuses) p ≡ false) where
     not-zeroed : isOutageZero h s j ≡ false
     unfolding isOutageZero outageBefore outageAfter
     not-zeroed =

@@ -10,15 +10,19 @@ use lib.ListN.{length, getD}
 use borrow.Author.Tests.{eqb-true}
 use Rattle.base.specs.Lists.{every, sum, any, upTo, sumOf}
 use Rattle.base.proofs.Logic.{passed}
-use Rattle.calendar.specs.Calendar.{leap, monthLengths, monthLength, yearLength, daysBeforeMonth, daysBeforeYear, dayNumber, isDate, toSunday}
+use Rattle.calendar.specs.Calendar.{leap, monthLengths, monthLength, yearLength, daysBeforeMonth, daysBeforeYear, dayNumber, isDate}
+use Rattle.calendar.specs.Calendar.{toSunday}
 use Rattle.rules.specs.declared.Head.{Head}
 use Rattle.rules.specs.declared.Outcome.{Outcome}
 use Rattle.reach.proofs.Heads.{headOn}
 use Rattle.rules.specs.Opening.{Cells, headOk, intervalOk, firstDay, slotsPerDay, slotCount}
 use Rattle.rules.specs.Tests.{isGap, timeChangeBit, outageBit, partialBit, causeOf, causeAt, goodAt}
 use Rattle.rules.specs.Weeks.{firstBack, farthestBack, weeksWithin}
-use Rattle.rules.specs.Filling.{outageAt, outageBefore, outageAfter, isOutageZero, isAgreed, inRun, runBefore, runFrom, runStart, runLength, isLinear, lineValue, linearValue, isReference, weekBack, weeksBack, references, meanOf, fromReferences, filledAt}
-use Rattle.rules.specs.Spans.{isRead, lastRead, nextRead, advance, rangeOf, leastIn, isNear, stateBy, start, slotsIn, G, range, actualSum, R, stateOf, inSpan, between, outcomeAt, spanOf, spanTo, spanFrom, spansFrom, spans}
+use Rattle.rules.specs.Filling.{outageAt, outageBefore, outageAfter, isOutageZero, isAgreed, inRun, runBefore, runFrom, runStart, runLength}
+use Rattle.rules.specs.Filling.{isLinear, lineValue, linearValue, isReference, weekBack, weeksBack, references, meanOf, fromReferences}
+use Rattle.rules.specs.Filling.{filledAt}
+use Rattle.rules.specs.Spans.{isRead, lastRead, nextRead, advance, rangeOf, leastIn, isNear, stateBy, start, slotsIn, G, range, actualSum}
+use Rattle.rules.specs.Spans.{R, stateOf, inSpan, between, outcomeAt, spanOf, spanTo, spanFrom, spansFrom, spans}
 use Rattle.book.specs.Answers.{Answer, isStored, byVersion}
 use Rattle.book.specs.Arguments.{argumentRules}
 use Rattle.book.specs.Arguments.Call.{delivery, register}
@@ -74,7 +78,12 @@ tests =
     ∷ []
 
 computed : every tests ≡ true
-unfolding outcomeAt between lastRead nextRead isRead filledAt fromReferences references sumOf meanOf weekBack weeksBack isReference isLinear linearValue lineValue runStart runLength runFrom runBefore inRun isAgreed isOutageZero outageAfter outageBefore outageAt goodAt causeAt causeOf isGap timeChangeBit outageBit partialBit firstBack farthestBack weeksWithin slotCount slotsPerDay upTo bookOf keptOf keep plainAnswer againstKept named agreements keptReads deliveries highest contentWith argumentRules byVersion headOk intervalOk firstDay leap monthLengths monthLength yearLength daysBeforeMonth daysBeforeYear dayNumber isDate toSunday sum inSpan stateOf stateBy range rangeOf G advance R leastIn actualSum isNear start slotsIn any spans spansFrom spanFrom spanTo spanOf
+unfolding outcomeAt between lastRead nextRead isRead filledAt fromReferences references sumOf meanOf weekBack weeksBack isReference isLinear
+    linearValue lineValue runStart runLength runFrom runBefore inRun isAgreed isOutageZero outageAfter outageBefore outageAt goodAt causeAt
+    causeOf isGap timeChangeBit outageBit partialBit firstBack farthestBack weeksWithin slotCount slotsPerDay upTo bookOf keptOf keep
+    plainAnswer againstKept named agreements keptReads deliveries highest contentWith argumentRules byVersion headOk intervalOk firstDay
+    leap monthLengths monthLength yearLength daysBeforeMonth daysBeforeYear dayNumber isDate toSunday sum inSpan stateOf stateBy range
+    rangeOf G advance R leastIn actualSum isNear start slotsIn any spans spansFrom spanFrom spanTo spanOf
 computed = refl
 
 -- what test k of them says
@@ -100,16 +109,19 @@ second-needed = (
   beside,
   moves-by beside (λ o. o .method) 0 1 (told 15) (within 11 (lit< tt)) (eqb-true _ _ (told 7)) (eqb-true _ _ (told 8)) (λ e. omega arith),
   ⊎-elim (λ e. omega arith)
-      (⊎-elim (⊎-elim (apart day _ _ 10 11 1 half-hours refl (lit< tt) (lit< tt)) (apart day _ _ 10 11 1 half-hours refl (lit< tt) (lit< tt)))
+      (⊎-elim (⊎-elim (apart day _ _ 10 11 1 half-hours refl (lit< tt) (lit< tt))
+      (apart day _ _ 10 11 1 half-hours refl (lit< tt) (lit< tt)))
       (no-span day _ _ 10 11 (eqb-true _ _ (told 9)))),
 )
 
 pub fourth-needed : (l : Late) × Moves l × OnlySpan l
 fourth-needed = (
   spanned,
-  moves-by spanned (λ o. o .method) 18 2 (told 16) (within 21 (lit< tt)) (eqb-true _ _ (told 10)) (eqb-true _ _ (told 11)) (λ e. omega arith),
+  moves-by spanned (λ o. o .method) 18 2 (told 16) (within 21 (lit< tt)) (eqb-true _ _ (told 10)) (eqb-true _ _ (told 11))
+      (λ e. omega arith),
   ⊎-elim (λ e. omega arith)
       (⊎-elim
-      (⊎-elim (cut day _ 10 20 21 (lit≤ tt) (lit≤ tt) (inl (lit< tt)) (told 12)) (cut day _ 10 20 21 (lit≤ tt) (lit≤ tt) (inl (lit< tt)) (told 13)))
+      (⊎-elim (cut day _ 10 20 21 (lit≤ tt) (lit≤ tt) (inl (lit< tt)) (told 12))
+      (cut day _ 10 20 21 (lit≤ tt) (lit≤ tt) (inl (lit< tt)) (told 13)))
       (⊎-elim (apart day _ _ 10 21 11 half-hours refl (lit< tt) (lit< tt)) (apart day _ _ 10 21 11 half-hours refl (lit< tt) (lit< tt)))),
 )

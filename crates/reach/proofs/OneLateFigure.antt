@@ -48,7 +48,8 @@ unmoved h w b t i lt same =
       eachSpan = each-span-kept h w b t i lt same;
       records = record {
         slotRecords = λ j l free.
-            slot-record h b j l ∙ ap (λ (o : Outcome). row (slotRow o)) (outcome-kept h w b t i lt same j l free) ∙ sym (slot-record h c j l);
+            slot-record h b j l ∙ ap (λ (o : Outcome). row (slotRow o)) (outcome-kept h w b t i lt same j l free)
+            ∙ sym (slot-record h c j l);
         spanRecords = λ k l free.
             span-record h b k l ∙ ap (λ (s : Span). row (spanRow true s)) (each-span-kept h w b t i lt same k l free)
             ∙ sym (span-record h c k (rw (← same-count h b t) l));
@@ -82,7 +83,8 @@ module _ (h : Head) (b : Book) (i version value status : ℕ) (e : answer h b (d
   told : (headOk h ≡ true) × (i < slotCount h)
   unfolding answer deliverAnswer argumentRules
   told =
-      let u = unless-accepted (inputRules h (slotsFit h (b .cells .slots) && countsFit h (b .counts)) (delivery i version value status)) (againstDelivery h (b .cells .slots) (b .counts) i version value status) (ap isAccepted e) .1 in
+      let u = unless-accepted (inputRules h (slotsFit h (b .cells .slots) && countsFit h (b .counts)) (delivery i version value status))
+      (againstDelivery h (b .cells .slots) (b .counts) i version value status) (ap isAccepted e) .1 in
       (not-false _ (u 0), leb-false _ _ (u 2))
 
 -- what publishing leaves in a buffer with room begins with the file
@@ -106,7 +108,12 @@ reach h calls i version value status e =
     let t = told h b i version value status e in
     let more = calls ++ (delivery i version value status ∷ []) in
     let plain : Unmoved h (plainOf h calls) (plainOf h more) i =
-    rw (← cells-agree h calls, ← cells-agree h more, after-last h _ calls (delivery i version value status), leaves h b i version value status e)
+    rw (
+      ← cells-agree h calls,
+      ← cells-agree h more,
+      after-last h _ calls (delivery i version value status),
+      leaves h b i version value status e,
+    )
     (unmoved h (bounded h (t .0)) (b .cells) (left h b i version value status e) i (t .1) (others h b i version value status e)) in
     record {
       plain = plain;

@@ -64,13 +64,15 @@ module _ (h : Head) (w : Bounded h) (b : Cells) (t : Slots) (i : ℕ) (in-book :
 
   -- a span that the readings of either book make: neighbouring boundaries with a reading
   module _ (j : ℕ) (lt : j < slotCount h) (free : Reached h b c i j → ⊥) where
-    span-clear : (s : Span) → Neighbours h b s → s .first * n ≤ j → j < s .last * n → (m : ℕ) → s .first * n ≤ m → m < s .last * n → Met h b c i m → ⊥
+    span-clear : (s : Span) → Neighbours h b s → s .first * n ≤ j → j < s .last * n → (m : ℕ) → s .first * n ≤ m → m < s .last * n
+        → Met h b c i m → ⊥
     unfolding spanOf
     span-clear s x l r m low high met =
         let (k, in-list, is) = span-found h b (s .first) (s .last) (omega (arith, x .ordered, x .within)) (x .first-read) (x .next) in
         free (inr (record { span = k; spanned = in-list; slot = m; held = rw is (low, high); met = met; holds = rw is (l, r) }))
 
-    inside-kept : (s : Span) → Neighbours h b s → s .first * n ≤ j → j < s .last * n → inSpan h b (s .first) (s .last) j ≡ inSpan h c (s .first) (s .last) j
+    inside-kept : (s : Span) → Neighbours h b s → s .first * n ≤ j → j < s .last * n
+        → inSpan h b (s .first) (s .last) j ≡ inSpan h c (s .first) (s .last) j
     inside-kept s x l r =
         in-span-kept (s .first) (s .last) (omega (arith, x .ordered)) (x .within) (span-clear s x l r) j l r
 
@@ -81,7 +83,9 @@ module _ (h : Head) (w : Bounded h) (b : Cells) (t : Slots) (i : ℕ) (in-book :
         go : {x y : Outcome} → Place h b j x → Place h c j y → outcomeAt h b j ≡ x → outcomeAt h c j ≡ y → x ≡ y
         go outside outside p q = slot-kept j lt (λ met. free (inl met)) .0
         go (inside s x l r) y p q =
-            inside-kept s x l r ∙ sym (in-span h w c (spanOf h c (s .first) (s .last)) (neighbours h c (s .first) (s .last) (x .first-read) (x .next)) j l r) ∙ q
+            inside-kept s x l r
+            ∙ sym (in-span h w c (spanOf h c (s .first) (s .last)) (neighbours h c (s .first) (s .last) (x .first-read) (x .next)) j l r)
+            ∙ q
         go outside (inside s x l r) p q =
             let s' = spanOf h b (s .first) (s .last) in
             let x' = neighbours h b (s .first) (s .last) (x .first-read) (x .next) in

@@ -45,7 +45,8 @@ module _ (h : Head) (b : Cells) where
 
   pub slot-record : (j : ℕ) → j < slotCount h → take 6 (drop (6 * j) (fileOf (published h b))) ≡ row (slotRow (outcomeAt h b j))
   slot-record j l =
-      rw (parts, ← slot-of j l) (row-at slotRow 6 (λ x. refl) (outcomes h b) noSlot (table (spanRow true) (spans h b) ++ rest) j (omega (arith, count)))
+      rw (parts, ← slot-of j l)
+      (row-at slotRow 6 (λ x. refl) (outcomes h b) noSlot (table (spanRow true) (spans h b) ++ rest) j (omega (arith, count)))
 
   pub span-record : (k : ℕ) → k < length (spans h b)
       → take 14 (drop (6 * slotCount h + 14 * k) (fileOf (published h b))) ≡ row (spanRow true (getD (spans h b) k noSpan))
@@ -64,9 +65,11 @@ module _ (h : Head) (b : Cells) where
   unfolding published
   long = length-file (published h b) ∙ rw count
 
-  pub slot-in-buffer : (rest : List ℕ) (j : ℕ) → j < slotCount h → take 6 (drop (6 * j) (fileOf (published h b) ++ rest)) ≡ take 6 (drop (6 * j) (fileOf (published h b)))
+  pub slot-in-buffer : (rest : List ℕ) (j : ℕ) → j < slotCount h
+      → take 6 (drop (6 * j) (fileOf (published h b) ++ rest)) ≡ take 6 (drop (6 * j) (fileOf (published h b)))
   slot-in-buffer rest j l = part-in (fileOf (published h b)) rest 6 (6 * j) (omega (arith, long))
 
   pub span-in-buffer : (rest : List ℕ) (k : ℕ) → k < length (spans h b)
-      → take 14 (drop (6 * slotCount h + 14 * k) (fileOf (published h b) ++ rest)) ≡ take 14 (drop (6 * slotCount h + 14 * k) (fileOf (published h b)))
+      → take 14 (drop (6 * slotCount h + 14 * k) (fileOf (published h b) ++ rest))
+      ≡ take 14 (drop (6 * slotCount h + 14 * k) (fileOf (published h b)))
   span-in-buffer rest k l = part-in (fileOf (published h b)) rest 14 (6 * slotCount h + 14 * k) (omega (arith, long))

@@ -1,4 +1,5 @@
--- A span whose slots are filled alike in two books has one outcome, and so has each of its slots; the boundaries rest on the register reads alone.
+-- A span whose slots are filled alike in two books has one outcome, and so has each of its slots; the boundaries rest on the register
+-- reads alone.
 use mathlib.Core.Bool.{Bool}
 use mathlib.Core.Path.{_≡_, ap}
 use Prim.Native.Nat.{ℕ, _+_, _-_, _*_, _≤_, _<_}
@@ -12,7 +13,8 @@ use Rattle.rules.specs.declared.Outcome.{Outcome}
 use Rattle.rules.specs.declared.Quality.{Quality}
 use Rattle.rules.specs.Opening.{Slots, Cells, slotsPerDay}
 use Rattle.rules.specs.Filling.{filledAt, shapeAt}
-use Rattle.rules.specs.Spans.{isS, isN, actualIn, start, slotsIn, G, range, actualSum, R, stateOf, T, allZero, e, E, C, P, newValue, inSpan, spanOf}
+use Rattle.rules.specs.Spans.{isS, isN, actualIn, start, slotsIn, G, range, actualSum, R, stateOf, T, allZero, e, E, C, P, newValue, inSpan}
+use Rattle.rules.specs.Spans.{spanOf}
 
 module _ (h : Head) (b : Cells) (t : Slots) where
   abbrev c : Cells
@@ -24,7 +26,8 @@ module _ (h : Head) (b : Cells) (t : Slots) where
       (filledAt h (b .slots) (b .agreed) (b .holidays) j ≡ filledAt h t (b .agreed) (b .holidays) j)
       × (shapeAt h (b .slots) (b .agreed) (b .holidays) j ≡ shapeAt h t (b .agreed) (b .holidays) j)
 
-  module _ (first last : ℕ) (kept : (j : ℕ) → first * slotsPerDay h ≤ j → j < first * slotsPerDay h + (last - first) * slotsPerDay h → Kept j) where
+  module _ (first last : ℕ) (kept : (j : ℕ) → first * slotsPerDay h ≤ j → j < first * slotsPerDay h + (last - first) * slotsPerDay h
+      → Kept j) where
     actual-same : actualSum h b first last ≡ actualSum h c first last
     unfolding actualSum start slotsIn
     actual-same = sum-cong _ _ _ _ (λ j l m. ap actualIn (kept j l m .0))

@@ -92,12 +92,14 @@ module _ (h : Head) (kept : List Call) where
 
     -- of the weeks from `first` days before slot j the last leads to slot i
     module _ (first k : ℕ) (starts : firstBack h (b .holidays) (j / slotsPerDay h) ≡ first)
-        (weeks : weeksWithin first (farthestBack (b .holidays) (j / slotsPerDay h)) ≡ suc k) (far : j ≡ i + (first + 7 * k) * 48) (later : 1 ≤ first) where
+        (weeks : weeksWithin first (farthestBack (b .holidays) (j / slotsPerDay h)) ≡ suc k) (far : j ≡ i + (first + 7 * k) * 48)
+        (later : 1 ≤ first) where
       no-reference : (r : ℕ) → r < k → isReference h (b .slots) (b .holidays) (j - (first + 7 * r) * slotsPerDay h) ≡ false
       unfolding isReference
       no-reference r l =
           let w : (first + 7 * r) * slotsPerDay h ≡ (first + 7 * r) * 48 = ap (λ (n : ℕ). (first + 7 * r) * n) (x .days) in
-          let e : deliveries (j - (first + 7 * r) * slotsPerDay h) kept ≡ [] = x .empty _ (λ z. omega arith) (λ z. omega (arith, x .next)) in
+          let e : deliveries (j - (first + 7 * r) * slotsPerDay h) kept ≡ [] =
+          x .empty _ (λ z. omega arith) (λ z. omega (arith, x .next)) in
           rw (cause-at (j - (first + 7 * r) * slotsPerDay h) (omega (arith, x .end)) e)
 
       one-reference : references h (b .slots) (b .holidays) j

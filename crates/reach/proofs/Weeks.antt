@@ -31,7 +31,8 @@ module _ (h : Head) (s t : Slots) (holidays : List ℕ) (i : ℕ) (same : (k : �
       rw z (omega arith)
 
   -- none of the k weeks from `days` days before slot j leads to slot i
-  weeks-same : (k days j : ℕ) → ((r : ℕ) → r < k → j ≡ i + (days + 7 * r) * n → ⊥) → searched h s holidays days j k ≡ searched h t holidays days j k
+  weeks-same : (k days j : ℕ) → ((r : ℕ) → r < k → j ≡ i + (days + 7 * r) * n → ⊥)
+      → searched h s holidays days j k ≡ searched h t holidays days j k
   unfolding searched
   weeks-same zero days j far = refl
   weeks-same (suc k) days j far =
@@ -69,7 +70,8 @@ module _ (h : Head) (s t : Slots) (holidays : List ℕ) (i : ℕ) (same : (k : �
     unfolding firstBack farthestBack
     references-same far =
         references-searched h s holidays j
-        ∙ ap (take 4) (weeks-same (weeksWithin (firstBack h holidays d) (farthestBack holidays d)) (firstBack h holidays d) j (λ r l e. go (eqb (getD holidays d 0) 0) refl r l e))
+        ∙ ap (take 4) (weeks-same (weeksWithin (firstBack h holidays d) (farthestBack holidays d)) (firstBack h holidays d) j
+        (λ r l e. go (eqb (getD holidays d 0) 0) refl r l e))
         ∙ sym (references-searched h t holidays j)
       where
         go : (x : Bool) → eqb (getD holidays d 0) 0 ≡ x → (r : ℕ) → r < weeksWithin (firstBack h holidays d) (farthestBack holidays d)
@@ -78,7 +80,15 @@ module _ (h : Head) (s t : Slots) (holidays : List ℕ) (i : ℕ) (same : (k : �
             let k : 7 + 7 * r ≤ 364 = week-within 7 364 r (omega arith) .0 (rw x at l) in
             far (7 + 7 * r) (rw x at e, inl (record { later = omega arith; whole = omega arith; most = k }))
         go false x r l e =
-            let f : toSunday (firstDay h + d) + 7 * r ≤ 370 = week-within (toSunday (firstDay h + d)) 370 r (one-to-seven (firstDay h + d) .1) .0 (rw x at l) in
+            let f : toSunday (firstDay h + d) + 7 * r ≤ 370 =
+            week-within (toSunday (firstDay h + d)) 370 r (one-to-seven (firstDay h + d) .1) .0 (rw x at l) in
             let p : j ≡ i + (toSunday (firstDay h + d) + 7 * r) * n = rw x at e in
-            far (toSunday (firstDay h + d) + 7 * r)
-            (p, inr (record { holiday = eqb-false _ _ x; sunday = on-sunday r p; later = omega (arith, one-to-seven (firstDay h + d)); most = f }))
+            far (toSunday (firstDay h + d) + 7 * r) (
+              p,
+              inr (record {
+                holiday = eqb-false _ _ x;
+                sunday = on-sunday r p;
+                later = omega (arith, one-to-seven (firstDay h + d));
+                most = f;
+              }),
+            )
