@@ -53,7 +53,8 @@ pub record Meant (h : Head) (seed loss : ℕ) (b : Book) (out : List ℕ) (r : S
   pub bytes : out' ≡ simulateBytes h seed loss b out
 
 -- as the contract has them
-pub each : {h : Head} {seed loss : ℕ} {b : Book} {out : List ℕ} {r : Simulated} {b' : Book} {out' : List ℕ} → Meant h seed loss b out r b' out'
+pub each : {h : Head} {seed loss : ℕ} {b : Book} {out : List ℕ} {r : Simulated} {b' : Book} {out' : List ℕ}
+    → Meant h seed loss b out r b' out'
     → (r ≡ simulateAnswer h seed loss b out) × (b' ≡ simulateLists h seed loss b out) × (out' ≡ simulateBytes h seed loss b out)
 each m = (m .answer, m .lists, m .bytes)
 

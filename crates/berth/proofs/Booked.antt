@@ -44,7 +44,8 @@ module _ (h : Head) (seed loss : ℕ) (good : headOk h ≡ true) where
 
   last-read : readVersion all (h .days) ≡ 1
   unfolding keptReads highest
-  last-read = rw (eq-eqb (h .days) (h .days) refl, ne-eqb 0 (h .days) (λ e. omega (arith, some-days)), heard-all h seed loss good .unread (h .days))
+  last-read =
+      rw (eq-eqb (h .days) (h .days) refl, ne-eqb 0 (h .days) (λ e. omega (arith, some-days)), heard-all h seed loss good .unread (h .days))
 
   none-read : (d : ℕ) → 0 < d → d < h .days → readVersion all d ≡ 0
   unfolding keptReads highest
@@ -92,7 +93,8 @@ module _ (h : Head) (seed loss : ℕ) (good : headOk h ≡ true) where
 
   last-dial : readContent all (h .days) .reading ≡ reading h seed loss good
   unfolding keptReads highest contentWith
-  last-dial = rw (eq-eqb (h .days) (h .days) refl, ne-eqb 0 (h .days) (λ e. omega (arith, some-days)), heard-all h seed loss good .unread (h .days))
+  last-dial =
+      rw (eq-eqb (h .days) (h .days) refl, ne-eqb 0 (h .days) (λ e. omega (arith, some-days)), heard-all h seed loss good .unread (h .days))
 
   pub dial-first : getD (book .readings) 0 0 ≡ 0
   unfolding bookOf

@@ -36,13 +36,17 @@ low : (h : Head) (seed loss : ℕ) → headOk h ≡ true
 unfolding reportOf
 low h seed loss good =
     let high = true-high h seed loss good in
-    let below : trueTotal h seed loss ≤ 11_520_000_000_000 = omega arith in
-    (size-low (figuresOf (published h (plainOf h (callsOf h seed loss))) .sum) (trueTotal h seed loss) 11_520_000_000_000 (sum-high h seed loss good) below, high)
+    let below : trueTotal h seed loss ≤ 11_520_000_000_000 = omega arith in (
+      size-low (figuresOf (published h (plainOf h (callsOf h seed loss))) .sum) (trueTotal h seed loss) 11_520_000_000_000
+          (sum-high h seed loss good) below,
+      high,
+    )
 
 pub report-low : (h : Head) (seed loss : ℕ) (b : Book) (out : List ℕ) (r : Report) → Run r ≡ simulateAnswer h seed loss b out
     → (natAbs (r .difference) ≤ 11_520_000_000_000) × (r .total ≤ 57_600_000_000)
 unfolding simulateAnswer
 report-low h seed loss b out r e =
-    let (told, kept) = unless-answered Refused (λ a. a ≡ Run r) (λ n z. let z : _≡_ {A = ℕ} 0 1 = cc in omega arith) (runRules h seed loss (bookFits h b) (length out)) _ (sym e) in
+    let (told, kept) = unless-answered Refused (λ a. a ≡ Run r) (λ n z. let z : _≡_ {A = ℕ} 0 1 = cc in omega arith)
+    (runRules h seed loss (bookFits h b) (length out)) _ (sym e) in
     let same : r ≡ reportOf h seed loss = cc in
     rw same (low h seed loss (not-false _ (kept 0)))

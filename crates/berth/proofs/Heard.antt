@@ -30,7 +30,8 @@ delivery-stored : (h : Head) (kept : List Call) (slot value : ℕ) → headOk h 
 unfolding plainAnswer argumentRules againstKept byVersion highest
 delivery-stored h kept slot value good lt e = rw (good, lt-leb _ _ lt, e)
 
-read-stored : (h : Head) (kept : List Call) (boundary reading : ℕ) → headOk h ≡ true → boundary ≤ h .days → reading ≤ 99_999_999 → keptReads boundary kept ≡ []
+read-stored : (h : Head) (kept : List Call) (boundary reading : ℕ) → headOk h ≡ true → boundary ≤ h .days → reading ≤ 99_999_999
+    → keptReads boundary kept ≡ []
     → plainAnswer h kept (register boundary 1 reading 0) ≡ stored
 unfolding plainAnswer argumentRules againstKept byVersion highest
 read-stored h kept boundary reading good le low e = rw (good, le-ltb _ _ le, le-ltb _ _ low, e)
@@ -51,7 +52,8 @@ module _ (h : Head) (seed loss : ℕ) where
 
   heard-lost : (n : ℕ) (kept : List Call) → Heard n kept → lostAt h seed loss n ≡ true → Heard (suc n) kept
   heard-lost n kept k t = record {
-    before = λ i lt. ⊎-elim (λ (e : i ≡ n). rw (e, k .after n (omega arith), t)) (λ l. k .before i (omega arith)) (eq-or-lt-of-le (omega arith));
+    before =
+        λ i lt. ⊎-elim (λ (e : i ≡ n). rw (e, k .after n (omega arith), t)) (λ l. k .before i (omega arith)) (eq-or-lt-of-le (omega arith));
     after = λ i le. k .after i (omega arith);
     unread = k .unread;
     unagreed = k .unagreed;
@@ -84,7 +86,14 @@ module _ (h : Head) (seed loss : ℕ) where
 
     heard : (n : ℕ) → n ≤ slotCount h → Heard n (keptOf h [] (sent h seed loss n))
     unfolding sent keptOf deliveries keptReads agreements named
-    heard zero le = record { before = λ i lt. absurd (omega arith); after = λ i le. refl; unread = λ d. refl; unagreed = λ i. refl; unnamed = λ d. refl }
+    heard zero le =
+        record {
+          before = λ i lt. absurd (omega arith);
+          after = λ i le. refl;
+          unread = λ d. refl;
+          unagreed = λ i. refl;
+          unnamed = λ d. refl;
+        }
     heard (suc n) le =
         rw (kept-append h [] (sent h seed loss n) (sentAt h seed loss n))
         (heard-next n (keptOf h [] (sent h seed loss n)) (omega arith) (heard n (omega arith)))

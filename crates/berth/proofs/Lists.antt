@@ -36,13 +36,15 @@ abbrev pub dialAfter : Head → Reads → ℕ → Reads
 dialAfter h r total = registerAfter h (registerAfter h r 0 1 0 0) (h .days) 1 (total % 100_000_000) 0
 
 module _ (h : Head) (seed loss : ℕ) (b : Book) where
-  one-sent : (s : Sent) (i : ℕ) → afterAll h (withSent b s) (sentAt h seed loss i) ≡ withSent b (sentOne h s i (berthAfter h seed loss (suc i)))
+  one-sent : (s : Sent) (i : ℕ)
+      → afterAll h (withSent b s) (sentAt h seed loss i) ≡ withSent b (sentOne h s i (berthAfter h seed loss (suc i)))
   unfolding sentAt lostAt valueAt sentOne afterAll after
   one-sent s i = go (berthAfter h seed loss (suc i) .lost) (berthAfter h seed loss (suc i) .value)
     where
       go : (t : Bool) (v : ℕ)
           → afterAll h (withSent b s) (cond t [] (delivery i 1 v 0 ∷ []))
-          ≡ withSent b (cond t s (record { slots = deliverAfter h (s .slots) (s .counts) i 1 v 0; counts = countsAfter h (s .slots) (s .counts) i 1 v 0 }))
+          ≡ withSent b (cond t s
+          (record { slots = deliverAfter h (s .slots) (s .counts) i 1 v 0; counts = countsAfter h (s .slots) (s .counts) i 1 v 0 }))
       go true v = refl
       go false v = refl
 

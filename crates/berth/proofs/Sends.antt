@@ -52,7 +52,8 @@ module _ (h : Head) (seed loss : ℕ) (s₀ : Sent) where
         let low = sum-small (valueAt h seed loss) 500_000 (λ i. omega (arith, value-high h seed loss i, most-high h good)) 0 slot in
         omega (arith, slots-high h good, u .inside, u .total)
 
-    pub send-next : (most : ℕ) (b' : Berth) (s' : Sent) → slot < slotCount h → most ≡ mostOf h → b' ≡ stepped loss most b → s' ≡ sentOne h s slot b'
+    pub send-next : (most : ℕ) (b' : Berth) (s' : Sent) → slot < slotCount h → most ≡ mostOf h → b' ≡ stepped loss most b
+        → s' ≡ sentOne h s slot b'
         → Under h seed loss s₀ s' b' (total + b' .value) (slot + 1)
     unfolding berthAfter sentFrom sum valueAt
     send-next most b' s' lt m e f =

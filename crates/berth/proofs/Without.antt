@@ -14,7 +14,8 @@ use Rattle.rules.specs.declared.Outcome.{Outcome}
 use Rattle.rules.specs.declared.Span.{Span}
 use Rattle.rules.specs.Opening.{headOk, slotsPerDay, slotCount, Cells}
 use Rattle.rules.specs.Tests.{timeChangeBit, partialBit, causeOf, causeAt, goodAt}
-use Rattle.rules.specs.Spans.{isS, isN, advance, actualIn, filled, start, slotsIn, G, actualSum, stateOf, inSpan, spanOf, outcomeAt, outcomes}
+use Rattle.rules.specs.Spans.{isS, isN, advance, actualIn, filled, start, slotsIn, G, actualSum, stateOf, inSpan, spanOf, outcomeAt}
+use Rattle.rules.specs.Spans.{outcomes}
 use Rattle.rules.specs.Inner.Walks.{actualOf}
 use Rattle.rules.proofs.Bounds.{bounded}
 use Rattle.rules.proofs.Outages.{filled-good}

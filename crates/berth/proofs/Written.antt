@@ -65,7 +65,8 @@ module _ (h : Head) (seed loss : ℕ) (good : headOk h ≡ true) where
   state-in : num 1 (fileOf f) (6 * slotCount h + 12) ≡ stateOf h b 0 (h .days)
   state-in =
       let low : span f 0 .state < 256 = rw its-state (omega (arith, state-low h b 0 (h .days))) in
-      let here : num 1 (fileOf f) (6 * length (f .slots) + 14 * 0 + 12) ≡ span f 0 .state = unfold published in span-field f 0 some-span 4 (lit< tt) low in
+      let here : num 1 (fileOf f) (6 * length (f .slots) + 14 * 0 + 12) ≡ span f 0 .state = unfold published in
+      span-field f 0 some-span 4 (lit< tt) low in
       let place : 6 * slotCount h + 12 ≡ 6 * length (f .slots) + 14 * 0 + 12 = omega (arith, slots-of-run) in
       rw place (here ∙ its-state)
 

@@ -6,11 +6,31 @@ use borrow.Author.Needs.{needs}
 use Rattle.berth.proofs.fill.Statement.{statement}
 use Rattle.berth.proofs.fill.Tie as tie
 
+-- ---- Places
+
+abbrev start : tie.After-open → tie.Start
+start c =
+    c .before .before .before .before .before .before .before .before .before .before .before .before .before .before .before .before
+    .before .before .before .before .before
+
+abbrev after-open : tie.After-send-all-arg4 → tie.After-open
+after-open c =
+    c .before .before .before .before .before .before .before .before .before .before .before .before .before .before .before .before
+    .before .before .before .before .before .before .before .before
+
+abbrev after-send-all : tie.After-read-dial → tie.After-send-all
+after-send-all c = c .before .before .before .before .before .before .before .before .before .before .before .before
+
+abbrev after-read-dial : tie.After-widths2 → tie.After-read-dial
+after-read-dial c = c .before .before .before .before .before
+
+-- ---- Needs
+
 open-requires : tie.Need-open-requires
 open-requires c κs = search needs
 
 send-all-requires : tie.Need-send-all-requires
-send-all-requires c κs = c .before .before .before .before .before .before .before .before .before .before .before .before .before .before .before .before .before .before .before .before .before .before .before .before .before .before .before .before .before .before .before .before .before .before .before .before .before .before .before .before .before .before .before .before .before .pre .0
+send-all-requires c κs = start (after-open c) .pre .0
 
 read-dial-requires : tie.Need-read-dial-requires
 read-dial-requires c κs = search needs
@@ -46,10 +66,14 @@ same-length-10 : tie.Need-same-length-10
 same-length-10 c = search needs
 
 returns : tie.Need-returns
-returns c = let e = c .before .before .before .before .before .before .before .before .before .before .before .before .before .before .before .before .before .before .before .before .before .before .before .before .before .before .before .before .before .before .before .before .before .before .before .before .before .before .before .before .before .before .before .«open» .ensures .1 in
-    let o = e ∙ opens _ _ (c .before .before .before .before .before .before .before .before .before .before .before .before .before .before .before .before .before .before .before .before .before .before .before .before .before .before .before .before .before .before .before .before .before .before .before .before .before .before .before .before .before .before .before .before .before .before .before .before .before .before .before .before .before .before .before .before .before .before .before .before .before .before .before .before .pre .0) (c .before .before .before .before .before .before .before .before .before .before .before .before .before .before .before .before .before .before .before .before .before .before .before .before .before .before .before .before .before .before .before .before .before .before .before .before .before .before .before .before .before .before .before .before .before .before .before .before .before .before .before .before .before .before .before .before .before .before .before .before .before .before .before .before .pre .1) in
-    let r = c .before .before .before .before .before .before .read-dial .ensures in
-    (c .before .before .before .before .before .before .before .before .before .before .before .before .before .before .before .before .before .before .send-all .ensures .0, run-lists _ _ _ _ _ _ _ o (c .before .before .before .before .before .before .before .before .before .before .before .before .before .before .before .before .before .before .send-all .ensures .0) (c .before .before .before .before .before .before .before .before .before .before .before .before .before .before .before .before .before .before .send-all .ensures .1) r)
+returns c =
+    let at-read-dial = after-read-dial (c .before) in
+    let at-send-all = after-send-all at-read-dial in
+    let at-open = after-open (at-send-all .before) in
+    let e = at-open .«open» .ensures .1 in
+    let o = e ∙ opens _ _ (start at-open .pre .0) (start at-open .pre .1) in
+    let r = at-read-dial .read-dial .ensures in
+    (at-send-all .send-all .ensures .0, run-lists _ _ _ _ _ _ _ o (at-send-all .send-all .ensures .0) (at-send-all .send-all .ensures .1) r)
 
 pub fill-spec : {M : Type 1} → statement M
 fill-spec =

@@ -3,7 +3,24 @@ use Rattle.berth.proofs.Answers.{each, refused, passes, ran}
 use borrow.Author.Needs.{needs}
 use Rattle.berth.proofs.simulate.Statement.{statement}
 use Rattle.berth.proofs.simulate.Tie as tie
-use Rattle.berth.proofs.simulate.Reads as reads
+
+-- ---- Places
+
+abbrev start : tie.Else1 → tie.Start
+start c =
+    c .before .before .before .before .before .before .before .before .before .before .before .before .before .before .before .before
+    .before .before .before .before .before .before .before .before
+
+abbrev passed1 : tie.After-run-arg11 → tie.Else1
+passed1 c = c .before .before .before .before .before .before .before .before .before .before .before
+
+abbrev after-run : tie.After-reads → tie.After-run
+after-run c = c .before .before .before .before .before .before .before .before .before .before .before
+
+abbrev after-reads : tie.After-out → tie.After-reads
+after-reads c = c .before .before .before .before .before .before .before .before .before .before
+
+-- ---- Needs
 
 refusal-requires : tie.Need-refusal-requires
 refusal-requires c κs = search needs
@@ -45,7 +62,10 @@ returns : tie.Need-returns
 returns c = each (refused _ _ _ _ _ _ (c .before .refusal .ensures) (c .if1 .taken))
 
 run-requires : tie.Need-run-requires
-run-requires c κs = passes _ (c .before .before .before .before .before .before .before .before .before .before .before .before .before .before .before .before .before .before .before .before .before .before .before .before .before .before .before .before .before .before .before .before .before .before .before .args .seed) (c .before .before .before .before .before .before .before .before .before .before .before .before .before .before .before .before .before .before .before .before .before .before .before .before .before .before .before .before .before .before .before .before .before .before .before .args .loss) _ (c .before .before .before .before .before .before .before .before .before .before .before .before .before .before .before .before .before .before .before .before .before .before .before .before .before .before .before .before .before .before .before .before .before .before .before .args .out .now) _ (c .before .before .before .before .before .before .before .before .before .before .before .before .refusal .ensures) (c .before .before .before .before .before .before .before .before .before .before .before .if1 .left)
+run-requires c κs =
+    let past1 = passed1 c in
+    let begun = start past1 in
+    passes _ (begun .args .seed) (begun .args .loss) _ (begun .args .out .now) _ (past1 .before .refusal .ensures) (past1 .if1 .left)
 
 same-length-12 : tie.Need-same-length-12
 same-length-12 c = search needs
@@ -63,7 +83,7 @@ same-length-16 : tie.Need-same-length-16
 same-length-16 c = search needs
 
 same-length-17 : tie.Need-same-length-17
-same-length-17 c = c .before .before .before .before .before .before .before .before .before .before .before .reads .given
+same-length-17 c = after-reads (c .before) .reads .given
 
 same-length-18 : tie.Need-same-length-18
 same-length-18 c = search needs
@@ -81,7 +101,10 @@ same-length-22 : tie.Need-same-length-22
 same-length-22 c = search needs
 
 returns-2 : tie.Need-returns-2
-returns-2 c = each (ran _ _ _ _ _ _ (c .before .before .before .before .before .before .before .before .before .before .before .before .before .before .before .before .before .before .before .before .before .before .before .before .before .before .before .before .before .before .before .before .before .before .before .refusal .ensures) (c .before .before .before .before .before .before .before .before .before .before .before .before .before .before .before .before .before .before .before .before .before .before .before .before .before .before .before .before .before .before .before .before .before .before .if1 .left) (c .before .before .before .before .before .before .before .before .before .before .before .before .before .before .before .before .before .before .before .before .before .before .run .ensures))
+returns-2 c =
+    let at-reads = after-reads (c .before) in
+    let at-run = after-run at-reads in
+    each (ran _ _ _ _ _ _ (passed1 (at-run .before) .before .refusal .ensures) (passed1 (at-run .before) .if1 .left) (at-run .run .ensures))
 
 pub simulate-spec : {M : Type 1} → statement M
 simulate-spec =

@@ -14,10 +14,20 @@ returns-2 : tie.Need-returns-2
 returns-2 c = rw (le-ltb _ _ (rw (c .before .before .file-size .ensures) at (c .before .if1 .left)), eq-eqb _ _ (c .if2 .taken))
 
 returns-3 : tie.Need-returns-3
-returns-3 c = rw (le-ltb _ _ (rw (c .before .before .before .file-size .ensures) at (c .before .before .if1 .left)), ne-eqb _ _ (c .before .if2 .left), lt-ltb _ _ (c .if3 .taken))
+returns-3 c =
+    rw (
+      le-ltb _ _ (rw (c .before .before .before .file-size .ensures) at (c .before .before .if1 .left)),
+      ne-eqb _ _ (c .before .if2 .left),
+      lt-ltb _ _ (c .if3 .taken),
+    )
 
 returns-4 : tie.Need-returns-4
-returns-4 c = rw (le-ltb _ _ (rw (c .before .before .before .file-size .ensures) at (c .before .before .if1 .left)), ne-eqb _ _ (c .before .if2 .left), le-ltb _ _ (c .if3 .left))
+returns-4 c =
+    rw (
+      le-ltb _ _ (rw (c .before .before .before .file-size .ensures) at (c .before .before .if1 .left)),
+      ne-eqb _ _ (c .before .if2 .left),
+      le-ltb _ _ (c .if3 .left),
+    )
 
 pub beside-lists-spec : {M : Type 1} → statement M
 beside-lists-spec = tie.close (tie.spec file-size-requires returns returns-2 returns-3 returns-4)

@@ -7,6 +7,13 @@ use Rattle.berth.proofs.Written.{file-size}
 use Rattle.berth.proofs.refusing.refusal.Statement.{statement}
 use Rattle.berth.proofs.refusing.refusal.Tie as tie
 
+-- ---- Places
+
+abbrev after-head-ok : tie.After-beside-lists → tie.After-head-ok
+after-head-ok c = c .before .before .before .before
+
+-- ---- Needs
+
 head-ok-requires : tie.Need-head-ok-requires
 head-ok-requires c κs = search needs
 
@@ -18,7 +25,11 @@ book-fits-requires c κs = sym (c .before .head-ok .ensures) ∙ not-false _ (c 
 
 returns-2 : tie.Need-returns-2
 unfolding cellsFit slotsFit daysFit readsFit agreedFits countsFit bookFits
-returns-2 c = rw (sym (c .before .before .before .head-ok .ensures) ∙ not-false _ (c .before .before .if1 .left), sym (c .before .book-fits .ensures) ∙ not-true _ (c .if2 .taken))
+returns-2 c =
+    rw (
+      sym (c .before .before .before .head-ok .ensures) ∙ not-false _ (c .before .before .if1 .left),
+      sym (c .before .book-fits .ensures) ∙ not-true _ (c .if2 .taken),
+    )
 
 beside-lists-requires : tie.Need-beside-lists-requires
 beside-lists-requires c κs = sym (c .before .before .before .head-ok .ensures) ∙ not-false _ (c .before .before .if1 .left)
@@ -26,7 +37,7 @@ beside-lists-requires c κs = sym (c .before .before .before .head-ok .ensures) 
 returns-3 : tie.Need-returns-3
 unfolding cellsFit slotsFit daysFit readsFit agreedFits countsFit bookFits
 returns-3 c =
-    let good = sym (c .before .before .before .before .head-ok .ensures) ∙ not-false _ (c .before .before .before .if1 .left) in
+    let good = sym (after-head-ok c .head-ok .ensures) ∙ not-false _ (c .before .before .before .if1 .left) in
     rw (good, sym (c .before .before .book-fits .ensures) ∙ not-false _ (c .before .if2 .left), file-size) (c .beside-lists .ensures)
 
 pub refusal-spec : {M : Type 1} → statement M

@@ -12,6 +12,11 @@ use borrow.Author.Needs.{needs}
 use Rattle.berth.proofs.reporting.report.Statement.{statement}
 use Rattle.berth.proofs.reporting.report.Tie as tie
 
+-- ---- Places
+
+abbrev start : tie.After-number2 → tie.Start
+start c = c .before .before .before .before
+
 -- a field's place goes by the number of slots
 place-is : (k o : ℕ) (bs : List ℕ) {n m p : ℕ} → n ≡ m → p ≡ num k bs (6 * n + o) → p ≡ num k bs (6 * m + o)
 place-is k o bs e f = f ∙ ap (λ (x : ℕ). num k bs (6 * x + o)) e
@@ -40,14 +45,21 @@ unfolding fileSize
 number-requires-2 c κs = (omega (arith, c .before .slot-count .ensures, c .before .before .before .pre .1), omega arith)
 
 difference-requires : tie.Need-difference-requires
-difference-requires c κs = (rw (← place-is 8 34 (c .before .before .before .before .args .out .now) (c .before .before .slot-count .ensures) (c .number2 .ensures .0)) at (c .before .before .before .before .pre .2), c .before .before .before .before .pre .3)
+difference-requires c κs =
+    let begun = start c in (
+      rw (← place-is 8 34 (begun .args .out .now) (c .before .before .slot-count .ensures) (c .number2 .ensures .0)) at (begun .pre .2),
+      begun .pre .3,
+    )
 
 returns : tie.Need-returns
-returns c = let n = c .before .before .before .slot-count .ensures in
-    let s = place-is 1 12 (c .before .before .before .before .before .args .out .now) n (c .before .before .number .ensures .0) in
-    let p = place-is 8 34 (c .before .before .before .before .before .args .out .now) n (c .before .number2 .ensures .0) in
-    let z = minus-again _ _ (rw (← p) at (c .before .before .before .before .before .pre .2)) (c .before .before .before .before .before .pre .3) _ (c .difference .ensures) ∙ ap (λ (k : ℕ). pos k -ℤ pos (c .before .before .before .before .before .args .total)) p in
-    λ t. record { state = s t; difference = z t; total = c .before .before .before .before .before .args .total }
+returns c =
+    let begun = start (c .before) in
+    let n = c .before .before .before .slot-count .ensures in
+    let s = place-is 1 12 (begun .args .out .now) n (c .before .before .number .ensures .0) in
+    let p = place-is 8 34 (begun .args .out .now) n (c .before .number2 .ensures .0) in
+    let z = minus-again _ _ (rw (← p) at (begun .pre .2)) (begun .pre .3) _ (c .difference .ensures)
+    ∙ ap (λ (k : ℕ). pos k -ℤ pos (begun .args .total)) p in
+    λ t. record { state = s t; difference = z t; total = begun .args .total }
 
 pub report-spec : {M : Type 1} → statement M
 report-spec =

@@ -9,7 +9,19 @@ use Rattle.book.specs.Lent.{readLists}
 use borrow.Author.Needs.{needs}
 use Rattle.berth.proofs.sending.read_dial.Statement.{statement}
 use Rattle.berth.proofs.sending.read_dial.Tie as tie
-use Rattle.berth.proofs.sending.read_dial.Reads as reads
+
+-- ---- Places
+
+abbrev start : tie.After-register → tie.Start
+start c = c .before .before .before .before .before .before .before
+
+abbrev after-register : tie.After-register2 → tie.After-register
+after-register c = c .before .before .before .before .before .before .before .before .before .before
+
+abbrev after-register2 : tie.After-widths2 → tie.After-register2
+after-register2 c = c .before .before .before .before .before
+
+-- ---- Needs
 
 register-requires : tie.Need-register-requires
 register-requires c κs = search needs
@@ -30,9 +42,11 @@ same-length-3 : tie.Need-same-length-3
 same-length-3 c = search needs
 
 returns : tie.Need-returns
-returns c = let a = c .before .before .before .before .before .before .before .before .before .before .before .before .before .before .before .before .register .ensures .1 in
-    let b = c .before .before .before .before .before .before .register2 .ensures .1 in
-    let e = c .before .before .before .before .before .before .before .before .before .before .before .before .before .before .before .before .before .before .before .before .before .before .before .args in
+returns c =
+    let at-register2 = after-register2 (c .before) in
+    let a = after-register at-register2 .register .ensures .1 in
+    let b = at-register2 .register2 .ensures .1 in
+    let e = start (after-register at-register2) .args in
     let old = lentReads (e .readings) (e .reads) (e .widths) in
     let then : Reads → Reads = λ r. registerAfter (e .head) r (e .head .days) 1 (e .total % 100_000_000) 0 in
     b ∙ ap then a

@@ -4,6 +4,16 @@ use borrow.Author.Needs.{needs}
 use Rattle.berth.proofs.sending.send.Statement.{statement}
 use Rattle.berth.proofs.sending.send.Tie as tie
 
+-- ---- Places
+
+abbrev passed1 : tie.After-deliver → tie.Else1
+passed1 c = c .before .before .before .before .before
+
+abbrev after-deliver : tie.After-counts → tie.After-deliver
+after-deliver c = c .before .before .before .before .before .before .before
+
+-- ---- Needs
+
 returns : tie.Need-returns
 unfolding sentOne
 returns c = rw (c .if1 .taken)
@@ -25,8 +35,8 @@ same-length-4 c = search needs
 
 returns-2 : tie.Need-returns-2
 unfolding sentOne
-returns-2 c = let e = c .before .before .before .before .before .before .before .before .deliver .ensures in
-    rw (c .before .before .before .before .before .before .before .before .before .before .before .before .before .if1 .left) (λ t. record { slots = e .1 t; counts = e .2 t })
+returns-2 c = let e = after-deliver (c .before) .deliver .ensures in
+    rw (passed1 (after-deliver (c .before)) .if1 .left) (λ t. record { slots = e .1 t; counts = e .2 t })
 
 pub send-spec : {M : Type 1} → statement M
 send-spec =

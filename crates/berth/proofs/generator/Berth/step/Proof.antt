@@ -4,6 +4,13 @@ use borrow.Author.Needs.{needs}
 use Rattle.berth.proofs.generator.Berth.step.Statement.{statement}
 use Rattle.berth.proofs.generator.Berth.step.Tie as tie
 
+-- ---- Places
+
+abbrev start : tie.After-struct-known2 → tie.Start
+start c = c .before .before .before .before
+
+-- ---- Needs
+
 draw-requires : tie.Need-draw-requires
 draw-requires c κs = search needs
 
@@ -20,11 +27,12 @@ rem-t11 : tie.Need-rem-t11
 rem-t11 c = search needs
 
 cast-t12 : tie.Need-cast-t12
-cast-t12 c = value-fits _ _ (c .before .before .before .before .fits .most)
+cast-t12 c = value-fits _ _ (start c .fits .most)
 
 returns : tie.Need-returns
 returns c =
-    two-draws _ (c .before .before .before .draw .result) (c .before .before .draw2 .result) _ _ (c .before .before .before .draw .ensures) (c .before .before .draw2 .ensures)
+    two-draws _ (c .before .before .before .draw .result) (c .before .before .draw2 .result) _ _ (c .before .before .before .draw .ensures)
+    (c .before .before .draw2 .ensures)
 
 pub step-spec : {M : Type 1} → statement M
 step-spec =
