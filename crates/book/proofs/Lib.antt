@@ -1,4 +1,5 @@
 pub mod Passed
+pub mod Tested
 pub mod Tables
 pub mod Said
 pub mod Kept

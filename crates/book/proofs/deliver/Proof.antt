@@ -1,10 +1,10 @@
 -- `deliver`: the first broken rule is given; else the answer, the cells and the counts are those of `file_delivery`.
 use mathlib.Core.Bool.{true, _&&_}
-use mathlib.Core.Path.{_≡_, refl, sym, _∙_}
+use mathlib.Core.Path.{_≡_, refl, _∙_}
 use Prim.Native.Nat.{ℕ, _<_, _≤_}
 use native.Mathlib.Omega.{arith}
 use lib.ListN.{drop}
-use borrow.Author.Tests.{not-true, not-false, le-leb, lt-leb, lt-ltb, le-ltb, eq-eqb, ne-eqb}
+use borrow.Author.Tests.{le-leb, lt-leb, lt-ltb, le-ltb, eq-eqb, ne-eqb}
 use borrow.Author.Needs.{needs}
 use Rattle.base.specs.Refusals.{unless}
 use Rattle.base.proofs.Logic.{and-parts}
@@ -18,10 +18,20 @@ use Rattle.book.specs.Cells.{slotsFit, countsFit}
 use Rattle.book.specs.Filling.{inputRules, againstDelivery, deliverAnswer, deliverAfter, countsAfter}
 use Rattle.book.specs.Inner.Lent.{Deliverable}
 use Rattle.book.proofs.Fits.{long}
+use Rattle.book.proofs.Tested.{passes, fails, refused-2, past-both}
 use Rattle.book.proofs.deliver.Statement.{statement}
 use Rattle.book.proofs.deliver.Tie as tie
 
 -- ---- Places
+
+abbrev from1 : tie.Else1 → tie.Start
+from1 c = c .before .before .before .before .before .before
+
+abbrev from2 : tie.Else2 → tie.Start
+from2 c = from1 (c .before .before)
+
+abbrev from3 : tie.Else3 → tie.Start
+from3 c = from2 (c .before .before)
 
 abbrev passed1 : tie.Else3 → tie.Else1
 passed1 c = c .before .before .before .before
@@ -50,31 +60,22 @@ past k c =
 
 -- ---- The tests that were passed
 
-abbrev from1 : tie.Else1 → tie.Start
-from1 c = c .before .before .before .before .before .before
-
-abbrev from2 : tie.Else2 → tie.Start
-from2 c = from1 (c .before .before)
-
-abbrev from3 : tie.Else3 → tie.Start
-from3 c = from2 (c .before .before)
-
 head-passed : (c : tie.Else1) → headOk (from1 c .args .head) ≡ true
-head-passed c = sym (c .before .head-ok .ensures) ∙ not-false _ (c .if1 .left)
+head-passed c = passes (c .before .head-ok .ensures) (c .if1 .left)
 
-past-1 : (c : tie.Else1) → whole (from1 c) ≡ past 1 (from1 c)
-unfolding deliverAnswer
-past-1 c = rw (head-passed c)
-
-fit-found : (c : tie.After-delivery-fits)
-    → (slotsFit (from1 (c .before) .args .head) (lent (from1 (c .before)))
-    && countsFit (from1 (c .before) .args .head) (from1 (c .before) .args .counts .now))
-    ≡ c .delivery-fits .result
+fits-told : (c : tie.After-delivery-fits)
+    → let begun = from1 (c .before) in
+    c .delivery-fits .result ≡ (slotsFit (begun .args .head) (lent begun) && countsFit (begun .args .head) (begun .args .counts .now))
 unfolding slotsFit countsFit
-fit-found c = sym (c .delivery-fits .ensures)
+fits-told c = c .delivery-fits .ensures
+
+lists-broken : (c : tie.Then2) → whole (from1 (c .before .before)) ≡ refused 2
+unfolding deliverAnswer
+lists-broken c = refused-2 _ _ _ _ (head-passed (c .before .before)) (fails (fits-told (c .before)) (c .if2 .taken))
 
 past-2 : (c : tie.Else2) → whole (from2 c) ≡ past 2 (from2 c)
-past-2 c = past-1 (c .before .before) ∙ rw (fit-found (c .before) ∙ not-false _ (c .if2 .left))
+unfolding deliverAnswer
+past-2 c = past-both _ _ _ _ (head-passed (c .before .before)) (passes (fits-told (c .before)) (c .if2 .left))
 
 under : (c : tie.Else3) → from3 c .args .slot < slotCount (from3 c .args .head)
 under c = omega (arith, c .before .slot-count .ensures, c .if3 .left)
@@ -101,7 +102,7 @@ past-5 c =
 -- what `file_delivery` asks
 deliverable : (c : tie.Else3) → Deliverable (from3 c .args .head) (lent (from3 c)) (from3 c .args .counts .now) (from3 c .args .slot)
 deliverable c =
-    let parts = and-parts _ _ (sym (c .before .before .before .delivery-fits .ensures) ∙ not-false _ (c .before .before .if2 .left)) in
+    let parts = and-parts _ _ (passes (c .before .before .before .delivery-fits .ensures) (c .before .before .if2 .left)) in
     let fits = long _ _ (parts .0) in
     record {
       fitted = record { head = head-passed (passed1 c); values = fits 0; versions = fits 1; statuses = fits 2 };
@@ -116,15 +117,14 @@ head-ok-requires c κs = search needs
 
 returns : tie.Need-returns
 unfolding deliverAnswer deliverAfter countsAfter
-returns c = rw (sym (c .before .head-ok .ensures) ∙ not-true _ (c .if1 .taken)) (refl, refl, refl)
+returns c = rw (fails (c .before .head-ok .ensures) (c .if1 .taken)) (refl, refl, refl)
 
 delivery-fits-requires : tie.Need-delivery-fits-requires
 delivery-fits-requires c κs = head-passed c
 
 returns-2 : tie.Need-returns-2
 unfolding deliverAfter countsAfter
-returns-2 c =
-    rw (past-1 (c .before .before), fit-found (c .before) ∙ not-true _ (c .if2 .taken)) (refl, refl, refl)
+returns-2 c = rw (lists-broken c) (refl, refl, refl)
 
 slot-count-requires : tie.Need-slot-count-requires
 slot-count-requires c κs = head-passed (c .before .before)

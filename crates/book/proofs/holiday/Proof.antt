@@ -5,7 +5,7 @@ use mathlib.Core.Path.{_≡_, refl, sym, _∙_}
 use Prim.Native.Nat.{ℕ, _<_, _≤_}
 use native.Mathlib.Omega.{arith}
 use lib.ListN.{length, getD, drop}
-use borrow.Author.Tests.{not-true, not-false, le-leb, lt-leb}
+use borrow.Author.Tests.{le-leb, lt-leb}
 use borrow.Author.Needs.{needs}
 use Rattle.base.specs.Refusals.{unless}
 use Rattle.rules.specs.Opening.{headOk}
@@ -16,10 +16,20 @@ use Rattle.book.specs.Arguments.Call.{holiday}
 use Rattle.book.specs.Cells.{daysFit}
 use Rattle.book.specs.Filling.{inputRules, againstDay, holidayAnswer, holidayAfter}
 use Rattle.book.proofs.Fits.{long}
+use Rattle.book.proofs.Tested.{passes, fails, refused-2, past-both}
 use Rattle.book.proofs.holiday.Statement.{statement}
 use Rattle.book.proofs.holiday.Tie as tie
 
 -- ---- Places
+
+abbrev from1 : tie.Else1 → tie.Start
+from1 c = c .before .before .before
+
+abbrev from2 : tie.Else2 → tie.Start
+from2 c = from1 (c .before .before)
+
+abbrev from3 : tie.Else3 → tie.Start
+from3 c = from2 (c .before .before)
 
 abbrev passed3 : tie.Then4 → tie.Else3
 passed3 c = c .before .before .before .before
@@ -38,27 +48,20 @@ past k c =
 
 -- ---- The tests that were passed
 
-abbrev from1 : tie.Else1 → tie.Start
-from1 c = c .before .before .before
+head-passed : (c : tie.Else1) → headOk (from1 c .args .head) ≡ true
+head-passed c = passes (c .before .head-ok .ensures) (c .if1 .left)
 
-abbrev from2 : tie.Else2 → tie.Start
-from2 c = from1 (c .before .before)
-
-abbrev from3 : tie.Else3 → tie.Start
-from3 c = from2 (c .before .before)
-
-past-1 : (c : tie.Else1) → whole (from1 c) ≡ past 1 (from1 c)
-unfolding holidayAnswer
-past-1 c =
-    let passed : headOk (from1 c .args .head) ≡ true = sym (c .before .head-ok .ensures) ∙ not-false _ (c .if1 .left) in
-    rw passed
-
-fit-found : (c : tie.After-days-fit) → daysFit (from1 (c .before) .args .head) (lent (from1 (c .before))) ≡ c .days-fit .result
+fits-told : (c : tie.After-days-fit) → c .days-fit .result ≡ daysFit (from1 (c .before) .args .head) (lent (from1 (c .before)))
 unfolding daysFit
-fit-found c = sym (c .days-fit .ensures)
+fits-told c = c .days-fit .ensures
+
+lists-broken : (c : tie.Then2) → whole (from1 (c .before .before)) ≡ refused 2
+unfolding holidayAnswer
+lists-broken c = refused-2 _ _ _ _ (head-passed (c .before .before)) (fails (fits-told (c .before)) (c .if2 .taken))
 
 past-2 : (c : tie.Else2) → whole (from2 c) ≡ past 2 (from2 c)
-past-2 c = past-1 (c .before .before) ∙ rw (fit-found (c .before) ∙ not-false _ (c .if2 .left))
+unfolding holidayAnswer
+past-2 c = past-both _ _ _ _ (head-passed (c .before .before)) (passes (fits-told (c .before)) (c .if2 .left))
 
 under : (c : tie.Else3) → from3 c .args .day < from3 c .args .head .days
 under c = omega (arith, c .if3 .left)
@@ -69,7 +72,7 @@ past-3 c = past-2 (c .before .before) ∙ rw (lt-leb _ _ (under c))
 
 inside : (c : tie.Else3) → from3 c .args .day < length (lent (from3 c))
 inside c =
-    let fits = long _ _ (sym (c .before .before .before .days-fit .ensures) ∙ not-false _ (c .before .before .if2 .left)) in
+    let fits = long _ _ (passes (c .before .before .before .days-fit .ensures) (c .before .before .if2 .left)) in
     let less = under c in
     omega (arith, fits 0)
 
@@ -80,14 +83,14 @@ head-ok-requires c κs = search needs
 
 returns : tie.Need-returns
 unfolding holidayAnswer holidayAfter
-returns c = rw (sym (c .before .head-ok .ensures) ∙ not-true _ (c .if1 .taken)) (refl, refl)
+returns c = rw (fails (c .before .head-ok .ensures) (c .if1 .taken)) (refl, refl)
 
 days-fit-requires : tie.Need-days-fit-requires
 days-fit-requires c κs = search needs
 
 returns-2 : tie.Need-returns-2
 unfolding holidayAfter
-returns-2 c = rw (past-1 (c .before .before), fit-found (c .before) ∙ not-true _ (c .if2 .taken)) (refl, refl)
+returns-2 c = rw (lists-broken c) (refl, refl)
 
 returns-3 : tie.Need-returns-3
 unfolding holidayAfter argumentRules
