@@ -5,6 +5,13 @@ use borrow.Author.Needs.{needs}
 use Rattle.show.proofs.main.Statement.{statement}
 use Rattle.show.proofs.main.Tie as tie
 
+-- ---- Places
+
+abbrev after-fill : tie.After-n → tie.After-fill
+after-fill c = c .before .before .before
+
+-- ---- Needs
+
 slice-aggregate-fill : tie.Need-slice-aggregate-fill
 slice-aggregate-fill c = search needs
 
@@ -15,10 +22,10 @@ enum-known-n : tie.Need-enum-known-n
 enum-known-n c = search needs
 
 array-share-prefix-buf : tie.Need-array-share-prefix-buf
-array-share-prefix-buf c = rw (c .before .n .given .1) at (c .before .before .before .before .fill .ensures)
+array-share-prefix-buf c = simp (c .before .n .given .1) at (after-fill (c .before) .fill .ensures)
 
 slice-aggregate-line : tie.Need-slice-aggregate-line
-slice-aggregate-line c = sym (length-take-le _ _ (rw (c .before .before .n .given .1) at (c .before .before .before .before .before .fill .ensures)))
+slice-aggregate-line c = sym (length-take-le _ _ (simp (c .before .before .n .given .1) at (after-fill (c .before .before) .fill .ensures)))
 
 line-requires : tie.Need-line-requires
 line-requires c κs = search needs
