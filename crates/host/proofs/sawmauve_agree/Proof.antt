@@ -5,6 +5,13 @@ use borrow.Author.Needs.{needs}
 use Rattle.host.proofs.sawmauve_agree.Statement.{statement}
 use Rattle.host.proofs.sawmauve_agree.Tie as tie
 
+-- ---- Places
+
+abbrev after-agree : tie.After-filed-code → tie.After-agree
+after-agree c = c .before .before .before .before .before
+
+-- ---- Needs
+
 head-of-requires : tie.Need-head-of-requires
 head-of-requires c κs = search needs
 
@@ -22,8 +29,8 @@ same-length-2 c = search needs
 
 returns : tie.Need-returns
 returns c =
-    let o = c .before .before .before .before .before in
-    let h = rw (o .before .before .before .head-of .ensures) at (o .agree .ensures) in
+    let o = after-agree c in
+    let h = simp (o .before .before .before .head-of .ensures) at (o .agree .ensures) in
     (c .filed-code .ensures ∙ ap answerCode (h .0), h .1)
 
 pub sawmauve-agree-spec : {M : Type 1} → statement M

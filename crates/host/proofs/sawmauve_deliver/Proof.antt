@@ -5,6 +5,16 @@ use borrow.Author.Needs.{needs}
 use Rattle.host.proofs.sawmauve_deliver.Statement.{statement}
 use Rattle.host.proofs.sawmauve_deliver.Tie as tie
 
+-- ---- Places
+
+abbrev after-head-of : tie.After-deliver → tie.After-head-of
+after-head-of c = c .before .before .before .before .before
+
+abbrev after-deliver : tie.After-filed-code → tie.After-deliver
+after-deliver c = c .before .before .before .before .before .before .before .before .before
+
+-- ---- Needs
+
 head-of-requires : tie.Need-head-of-requires
 head-of-requires c κs = search needs
 
@@ -28,9 +38,9 @@ same-length-4 c = search needs
 
 returns : tie.Need-returns
 returns c =
-    let o = c .before .before .before .before .before .before .before .before .before in
-    let h = rw (o .before .before .before .before .before .head-of .ensures) at (o .deliver .ensures) in
-    (c .filed-code .ensures ∙ ap answerCode (h .0), h .1, h .2)
+    let o = after-deliver c in
+    let told = o .deliver .ensures in
+    rw (← after-head-of o .head-of .ensures) (c .filed-code .ensures ∙ ap answerCode (told .0), told .1, told .2)
 
 pub sawmauve-deliver-spec : {M : Type 1} → statement M
 sawmauve-deliver-spec =

@@ -5,6 +5,13 @@ use borrow.Author.Needs.{needs}
 use Rattle.host.proofs.sawmauve_holiday.Statement.{statement}
 use Rattle.host.proofs.sawmauve_holiday.Tie as tie
 
+-- ---- Places
+
+abbrev after-head-of : tie.After-filed-code → tie.After-head-of
+after-head-of c = c .before .before .before .before .before
+
+-- ---- Needs
+
 head-of-requires : tie.Need-head-of-requires
 head-of-requires c κs = search needs
 
@@ -20,7 +27,7 @@ same-length c = search needs
 returns : tie.Need-returns
 returns c =
     let o = c .before .before .before in
-    let h = rw (o .before .before .head-of .ensures) at (o .holiday .ensures) in
+    let h = rw (after-head-of c .head-of .ensures) at (o .holiday .ensures) in
     (c .filed-code .ensures ∙ ap answerCode (h .0), h .1)
 
 pub sawmauve-holiday-spec : {M : Type 1} → statement M

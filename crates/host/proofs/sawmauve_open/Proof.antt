@@ -8,6 +8,16 @@ use borrow.Author.Needs.{needs}
 use Rattle.host.proofs.sawmauve_open.Statement.{statement}
 use Rattle.host.proofs.sawmauve_open.Tie as tie
 
+-- ---- Places
+
+abbrev after-head-of : tie.After-open → tie.After-head-of
+after-head-of c = c .before .before .before .before .before .before .before .before .before .before .before
+
+abbrev after-open : tie.After-code-of → tie.After-open
+after-open c =
+    c .before .before .before .before .before .before .before .before .before .before .before .before .before .before .before .before
+    .before .before .before .before .before
+
 code-meant : (p : Performed) → codeOf p ≡ answerCode (openedMeant p)
 code-meant Done = refl
 code-meant (Refused n) = refl
@@ -53,9 +63,10 @@ same-length-10 c = search needs
 
 returns : tie.Need-returns
 returns c =
-    let o = c .before .before .before .before .before .before .before .before .before .before .before .before .before .before .before .before .before .before .before .before .before in
-    let h = rw (o .before .before .before .before .before .before .before .before .before .before .before .head-of .ensures) at (o .«open» .ensures) in
-    (c .code-of .ensures ∙ code-meant (o .«open» .result) ∙ ap answerCode (h .0), h .1)
+    let o = after-open c in
+    let told = o .«open» .ensures in
+    rw (← after-head-of o .head-of .ensures)
+    (c .code-of .ensures ∙ code-meant (o .«open» .result) ∙ ap answerCode (told .0), told .1)
 
 pub sawmauve-open-spec : {M : Type 1} → statement M
 sawmauve-open-spec =

@@ -5,6 +5,16 @@ use borrow.Author.Needs.{needs}
 use Rattle.host.proofs.sawmauve_register.Statement.{statement}
 use Rattle.host.proofs.sawmauve_register.Tie as tie
 
+-- ---- Places
+
+abbrev after-head-of : tie.After-register → tie.After-head-of
+after-head-of c = c .before .before .before .before
+
+abbrev after-register : tie.After-filed-code → tie.After-register
+after-register c = c .before .before .before .before .before .before .before
+
+-- ---- Needs
+
 head-of-requires : tie.Need-head-of-requires
 head-of-requires c κs = search needs
 
@@ -25,8 +35,8 @@ same-length-3 c = search needs
 
 returns : tie.Need-returns
 returns c =
-    let o = c .before .before .before .before .before .before .before in
-    let h = rw (o .before .before .before .before .head-of .ensures) at (o .register .ensures) in
+    let o = after-register c in
+    let h = simp (after-head-of o .head-of .ensures) at (o .register .ensures) in
     (c .filed-code .ensures ∙ ap answerCode (h .0), h .1)
 
 pub sawmauve-register-spec : {M : Type 1} → statement M

@@ -10,6 +10,17 @@ use borrow.Author.Needs.{needs}
 use Rattle.host.proofs.files.sawmauve_read.Statement.{statement}
 use Rattle.host.proofs.files.sawmauve_read.Tie as tie
 
+-- ---- Places
+
+abbrev passed1 : tie.After-verdict2 → tie.Else1
+passed1 c = c .before .before .before
+
+abbrev start : tie.After-verdict → tie.Start
+start c = c .before .before .before .before .before .before
+
+abbrev after-verdict : tie.After-struct-known8 → tie.After-verdict
+after-verdict c = c .before .before .before .before .before .before .before .before .before
+
 -- nine stores fill a list of nine
 nine : (xs : List ℕ) {a b c d e f g h i : ℕ} → length xs ≡ 9
     → set (set (set (set (set (set (set (set (set xs 0 a) 1 b) 2 c) 3 d) 4 e) 5 f) 6 g) 7 h) 8 i
@@ -85,7 +96,7 @@ cast-figures-8 : tie.Need-cast-figures-8
 cast-figures-8 c = search needs
 
 slice-write-figures-9 : tie.Need-slice-write-figures-9
-slice-write-figures-9 c = simp length-set (omega (arith, c .before .before .before .before .before .before .before .before .before .before .before .before .if1 .left))
+slice-write-figures-9 c = simp length-set (omega (arith, after-verdict c .before .before .before .if1 .left))
 
 enum-known-verdict-2 : tie.Need-enum-known-verdict-2
 enum-known-verdict-2 c = search needs
@@ -99,17 +110,17 @@ same-length c = simp length-set (omega arith)
 returns-2 : tie.Need-returns-2
 unfolding readAnswer figuresAfter
 returns-2 c =
-    let v = c .before .before .before .before .before .before .before .before .before in
+    let v = after-verdict c in
     let i = v .before .before .before in
     rw (eq-eqb _ _ (i .if1 .left), sym (v .before .before .read .ensures) ∙ v .verdict .given .1)
-    (refl, nine (i .before .before .before .args .figures .now) (i .if1 .left))
+    (refl, nine (start v .args .figures .now) (i .if1 .left))
 
 returns-3 : tie.Need-returns-3
 unfolding readAnswer figuresAfter
 returns-3 c =
     let v = c .before in
     rw (
-      eq-eqb _ _ (v .before .before .before .if1 .left),
+      eq-eqb _ _ (passed1 (c .before) .if1 .left),
       sym (v .before .before .read .ensures) ∙ v .verdict2 .given .1,
     )
     (refl, refl)

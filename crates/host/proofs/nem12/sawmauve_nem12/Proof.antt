@@ -5,6 +5,13 @@ use Rattle.host.specs.Market.{exportedCode}
 use Rattle.host.proofs.nem12.sawmauve_nem12.Statement.{statement}
 use Rattle.host.proofs.nem12.sawmauve_nem12.Tie as tie
 
+-- ---- Places
+
+abbrev after-codes-of : tie.After-exported-code → tie.After-codes-of
+after-codes-of c = c .before .before .before .before .before
+
+-- ---- Needs
+
 codes-of-requires : tie.Need-codes-of-requires
 codes-of-requires c κs = search needs
 
@@ -20,7 +27,7 @@ same-length c = search needs
 returns : tie.Need-returns
 returns c =
     let o = c .before .before .before in
-    let h = rw (o .before .before .codes-of .ensures) at (o .nem12 .ensures) in
+    let h = rw (after-codes-of c .codes-of .ensures) at (o .nem12 .ensures) in
     (c .exported-code .ensures ∙ ap exportedCode (h .0), h .1)
 
 pub sawmauve-nem12-spec : {M : Type 1} → statement M
