@@ -117,8 +117,7 @@ loop-again c =
       under = send-next _ _ _ _ _ _ _ _ (at-step .before .before .loop .inv .under) _ _ _
           (omega (arith, after-slot-count c .slot-count .ensures, at-step .before .loop-test .taken))
           (after-most-of-known c .most-of .ensures) (at-step .step .ensures) (at-send .send .ensures);
-      long-values =
-          search needs;
+      long-values = search needs;
       long-versions = search needs;
       long-statuses = search needs;
       long-counts = search needs;

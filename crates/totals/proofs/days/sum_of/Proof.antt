@@ -52,8 +52,7 @@ loop-again c =
       inside = search needs;
       known = ap₂ _+_ (c .before .before .loop .inv .known) (c .value-at .ensures .0)
           ∙ sym (sum-more _ (start c .args .a) (c .before .before .loop .i));
-      small =
-          omega (arith, c .value-at .ensures .1, c .before .before .loop .inv .small);
+      small = omega (arith, c .value-at .ensures .1, c .before .before .loop .inv .small);
     }
 
 returns : tie.Need-returns Inv-loop μ-loop
