@@ -111,8 +111,10 @@ module _ (slot f : ℕ → ℕ) (d : List ℕ) where
   filled-next i at step bs z byte places slots =
       ext-getD 0 (strewn (filledTo slot f d i) at step bs) (filledTo slot f d (i + 1))
       (length-strewn step bs (filledTo slot f d i) at ∙ length-filled i ∙ sym (length-filled (i + 1)))
-      (λ p l. let m : p < length d = rw (length-strewn step bs (filledTo slot f d i) at, length-filled i) at l in
-      ⊎-elim (here p m) (there p m) (either (eqb (slot p) i)))
+      (λ p l. let m : p < length d = rw (
+        length-strewn step bs (filledTo slot f d i) at,
+        length-filled i,
+      ) at l in ⊎-elim (here p m) (there p m) (either (eqb (slot p) i)))
     where
       here : (p : ℕ) → p < length d → eqb (slot p) i ≡ true
           → getD (strewn (filledTo slot f d i) at step bs) p 0 ≡ getD (filledTo slot f d (i + 1)) p 0

@@ -17,8 +17,8 @@ add-t4 : tie.Need-add-t4
 add-t4 c =
     let y = c .before .before .year-at .result in
     let m = c .before .month-at .result in
-    let p : y .left ≤ c .before .before .before .args .number = rw (c .before .before .year-at .ensures)
-    (left-small yearLength 99 2000 (c .before .before .before .args .number)) in
+    let p : y .left ≤ c .before .before .before .args .number =
+    rw (c .before .before .year-at .ensures) (left-small yearLength 99 2000 (c .before .before .before .args .number)) in
     let q : m .left ≤ y .left = rw (c .before .month-at .ensures) (left-small (monthLength (y .at)) 11 1 (y .left)) in
     omega arith
 

@@ -71,8 +71,7 @@ loop-again c =
       inside = omega arith;
       sum = n .ensures;
       passed = omega arith;
-      known = l .inv .known
-          ∙ place-next (monthLength (y .at)) 12 (l .at) (y .left - l .start) (omega arith) h ∙ rw e;
+      known = l .inv .known ∙ place-next (monthLength (y .at)) 12 (l .at) (y .left - l .start) (omega arith) h ∙ rw e;
     }
 
 sub-t8 : tie.Need-sub-t8 Inv-loop μ-loop

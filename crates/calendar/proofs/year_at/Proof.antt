@@ -42,8 +42,7 @@ loop-again c =
     let h : yearLength (l .at) ≤ l .left = omega arith in
     record {
       inside = omega arith;
-      known = l .inv .known
-          ∙ rw (c .before .year-length .ensures) (place-next yearLength 2099 (l .at) (l .left) (omega arith) h);
+      known = l .inv .known ∙ rw (c .before .year-length .ensures) (place-next yearLength 2099 (l .at) (l .left) (omega arith) h);
     }
 
 returns-2 : tie.Need-returns-2 Inv-loop μ-loop

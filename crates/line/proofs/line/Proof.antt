@@ -55,17 +55,17 @@ put-refusal-requires c κs = search needs
 returns-2 : tie.Need-returns-2
 unfolding line answerText
 returns-2 c =
-    let short : length (after-read (c .before) .before .before .before .args .bytes .now) ≤ 65_536 =
-    omega (arith, after-read (c .before) .before .if1 .left) in
-    let is = sym (after-read (c .before) .read .ensures) ∙ c .before .before .before .g .given .1 in
+    let at-read = after-read (c .before) in
+    let short : length (at-read .before .before .before .args .bytes .now) ≤ 65_536 = omega (arith, at-read .before .if1 .left) in
+    let is = sym (at-read .read .ensures) ∙ c .before .before .before .g .given .1 in
     rw (le-leb _ _ short, is) (at-start (c .put-figures .ensures) (figures-room _) (search needs))
 
 returns-3 : tie.Need-returns-3
 unfolding line answerText
 returns-3 c =
-    let short : length (after-read-put-refusal c .before .before .before .args .bytes .now) ≤ 65_536 =
-    omega (arith, after-read-put-refusal c .before .if1 .left) in
-    let is = sym (after-read-put-refusal c .read .ensures) ∙ c .before .before .before .number .given .1 in
+    let at-read = after-read-put-refusal c in
+    let short : length (at-read .before .before .before .args .bytes .now) ≤ 65_536 = omega (arith, at-read .before .if1 .left) in
+    let is = sym (at-read .read .ensures) ∙ c .before .before .before .number .given .1 in
     rw (le-leb _ _ short, is) (at-start (c .put-refusal .ensures) (refusal-room _) (search needs))
 
 pub line-spec : {M : Type 1} → statement M

@@ -19,12 +19,6 @@ after-put-digits2 c = c .before .before .before .before .before
 abbrev after-put-text2 : tie.After-out5 → tie.After-put-text2
 after-put-text2 c = c .before .before .before .before .before .before
 
-abbrev after-put-text-out5 : tie.After-out5 → tie.After-put-text
-after-put-text-out5 c = after-put-text (after-put-digits2 (after-put-text2 c))
-
-abbrev after-put-digits-out5 : tie.After-out5 → tie.After-put-digits
-after-put-digits-out5 c = after-put-digits (after-put-text-out5 c)
-
 -- ---- Needs
 
 cast-put-digits : tie.Need-cast-put-digits
@@ -63,10 +57,12 @@ same-length c = search needs
 returns : tie.Need-returns
 unfolding dateText
 returns c =
-    let put-digits = after-put-digits-out5 (c .before) .put-digits in
-    let put-text = after-put-text-out5 (c .before) .put-text in
-    let put-digits2 = after-put-digits2 (after-put-text2 (c .before)) .put-digits2 in
-    let put-text2 = after-put-text2 (c .before) .put-text2 in
+    let at-put-text2 = after-put-text2 (c .before) in
+    let at-put-digits2 = after-put-digits2 at-put-text2 in
+    let put-digits = after-put-digits (after-put-text at-put-digits2) .put-digits in
+    let put-text = after-put-text at-put-digits2 .put-text in
+    let put-digits2 = at-put-digits2 .put-digits2 in
+    let put-text2 = at-put-text2 .put-text2 in
     let put-digits3 = c .before .before .put-digits3 in
     then (then (then (then (put-digits .ensures) (put-text .ensures)) (put-digits2 .ensures)) (put-text2 .ensures)) (put-digits3 .ensures)
 

@@ -39,9 +39,10 @@ same-length c = search needs
 
 returns : tie.Need-returns
 returns c =
-    let date-of = after-put-date (after-put-field (c .before)) .before .date-of in
-    let put-date = after-put-date (after-put-field (c .before)) .put-date in
-    let put-field = after-put-field (c .before) .put-field in
+    let at-put-field = after-put-field (c .before) in
+    let date-of = after-put-date at-put-field .before .date-of in
+    let put-date = after-put-date at-put-field .put-date in
+    let put-field = at-put-field .put-field in
     let put-field2 = c .before .before .put-field2 in
     then (then (same (ap dateText (date-of .ensures)) (put-date .ensures)) (put-field .ensures)) (put-field2 .ensures)
 

@@ -15,7 +15,7 @@ abbrev after-is-interval : tie.Else2 → tie.After-is-interval
 after-is-interval c = c .before .before .before
 
 abbrev start-passed2 : tie.Else2 → tie.Start
-start-passed2 c = start (after-is-interval c)
+start-passed2 c = start (c .before .before .before)
 
 abbrev passed2 : tie.After-out → tie.Else2
 passed2 c = c .before .before .before
@@ -58,10 +58,11 @@ same-length c = search needs
 
 returns-3 : tie.Need-returns-3
 returns-3 c =
-    let a = start-passed2 (passed2 (c .before)) .args in
+    let past2 = passed2 (c .before) in
+    let a = start-passed2 past2 .args in
     accepts (a .interval) (a .given .now) (a .out .now) _ _
-    (passes (after-is-interval (passed2 (c .before)) .is-interval .ensures) (passed2 (c .before) .before .before .if1 .left))
-    (passes (passed2 (c .before) .before .fit .ensures) (passed2 (c .before) .if2 .left)) (c .before .before .write .ensures)
+    (passes (after-is-interval past2 .is-interval .ensures) (past2 .before .before .if1 .left))
+    (passes (past2 .before .fit .ensures) (past2 .if2 .left)) (c .before .before .write .ensures)
 
 pub convert-spec : {M : Type 1} → statement M
 convert-spec =

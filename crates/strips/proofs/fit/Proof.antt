@@ -31,8 +31,8 @@ returns-4 : tie.Need-returns-4
 unfolding lengthsOk
 returns-4 c =
     rw (
-      whole-days (c .before .before .before .args .n) (c .before .before .before .args .table) (search needs)
-          (c .before .before .if1 .left) (c .before .if2 .left) (c .if3 .left),
+      whole-days (c .before .before .before .args .n) (c .before .before .before .args .table) (search needs) (c .before .before .if1 .left)
+          (c .before .if2 .left) (c .if3 .left),
       and-true,
     )
 

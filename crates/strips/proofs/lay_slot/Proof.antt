@@ -53,12 +53,10 @@ same-length c = search needs
 returns : tie.Need-returns
 unfolding storedIn differenceAt
 returns c =
-    let a = start (after-day-earlier (c .before)) .args in
+    let at-day-earlier = after-day-earlier (c .before) in
+    let a = start at-day-earlier .args in
     c .before .before .put .ensures
-    ∙ (simp (
-      after-day-earlier (c .before) .before .value .ensures .0 ∙ table-value (a .table .now) (a .i),
-      after-day-earlier (c .before) .day-earlier .ensures .0,
-    ))
+    ∙ (simp (at-day-earlier .before .value .ensures .0 ∙ table-value (a .table .now) (a .i), at-day-earlier .day-earlier .ensures .0))
 
 pub lay-slot-spec : {M : Type 1} → statement M
 lay-slot-spec =

@@ -49,12 +49,13 @@ loop-less c = search needs
 
 loop-again : tie.Need-loop-again Inv-loop μ-loop
 loop-again c =
-    let a = start (turn (c .before) .before) .args in
-    let l = turn (c .before) .before .loop in
+    let turned = turn (c .before) in
+    let a = start (turned .before) .args in
+    let l = turned .before .loop in
     let d = a .out .now in
     let cells = c .before .before .write-slot .ensures
     ∙ ap (λ (x : List ℕ). slotIn (a .way) (a .n) (a .given .now) x (l .i)) (l .inv .known)
-    ∙ laid-next (a .n) (a .given .now) d (start (turn (c .before) .before) .pre) (a .way) (l .i) (turn (c .before) .loop-test .taken) in
+    ∙ laid-next (a .n) (a .given .now) d (start (turned .before) .pre) (a .way) (l .i) (turned .loop-test .taken) in
     record { inside = search needs; long = ap length cells ∙ length-laid (a .way) _ _ d _; known = cells }
 
 same-length : tie.Need-same-length Inv-loop μ-loop

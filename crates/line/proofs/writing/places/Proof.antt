@@ -37,8 +37,7 @@ loop-again c =
     let l = loop in record {
       low = search needs;
       high = search needs;
-      known =
-          omega (arith, l .inv .known, places-more (l .k) (l .rest) (search needs) (search needs));
+      known = omega (arith, l .inv .known, places-more (l .k) (l .rest) (search needs) (search needs));
     }
 
 returns-2 : tie.Need-returns-2 Inv-loop μ-loop

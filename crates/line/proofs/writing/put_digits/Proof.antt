@@ -52,11 +52,12 @@ loop-less c = search needs
 
 loop-again : tie.Need-loop-again Inv-loop μ-loop
 loop-again c =
+    let looped = at-loop (c .before) in
     record {
       inside = search needs;
-      known = digits-less _ (at-loop (c .before) .loop .out) _ (at-loop (c .before) .before .before .args .at)
-          (at-loop (c .before) .loop .j) (at-loop (c .before) .loop .rest) (search needs) (at-loop (c .before) .loop .inv .known)
-          (c .before .before .put-byte .ensures);
+      known =
+          digits-less _ (looped .loop .out) _ (looped .before .before .args .at) (looped .loop .j) (looped .loop .rest) (search needs)
+          (looped .loop .inv .known) (c .before .before .put-byte .ensures);
     }
 
 ahead-requires : tie.Need-ahead-requires Inv-loop μ-loop
@@ -73,10 +74,9 @@ returns c = let a = start c .args in
     let done : l .j ≡ 0 = omega arith in
     record {
       fits = search needs;
-      next = c .ahead .ensures
-          ∙ ap (λ n. capped (a .at + n)) (sym (length-digits (a .width) (a .n)));
-      has = sym (digits-none (l .out) (a .at) (l .rest))
-          ∙ ap (λ j. stored (l .out) (a .at) (digits j (l .rest))) (sym done) ∙ l .inv .known;
+      next = c .ahead .ensures ∙ ap (λ n. capped (a .at + n)) (sym (length-digits (a .width) (a .n)));
+      has =
+          sym (digits-none (l .out) (a .at) (l .rest)) ∙ ap (λ j. stored (l .out) (a .at) (digits j (l .rest))) (sym done) ∙ l .inv .known;
     }
 
 pub put-digits-spec : {M : Type 1} → statement M

@@ -35,8 +35,7 @@ loop-holds : tie.Need-loop-holds Inv-loop μ-loop
 loop-holds c =
     record {
       inside = search needs;
-      known = text-none (c .before .before .args .out .now) (c .before .before .args .at)
-          (c .before .before .args .text .now);
+      known = text-none (c .before .before .args .out .now) (c .before .before .args .at) (c .before .before .args .text .now);
     }
 
 shared-slice-read-put-byte : tie.Need-shared-slice-read-put-byte Inv-loop μ-loop
@@ -53,11 +52,12 @@ loop-less c = search needs
 
 loop-again : tie.Need-loop-again Inv-loop μ-loop
 loop-again c =
+    let looped = at-loop (c .before) in
     record {
       inside = search needs;
-      known = text-more _ (at-loop (c .before) .loop .out) _
-          (at-loop (c .before) .before .before .before .args .text .now) (at-loop (c .before) .before .before .before .args .at)
-          (at-loop (c .before) .loop .i) (search needs) (at-loop (c .before) .loop .inv .known) (c .before .before .put-byte .ensures);
+      known =
+          text-more _ (looped .loop .out) _ (looped .before .before .before .args .text .now) (looped .before .before .before .args .at)
+          (looped .loop .i) (search needs) (looped .loop .inv .known) (c .before .before .put-byte .ensures);
     }
 
 ahead-requires : tie.Need-ahead-requires Inv-loop μ-loop
@@ -73,8 +73,7 @@ returns c = let a = start c .args in
     record {
       fits = search needs;
       next = c .ahead .ensures;
-      has = l .inv .known
-          ∙ ap (λ n. stored (a .out .now) (a .at) (take n (a .text .now))) done ∙ rw take-length;
+      has = l .inv .known ∙ ap (λ n. stored (a .out .now) (a .at) (take n (a .text .now))) done ∙ rw take-length;
     }
 
 pub put-text-spec : {M : Type 1} → statement M

@@ -73,22 +73,23 @@ add-result-3 : tie.Need-add-result-3
 add-result-3 c = search needs
 
 returns : tie.Need-returns
-returns c = (
-  simp (
-    after-wide2 c .before .before .wide .ensures .0,
-    after-wide2 c .wide2 .ensures .0,
-    c .before .before .wide3 .ensures .0,
-    c .wide4 .ensures .0,
-  ) (number-spaced (start (after-wide2 c) .args .bytes .now) (start (after-wide2 c) .args .at)
-      (start (after-wide2 c) .args .step)),
-  omega (
-    arith,
-    after-wide2 c .before .before .wide .ensures .1,
-    after-wide2 c .wide2 .ensures .1,
-    c .before .before .wide3 .ensures .1,
-    c .wide4 .ensures .1,
-  ),
-)
+returns c =
+    let at-wide2 = after-wide2 c in
+    let begun = start at-wide2 in (
+      simp (
+        at-wide2 .before .before .wide .ensures .0,
+        at-wide2 .wide2 .ensures .0,
+        c .before .before .wide3 .ensures .0,
+        c .wide4 .ensures .0,
+      ) (number-spaced (begun .args .bytes .now) (begun .args .at) (begun .args .step)),
+      omega (
+        arith,
+        at-wide2 .before .before .wide .ensures .1,
+        at-wide2 .wide2 .ensures .1,
+        c .before .before .wide3 .ensures .1,
+        c .wide4 .ensures .1,
+      ),
+    )
 
 pub value-spec : {M : Type 1} → statement M
 value-spec =

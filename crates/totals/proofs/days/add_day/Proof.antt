@@ -62,14 +62,11 @@ slice-read-totals : tie.Need-slice-read-totals Inv-loop μ-loop
 slice-read-totals c = search needs
 
 add-totals : tie.Need-add-totals Inv-loop μ-loop
-add-totals c = let k = turn (c .before) .before .loop .k in
-    let here : k < length (start (turn (c .before)) .args .totals .now) = search needs in
-    omega (
-      arith,
-      start (turn (c .before)) .pre .fits k here,
-      turn (c .before) .before .loop .inv .left k (search needs),
-      c .before .share .ensures .1,
-    )
+add-totals c =
+    let turned = turn (c .before) in
+    let k = turned .before .loop .k in
+    let here : k < length (start turned .args .totals .now) = search needs in
+    omega (arith, start turned .pre .fits k here, turned .before .loop .inv .left k (search needs), c .before .share .ensures .1)
 
 slice-write-totals : tie.Need-slice-write-totals Inv-loop μ-loop
 slice-write-totals c = search needs
@@ -82,8 +79,9 @@ loop-less c = search needs
 
 loop-again : tie.Need-loop-again Inv-loop μ-loop
 loop-again c =
-    replaced-next _ _ _ _ _ (turn (c .before) .before .loop .inv) (turn (c .before) .loop-test .taken)
-    (ap₂ _+_ (turn (c .before) .before .loop .inv .left (turn (c .before) .before .loop .k) (search needs)) (c .before .share .ensures .0))
+    let turned = turn (c .before) in
+    replaced-next _ _ _ _ _ (turned .before .loop .inv) (turned .loop-test .taken)
+    (ap₂ _+_ (turned .before .loop .inv .left (turned .before .loop .k) (search needs)) (c .before .share .ensures .0))
 
 same-length : tie.Need-same-length Inv-loop μ-loop
 same-length c = search needs

@@ -50,7 +50,8 @@ loop-again : tie.Need-loop-again Inv-loop μ-loop
 loop-again c =
     record {
       inside = search needs;
-      known = ap₂ _+_ (c .before .before .loop .inv .known) (c .value-at .ensures .0)
+      known =
+          ap₂ _+_ (c .before .before .loop .inv .known) (c .value-at .ensures .0)
           ∙ sym (sum-more _ (start c .args .a) (c .before .before .loop .i));
       small = omega (arith, c .value-at .ensures .1, c .before .before .loop .inv .small);
     }

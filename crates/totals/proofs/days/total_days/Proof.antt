@@ -48,8 +48,7 @@ loop-holds : tie.Need-loop-holds Inv-loop μ-loop
 loop-holds c =
     record {
       inside = search needs;
-      known = c .before .before .clear .ensures
-          ∙ before-none _ _ _ (entry c .args .totals .now) (entry c .pre .1);
+      known = c .before .before .clear .ensures ∙ before-none _ _ _ (entry c .args .totals .now) (entry c .pre .1);
     }
 
 cast-sum-of : tie.Need-cast-sum-of Inv-loop μ-loop
@@ -93,8 +92,9 @@ loop-again c =
     let a = entry-sum-of summed .args in
     record {
       inside = search needs;
-      known = before-next (a .file .now) (a .n) (a .pairs .now) (l .day) _ (l .totals) _
-          (summed .sum-of .ensures .0) (l .inv .known) (c .before .before .add-day .ensures);
+      known =
+          before-next (a .file .now) (a .n) (a .pairs .now) (l .day) _ (l .totals) _ (summed .sum-of .ensures .0) (l .inv .known)
+          (c .before .before .add-day .ensures);
     }
 
 same-length : tie.Need-same-length Inv-loop μ-loop

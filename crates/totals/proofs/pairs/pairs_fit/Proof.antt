@@ -70,7 +70,8 @@ loop-again : tie.Need-loop-again Inv-loop μ-loop
 loop-again c =
     record {
       inside = search needs;
-      known = at-loop (c .before) .loop .inv .known
+      known =
+          at-loop (c .before) .loop .inv .known
           ∙ all-more _ (at-loop (c .before) .loop .k) _ (search needs) (sym (c .before .pair-ok .ensures) ∙ not-false _ (c .if1 .left));
     }
 
