@@ -46,12 +46,15 @@ module _ (h : Head) (b : Book) (slot : ℕ) (held : List ℕ) (r : Explained) (e
   pub refused-head : r .refused ≡ 1 → (1 ≡ explainCode h b slot held) × (held ≡ fieldsAfter h b slot held)
   unfolding explainCode explainRefusal
   refused-head p =
-      left 1 (head-first (not (headOk h)) (not (bookFits h b)) (not (eqb (length held) 34)) (leb (slotCount h) slot) (not (bookOk h b)) (sym number ∙ p)) (λ z. omega arith)
+      left 1 (head-first (not (headOk h)) (not (bookFits h b)) (not (eqb (length held) 34)) (leb (slotCount h) slot) (not (bookOk h b))
+      (sym number ∙ p)) (λ z. omega arith)
 
   pub refused-fields : (r .refused ≡ 1 → ⊥) → (length held ≡ 34 → ⊥) → (2 ≡ explainCode h b slot held) × (held ≡ fieldsAfter h b slot held)
   unfolding explainCode explainRefusal
   refused-fields n l =
-      left 2 (rw (ne-eqb _ _ l) (then-fields (not (headOk h)) (not (bookFits h b)) (leb (slotCount h) slot) (not (bookOk h b)) (λ z. n (number ∙ z)))) (λ z. omega arith)
+      left 2 (rw (ne-eqb _ _ l)
+      (then-fields (not (headOk h)) (not (bookFits h b)) (leb (slotCount h) slot) (not (bookOk h b)) (λ z. n (number ∙ z)))) (λ z.
+      omega arith)
 
   module _ (l : length held ≡ 34) where
     same : explainCode h b slot held ≡ r .refused
@@ -64,5 +67,6 @@ module _ (h : Head) (b : Book) (slot : ℕ) (held : List ℕ) (r : Explained) (e
     pub explained : r .refused ≡ 0 → (0 ≡ explainCode h b slot held) × (fieldsOf (r .explanation) ≡ fieldsAfter h b slot held)
     unfolding fieldsAfter explainAnswer
     explained z =
-        let told : r .explanation ≡ explanationOf h (b .cells) slot = ap (λ (x : Explained). x .explanation) e ∙ (rw (eq-eqb (explainRefusal h b slot) 0 (sym number ∙ z))) in
+        let told : r .explanation ≡ explanationOf h (b .cells) slot = ap (λ (x : Explained). x .explanation) e
+        ∙ (rw (eq-eqb (explainRefusal h b slot) 0 (sym number ∙ z))) in
         (sym (same ∙ z), rw (same ∙ z, told))

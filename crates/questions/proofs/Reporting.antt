@@ -22,7 +22,8 @@ two-set (a ∷ b ∷ []) x y e = refl
 two-set (a ∷ b ∷ c ∷ l) x y e = absurd (omega arith)
 
 -- what the contract says
-pub record Given (h : Head) (seed loss : ℕ) (b : Book) (out : List ℕ) (report : List ℤ) (r : ℕ) (b' : Book) (out' : List ℕ) (report' : List ℤ) : Type 0 where
+pub record Given (h : Head) (seed loss : ℕ) (b : Book) (out : List ℕ) (report : List ℤ) (r : ℕ) (b' : Book) (out' : List ℕ)
+    (report' : List ℤ) : Type 0 where
   pub code : r ≡ simulatedCode (hostAnswer h seed loss b out report)
   pub lists : b' ≡ hostLists h seed loss b out report
   pub bytes : out' ≡ hostBytes h seed loss b out report

@@ -4,6 +4,13 @@ use borrow.Author.Needs.{needs}
 use Rattle.questions.proofs.logs.sawmauve_call.Statement.{statement}
 use Rattle.questions.proofs.logs.sawmauve_call.Tie as tie
 
+-- ---- Places
+
+abbrev after-line-of : tie.After-fields → tie.After-line-of
+after-line-of c = c .before .before .before
+
+-- ---- Needs
+
 returns : tie.Need-returns
 returns c = other-fields _ _ (c .if1 .taken)
 
@@ -17,7 +24,9 @@ same-length : tie.Need-same-length
 same-length c = search needs
 
 returns-2 : tie.Need-returns-2
-returns-2 c = fields-told _ _ (c .before .before .before .before .before .if1 .left) _ (c .before .before .before .before .line-of .ensures) (c .before .before .tell-line .ensures)
+returns-2 c =
+    fields-told _ _ (after-line-of (c .before) .before .if1 .left) _ (after-line-of (c .before) .line-of .ensures)
+    (c .before .before .tell-line .ensures)
 
 pub sawmauve-call-spec : {M : Type 1} → statement M
 sawmauve-call-spec =

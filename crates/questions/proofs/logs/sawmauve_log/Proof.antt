@@ -4,6 +4,13 @@ use borrow.Author.Needs.{needs}
 use Rattle.questions.proofs.logs.sawmauve_log.Statement.{statement}
 use Rattle.questions.proofs.logs.sawmauve_log.Tie as tie
 
+-- ---- Places
+
+abbrev after-check : tie.After-figures → tie.After-check
+after-check c = c .before .before .before
+
+-- ---- Needs
+
 returns : tie.Need-returns
 returns c = other-figures _ _ (c .if1 .taken)
 
@@ -17,7 +24,9 @@ same-length : tie.Need-same-length
 same-length c = search needs
 
 returns-2 : tie.Need-returns-2
-returns-2 c = figures-told _ _ (c .before .before .before .before .before .if1 .left) _ (c .before .before .before .before .check .ensures) (c .before .before .tell-log .ensures)
+returns-2 c =
+    figures-told _ _ (after-check (c .before) .before .if1 .left) _ (after-check (c .before) .check .ensures)
+    (c .before .before .tell-log .ensures)
 
 pub sawmauve-log-spec : {M : Type 1} → statement M
 sawmauve-log-spec =

@@ -5,6 +5,15 @@ use borrow.Author.Needs.{needs}
 use Rattle.questions.proofs.logs.sawmauve_play.Statement.{statement}
 use Rattle.questions.proofs.logs.sawmauve_play.Tie as tie
 
+-- ---- Places
+
+abbrev after-play : tie.After-played-code → tie.After-play
+after-play c =
+    c .before .before .before .before .before .before .before .before .before .before .before .before .before .before .before .before
+    .before .before .before .before .before .before .before
+
+-- ---- Needs
+
 play-requires : tie.Need-play-requires
 play-requires c κs = search needs
 
@@ -45,7 +54,9 @@ same-length-11 : tie.Need-same-length-11
 same-length-11 c = search needs
 
 returns : tie.Need-returns
-returns c = (c .played-code .ensures ∙ ap playedCode (c .before .before .before .before .before .before .before .before .before .before .before .before .before .before .before .before .before .before .before .before .before .before .before .play .ensures .0), c .before .before .before .before .before .before .before .before .before .before .before .before .before .before .before .before .before .before .before .before .before .before .before .play .ensures .1, c .before .before .before .before .before .before .before .before .before .before .before .before .before .before .before .before .before .before .before .before .before .before .before .play .ensures .2)
+returns c =
+    let at-play = after-play c in
+    (c .played-code .ensures ∙ ap playedCode (at-play .play .ensures .0), at-play .play .ensures .1, at-play .play .ensures .2)
 
 pub sawmauve-play-spec : {M : Type 1} → statement M
 sawmauve-play-spec =

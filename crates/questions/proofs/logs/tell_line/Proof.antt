@@ -4,6 +4,19 @@ use borrow.Author.Needs.{needs}
 use Rattle.questions.proofs.logs.tell_line.Statement.{statement}
 use Rattle.questions.proofs.logs.tell_line.Tie as tie
 
+-- ---- Places
+
+abbrev after-enum-told : tie.After-fields → tie.After-enum-told
+after-enum-told c = c .before .before .before
+
+abbrev after-enum-told2 : tie.After-fields2 → tie.After-enum-told2
+after-enum-told2 c = c .before .before .before
+
+abbrev after-line : tie.After-fields3 → tie.After-line
+after-line c = c .before .before .before .before
+
+-- ---- Needs
+
 enum-told : tie.Need-enum-told
 enum-told c = search needs
 
@@ -35,19 +48,19 @@ same-length : tie.Need-same-length
 same-length c = search needs
 
 returns : tie.Need-returns
-returns c = rw (c .before .before .before .before .enum-told .given .1) (refl, c .before .before .put-seven .ensures)
+returns c = rw (after-enum-told (c .before) .enum-told .given .1) (refl, c .before .before .put-seven .ensures)
 
 same-length-2 : tie.Need-same-length-2
 same-length-2 c = search needs
 
 returns-2 : tie.Need-returns-2
-returns-2 c = rw (c .before .before .before .before .enum-told2 .given .1) (refl, c .before .before .put-seven2 .ensures)
+returns-2 c = rw (after-enum-told2 (c .before) .enum-told2 .given .1) (refl, c .before .before .put-seven2 .ensures)
 
 same-length-3 : tie.Need-same-length-3
 same-length-3 c = search needs
 
 returns-3 : tie.Need-returns-3
-returns-3 c = rw (c .before .before .before .before .before .line .given .1) (refl, c .before .before .put-seven3 .ensures)
+returns-3 c = rw (after-line (c .before) .line .given .1) (refl, c .before .before .put-seven3 .ensures)
 
 same-length-4 : tie.Need-same-length-4
 same-length-4 c = search needs

@@ -7,6 +7,13 @@ use borrow.Author.Needs.{needs}
 use Rattle.questions.proofs.logs.tell_log.Statement.{statement}
 use Rattle.questions.proofs.logs.tell_log.Tie as tie
 
+-- ---- Places
+
+abbrev after-found : tie.After-struct-known7 → tie.After-found
+after-found c = c .before .before .before .before .before .before .before .before
+
+-- ---- Needs
+
 enum-known-found : tie.Need-enum-known-found
 enum-known-found c = search needs
 
@@ -74,7 +81,9 @@ same-length : tie.Need-same-length
 same-length c = simp length-set (omega arith)
 
 returns : tie.Need-returns
-returns c = rw (c .before .before .before .before .before .before .before .before .found .given .1) (refl, nine-set (c .before .before .before .before .before .before .before .before .before .before .args .figures .now) (c .before .before .before .before .before .before .before .before .before .before .pre))
+returns c =
+    let at-found = after-found c in
+    rw (at-found .found .given .1) (refl, nine-set (at-found .before .before .args .figures .now) (at-found .before .before .pre))
 
 returns-2 : tie.Need-returns-2
 returns-2 c = search needs

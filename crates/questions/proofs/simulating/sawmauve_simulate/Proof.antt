@@ -6,6 +6,18 @@ use borrow.Author.Needs.{needs}
 use Rattle.questions.proofs.simulating.sawmauve_simulate.Statement.{statement}
 use Rattle.questions.proofs.simulating.sawmauve_simulate.Tie as tie
 
+-- ---- Places
+
+abbrev passed2 : tie.After-simulate → tie.Else2
+passed2 c = c .before .before .before .before .before .before .before .before .before .before .before .before
+
+abbrev after-simulate : tie.After-tell-arg → tie.After-simulate
+after-simulate c =
+    c .before .before .before .before .before .before .before .before .before .before .before .before .before .before .before .before
+    .before .before .before .before .before .before .before
+
+-- ---- Needs
+
 head-of-requires : tie.Need-head-of-requires
 head-of-requires c κs = search needs
 
@@ -13,16 +25,19 @@ head-ok-requires : tie.Need-head-ok-requires
 head-ok-requires c κs = search needs
 
 returns : tie.Need-returns
-returns c = each (bad-head _ _ (c .before .before .head-of .ensures) _ _ _ _ _ (sym (c .before .head-ok .ensures) ∙ not-true _ (c .if1 .taken)))
+returns c =
+    each (bad-head _ _ (c .before .before .head-of .ensures) _ _ _ _ _ (sym (c .before .head-ok .ensures) ∙ not-true _ (c .if1 .taken)))
 
 returns-2 : tie.Need-returns-2
-returns-2 c = each (bad-report _ _ (c .before .before .before .head-of .ensures) _ _ _ _ _ (sym (c .before .before .head-ok .ensures) ∙ not-false _ (c .before .if1 .left)) (c .if2 .taken))
+returns-2 c =
+    each (bad-report _ _ (c .before .before .before .head-of .ensures) _ _ _ _ _
+    (sym (c .before .before .head-ok .ensures) ∙ not-false _ (c .before .if1 .left)) (c .if2 .taken))
 
 simulate-requires : tie.Need-simulate-requires
 simulate-requires c κs = search needs
 
 tell-requires : tie.Need-tell-requires
-tell-requires c κs = c .before .before .before .before .before .before .before .before .before .before .before .before .before .before .before .before .before .before .before .before .before .before .before .before .before .before .before .before .before .before .before .before .before .before .before .if2 .left
+tell-requires c κs = passed2 (after-simulate c) .if2 .left
 
 same-length : tie.Need-same-length
 same-length c = search needs
@@ -61,8 +76,11 @@ same-length-12 : tie.Need-same-length-12
 same-length-12 c = search needs
 
 returns-3 : tie.Need-returns-3
-returns-3 c = let e = c .before .before .before .before .before .before .before .before .before .before .before .before .before .before .before .before .before .before .before .before .before .before .before .before .before .simulate .ensures in
-    each (run-told _ _ (c .before .before .before .before .before .before .before .before .before .before .before .before .before .before .before .before .before .before .before .before .before .before .before .before .before .before .before .before .before .before .before .before .before .before .before .before .before .before .before .before .head-of .ensures) _ _ _ _ _ (c .before .before .before .before .before .before .before .before .before .before .before .before .before .before .before .before .before .before .before .before .before .before .before .before .before .before .before .before .before .before .before .before .before .before .before .before .before .if2 .left) _ (e .0) (e .1) (e .2) (c .before .tell .ensures .0) (c .before .tell .ensures .1))
+returns-3 c =
+    let at-simulate = after-simulate (c .before .before) in
+    let e = at-simulate .simulate .ensures in
+    each (run-told _ _ (passed2 at-simulate .before .before .before .head-of .ensures) _ _ _ _ _ (passed2 at-simulate .if2 .left) _ (e .0)
+    (e .1) (e .2) (c .before .tell .ensures .0) (c .before .tell .ensures .1))
 
 pub sawmauve-simulate-spec : {M : Type 1} → statement M
 sawmauve-simulate-spec =

@@ -12,6 +12,13 @@ use borrow.Author.Needs.{needs}
 use Rattle.questions.proofs.simulating.tell.Statement.{statement}
 use Rattle.questions.proofs.simulating.tell.Tie as tie
 
+-- ---- Places
+
+abbrev start : tie.After-struct-told → tie.Start
+start c = c .before .before .before .before .before
+
+-- ---- Needs
+
 enum-known-simulated : tie.Need-enum-known-simulated
 enum-known-simulated c = search needs
 
@@ -37,7 +44,11 @@ returns : tie.Need-returns
 returns c = let found = c .before .before .before .simulated .given .0 .0 in
     let small : Fits w8 (found .state) = search needs in
     let fits : SFits w64 (found .difference) = search needs in
-    rw (c .before .before .before .simulated .given .1) (refl, two-set (c .before .before .before .before .before .args .report .now) _ _ (c .before .before .before .before .before .pre) ∙ ap₂ (λ (x y : ℤ). x ∷ y ∷ []) (toZ-pos w64 _ (omega (arith, small .fits))) (toZ-ofZ w64 _ fits))
+    rw (c .before .before .before .simulated .given .1) (
+      refl,
+      two-set (start c .args .report .now) _ _ (start c .pre)
+          ∙ ap₂ (λ (x y : ℤ). x ∷ y ∷ []) (toZ-pos w64 _ (omega (arith, small .fits))) (toZ-ofZ w64 _ fits),
+    )
 
 returns-2 : tie.Need-returns-2
 returns-2 c = search needs
