@@ -9,5 +9,6 @@ use Rattle.market.specs.Records.{record300, record400, runs, dayRecords}
 use Rattle.cases.specs.Nem12.{cases}
 
 pub nem12-cases : every cases ≡ true
-unfolding cases leap monthLengths monthLength yearLength place dateOf all digits places decimal fields joined kwh dateField codeFor markOf marked oneMark endsRun startOf record300 record400 runs dayRecords
+unfolding cases leap monthLengths monthLength yearLength place dateOf all digits places decimal fields joined kwh dateField codeFor markOf
+    marked oneMark endsRun startOf record300 record400 runs dayRecords
 nem12-cases = refl

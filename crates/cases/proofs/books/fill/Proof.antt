@@ -1,29 +1,50 @@
 -- `books::fill`: one row a turn; the lists keep their lengths.
+use mathlib.Core.List.{List}
 use mathlib.Core.Path.{_≡_}
-use Prim.Native.Nat.{_-_, _≤_}
+use Prim.Native.Nat.{ℕ, _-_, _≤_}
 use native.Mathlib.Omega.{arith}
 use lib.ListN.{length}
 use borrow.Author.Needs.{needs}
 use Rattle.cases.proofs.books.fill.Statement.{statement}
 use Rattle.cases.proofs.books.fill.Tie as tie
 
+record Held (values₀ versions₀ statuses₀ holidays₀ readings₀ reads₀ agreed₀ agreedVersions₀ counts₀ widths₀ : List ℕ)
+    (rows : List (List ℕ)) (values versions statuses holidays readings reads agreed agreedVersions counts widths : List ℕ)
+    (i : ℕ) : Type 0 where
+  inside : i ≤ length rows
+  long-values : length values ≡ length values₀
+  long-versions : length versions ≡ length versions₀
+  long-statuses : length statuses ≡ length statuses₀
+  long-holidays : length holidays ≡ length holidays₀
+  long-readings : length readings ≡ length readings₀
+  long-reads : length reads ≡ length reads₀
+  long-agreed : length agreed ≡ length agreed₀
+  long-agreed-versions : length agreedVersions ≡ length agreedVersions₀
+  long-counts : length counts ≡ length counts₀
+  long-widths : length widths ≡ length widths₀
+
 abbrev Inv-loop : tie.InvT-loop
-Inv-loop head values₀ versions₀ statuses₀ holidays₀ readings₀ reads₀ agreed₀ agreedVersions₀ counts₀ widths₀ rows i₀ values versions statuses holidays readings reads agreed agreedVersions counts widths i =
-    (i ≤ length rows)
-    × (length values ≡ length values₀)
-    × (length versions ≡ length versions₀)
-    × (length statuses ≡ length statuses₀)
-    × (length holidays ≡ length holidays₀)
-    × (length readings ≡ length readings₀)
-    × (length reads ≡ length reads₀)
-    × (length agreed ≡ length agreed₀)
-    × (length agreedVersions ≡ length agreedVersions₀)
-    × (length counts ≡ length counts₀)
-    × (length widths ≡ length widths₀)
+Inv-loop head values₀ versions₀ statuses₀ holidays₀ readings₀ reads₀ agreed₀ agreedVersions₀ counts₀ widths₀ rows i₀ values versions
+    statuses holidays readings reads agreed agreedVersions counts widths i =
+    Held values₀ versions₀ statuses₀ holidays₀ readings₀ reads₀ agreed₀ agreedVersions₀ counts₀ widths₀ rows values versions statuses
+    holidays readings reads agreed agreedVersions counts widths i
 
 abbrev μ-loop : tie.MeasureT-loop
-μ-loop head values₀ versions₀ statuses₀ holidays₀ readings₀ reads₀ agreed₀ agreedVersions₀ counts₀ widths₀ rows i₀ values versions statuses holidays readings reads agreed agreedVersions counts widths i =
+μ-loop head values₀ versions₀ statuses₀ holidays₀ readings₀ reads₀ agreed₀ agreedVersions₀ counts₀ widths₀ rows i₀ values versions statuses
+    holidays readings reads agreed agreedVersions counts widths i =
     length rows - i
+
+-- ---- Places
+
+abbrev start : tie.In-loop Inv-loop μ-loop → tie.Start Inv-loop μ-loop
+start c = c .before .before .before .before .before .before .before .before .before .before .before .before
+
+abbrev turn : tie.After-widths Inv-loop μ-loop → tie.In-loop Inv-loop μ-loop
+turn c =
+    c .before .before .before .before .before .before .before .before .before .before .before .before .before .before .before .before
+    .before .before .before .before .before .before .before .before .before .before .before .before .before .before .before
+
+-- ---- Needs
 
 loop-holds : tie.Need-loop-holds Inv-loop μ-loop
 loop-holds c = search needs
@@ -39,8 +60,8 @@ fill-row-requires c κs = search needs
 
 add-i : tie.Need-add-i Inv-loop μ-loop
 add-i c =
-    let bound = (c .before .before .before .before .before .before .before .before .before .before .before .before .before .before .before .before .before .before .before .before .before .before .before .before .before .before .before .before .before .before .before .before .before .before .before .before .before .before .before .before .before .before .before .before) .good .1 .1 .1 .1 .1 .1 .1 .1 .1 in
-    omega (arith, c .before .before .before .before .before .before .before .before .before .before .before .before .before .before .before .before .before .before .before .before .before .before .before .before .before .before .before .before .before .before .before .before .loop-test .taken)
+    let bound = (start (turn (c .before))) .good .1 .1 .1 .1 .1 .1 .1 .1 .1 in
+    omega (arith, turn (c .before) .loop-test .taken)
 
 loop-less : tie.Need-loop-less Inv-loop μ-loop
 loop-less c = search needs
