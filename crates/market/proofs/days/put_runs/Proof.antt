@@ -89,8 +89,7 @@ loop-again c =
     record {
       inside = search needs;
       began = start-is;
-      early =
-          omega (arith, start-is, start-le (λ i. markOf (a .codes) (slotAt (a .file .now) i)) (a .a) (a .n) (l .j + 1));
+      early = omega (arith, start-is, start-le (λ i. markOf (a .codes) (slotAt (a .file .now) i)) (a .a) (a .n) (l .j + 1));
       added =
           joined-next-0 _ (l .j) (l .inv .added)
           (same (run-piece _ (a .a) (a .n) _ (l .j) _ (l .start) _ (at-mark-at .before .ends-run .ensures) (l .inv .began)

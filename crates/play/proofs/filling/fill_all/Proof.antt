@@ -64,12 +64,9 @@ loop-holds c =
       long-values = refl;
       long-versions = refl;
       long-statuses = refl;
-      long-holidays =
-          refl;
-      long-readings =
-          refl;
-      long-reads =
-          refl;
+      long-holidays = refl;
+      long-readings = refl;
+      long-reads = refl;
       long-agreed = refl;
       long-agreed-versions = refl;
       long-counts = refl;
@@ -119,22 +116,14 @@ loop-again c =
     record {
       walked = walk-next _ _ _ (at-line-from .before .before .loop .inv .walked) (at-line-from .line-from .ensures) _ _
           (at-fill .fill .ensures);
-      long-values =
-          search needs;
-      long-versions =
-          search needs;
-      long-statuses =
-          search needs;
-      long-holidays =
-          search needs;
-      long-readings =
-          search needs;
-      long-reads =
-          search needs;
-      long-agreed =
-          search needs;
-      long-agreed-versions =
-          search needs;
+      long-values = search needs;
+      long-versions = search needs;
+      long-statuses = search needs;
+      long-holidays = search needs;
+      long-readings = search needs;
+      long-reads = search needs;
+      long-agreed = search needs;
+      long-agreed-versions = search needs;
       long-counts = search needs;
       long-widths = search needs;
       long-answers = search needs;
