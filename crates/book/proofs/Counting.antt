@@ -88,14 +88,6 @@ one-zero v p = rw (le-ltb 0 v p)
 pub day-positive : {h : Head} → Bounded h → 0 < slotsPerDay h
 day-positive b = omega (arith, b .day-low)
 
--- an interval that is neither 15 nor 30 is 5
-pub five-left : (l : ℕ) → intervalOk l ≡ true → (l ≡ 15 → ⊥) → (l ≡ 30 → ⊥) → l ≡ 5
-unfolding intervalOk
-five-left l e n m =
-    ⊎-elim (eqb-true l 5)
-    (λ d. ⊎-elim (λ x. absurd (n (eqb-true l 15 x))) (λ x. absurd (m (eqb-true l 30 x))) (or-parts (eqb l 15) (eqb l 30) d))
-    (or-parts (eqb l 5) _ e)
-
 -- a slot lies in its day alone
 in-day : (n slot : ℕ) → 0 < n → (slot / n * n ≤ slot) × (slot < slot / n * n + n)
 in-day n slot p = (omega (arith, div-add-mod' slot n), omega (arith, div-add-mod' slot n, mod-lt slot p))

@@ -13,20 +13,6 @@ ghost use Rattle.book.specs.Answers.{receivedMeant};
 ghost use Rattle.book.specs.Filling.{isFull, againstDelivery, slotsWith, countsWith};
 ghost use Rattle.book.specs.Inner.Lent.{Deliverable};
 
-// The day of a slot: a division by each of the three numbers of slots a day is a multiplication.
-fn day_of(head: Head, slot: usize) -> usize
-    requires { ⌜ headOk head ≡ true ⌝ }
-    ensures { λ r. ⌜ r ≡ slot / slotsPerDay head ⌝ }
-{
-    if head.interval == 30 {
-        return slot / 48;
-    }
-    if head.interval == 15 {
-        return slot / 96;
-    }
-    slot / 288
-}
-
 // A first delivery finds n or more delivered in its day.
 fn is_full(head: Head, version: u32, count: u16) -> bool
     requires { ⌜ headOk head ≡ true ⌝ }
@@ -70,7 +56,7 @@ pub fn file_delivery(
         × (now (counts .exit) ≡ countsWith found (now (versions .entry)) (now (counts .entry)) slot (slot / slotsPerDay head)))
         ⌝ }
 {
-    let day = day_of(head, slot);
+    let day = opening::day_of(head, slot);
     let old_version = versions[slot];
     let count = counts[day];
     if is_full(head, old_version, count) {

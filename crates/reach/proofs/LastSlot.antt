@@ -13,7 +13,8 @@ use Rattle.rules.specs.Opening.{Slots, Agreed, Cells, slotsPerDay, slotCount}
 use Rattle.rules.specs.Tests.{isGap, goodAt}
 use Rattle.rules.specs.Filling.{outageAt, outageBefore, outageAfter, isOutageZero, isAgreed, inRun, runStart, runLength, isLinear}
 use Rattle.rules.specs.Filling.{isReference, references, fromReferences, filledAt}
-use Rattle.rules.specs.Inner.Ways.{searched}
+use Rattle.rules.specs.References.{eachWeek}
+use Rattle.rules.specs.Inner.Ways.{valueOf}
 use Rattle.rules.proofs.Outages.{good-delivered}
 use Rattle.rules.proofs.Runs.{from-on, before-low}
 use Rattle.rules.specs.Spans.{isRead, lastRead, between, outcomeAt, spanFrom, spansFrom, spans}
@@ -45,8 +46,8 @@ module _ (h : Head) (s : Slots) (holidays : List ℕ) (i : ℕ) where
   -- of the k + 1 weeks from `days` days before slot j the last leads to slot i, and none before it to a reference
   pub weeks-one : (k days j : ℕ) → j ≡ i + (days + 7 * k) * n
       → ((r : ℕ) → r < k → isReference h s holidays (j - (days + 7 * r) * n) ≡ false)
-      → searched h s holidays days j (suc k) ≡ cond (isReference h s holidays i) (getD (s .values) i 0 ∷ []) []
-  unfolding searched
+      → eachWeek (valueOf s) h s holidays days j (suc k) ≡ cond (isReference h s holidays i) (getD (s .values) i 0 ∷ []) []
+  unfolding eachWeek
   weeks-one zero days j e free =
       let z : days + 7 * 0 ≡ days = omega arith in
       let f : j ≡ i + days * n = rw z at e in

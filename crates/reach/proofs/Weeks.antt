@@ -15,7 +15,8 @@ use Rattle.rules.specs.declared.Head.{Head}
 use Rattle.rules.specs.Opening.{Slots, firstDay, slotsPerDay}
 use Rattle.rules.specs.Weeks.{firstBack, farthestBack, weeksWithin}
 use Rattle.rules.specs.Filling.{references}
-use Rattle.rules.specs.Inner.Ways.{searched}
+use Rattle.rules.specs.References.{eachWeek}
+use Rattle.rules.specs.Inner.Ways.{valueOf}
 use Rattle.rules.proofs.References.{week-within, references-searched}
 use Rattle.reach.specs.Reach.{Weeks, FromSunday}
 use Rattle.reach.proofs.Alike.{SameAt, cond-same, cond-parts, reference-same}
@@ -32,8 +33,8 @@ module _ (h : Head) (s t : Slots) (holidays : List ℕ) (i : ℕ) (same : (k : �
 
   -- none of the k weeks from `days` days before slot j leads to slot i
   weeks-same : (k days j : ℕ) → ((r : ℕ) → r < k → j ≡ i + (days + 7 * r) * n → ⊥)
-      → searched h s holidays days j k ≡ searched h t holidays days j k
-  unfolding searched
+      → eachWeek (valueOf s) h s holidays days j k ≡ eachWeek (valueOf t) h t holidays days j k
+  unfolding eachWeek
   weeks-same zero days j far = refl
   weeks-same (suc k) days j far =
       cond-parts (ltb j (days * n)) (λ e. refl)
