@@ -13,10 +13,10 @@ use lib.ListN.{getD, replicate}
 use borrow.Author.Tests.{leb-false, lt-leb, lt-ltb, le-ltb, eqb-true, eqb-false, eq-eqb, ne-eqb}
 use Rattle.base.specs.Lists.{sum}
 use Rattle.base.proofs.Lists.{upTo-at}
-use Rattle.base.proofs.Logic.{or-parts, either}
+use Rattle.base.proofs.Logic.{either}
 use Rattle.base.proofs.Sums.{sum-cong, sum-none}
 use Rattle.rules.specs.declared.Head.{Head}
-use Rattle.rules.specs.Opening.{intervalOk, slotsPerDay, slotCount}
+use Rattle.rules.specs.Opening.{slotsPerDay, slotCount}
 use Rattle.rules.proofs.Bounds.{Bounded}
 use Rattle.rules.proofs.Small.{cond-small}
 use Rattle.book.specs.Answers.{Answer, isAccepted, isStored, byVersion}
