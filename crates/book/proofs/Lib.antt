@@ -10,6 +10,7 @@ pub mod Counting
 pub mod Agreement
 pub mod Order
 pub mod AnyOrder
+pub mod Searches
 pub mod Soundness
 pub mod Cleared
 pub mod Fits

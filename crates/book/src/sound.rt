@@ -11,9 +11,22 @@ ghost use lib.ListN.{length, getD};
 ghost use Rattle.base.specs.Lists.{sum, any};
 ghost use Rattle.rules.specs.Opening.{headOk, slotCount};
 ghost use Rattle.rules.specs.Lent.{lentSlots, lentAgreed, lentCells};
-ghost use Rattle.book.specs.Cells.{slotFaultAt, dayFaultAt, readFaultAt, agreedFaultAt, countFaultAt};
+ghost use Rattle.book.specs.Cells.{slotFault, agreedFault, slotFaultAt, dayFaultAt, readFaultAt, agreedFaultAt, countFaultAt};
 ghost use Rattle.book.specs.Cells.{cellsFit, cellsOk, bookFits, bookOk};
 ghost use Rattle.book.specs.Lent.{lentReads, lentBook};
+
+// The tests of cells.rt with no branch, so that several places are tested at once.
+fn slot_fault(version: u32, value: u32, status: u8) -> bool
+    ensures { λ r. ⌜ r ≡ slotFault version value status ⌝ }
+{
+    (7 < status) | ((version == 0) & ((value != 0) | (status != 0)))
+}
+
+fn agreed_fault(version: u32, value: u32) -> bool
+    ensures { λ r. ⌜ r ≡ agreedFault version value ⌝ }
+{
+    (EIGHT_DIGITS < value) | ((version == 0) & (value != 0))
+}
 
 fn bad_slot(values: &[u32], versions: &[u32], statuses: &[u8]) -> bool
     requires { ⌜ (length (now versions) ≡ length (now values)) × (length (now statuses) ≡ length (now values)) ⌝ }
@@ -22,14 +35,13 @@ fn bad_slot(values: &[u32], versions: &[u32], statuses: &[u8]) -> bool
         r ≡ any (slotFaultAt s) 0 (length (s .values)))
         ⌝ }
 {
+    let mut bad = false;
     let mut i = 0;
     while i < values.len() {
-        if cells::slot_fault(versions[i], values[i], statuses[i]) {
-            return true;
-        }
+        bad = bad | slot_fault(versions[i], values[i], statuses[i]);
         i += 1;
     }
-    false
+    bad
 }
 
 fn bad_day(holidays: &[u8]) -> bool
@@ -66,14 +78,13 @@ fn bad_agreed(values: &[u32], versions: &[u32]) -> bool
     requires { ⌜ length (now versions) ≡ length (now values) ⌝ }
     ensures { λ r. ⌜ r ≡ any (agreedFaultAt (lentAgreed (values .entry) (versions .entry))) 0 (length (now (values .entry))) ⌝ }
 {
+    let mut bad = false;
     let mut i = 0;
     while i < values.len() {
-        if cells::number_fault(EIGHT_DIGITS, versions[i], values[i]) {
-            return true;
-        }
+        bad = bad | agreed_fault(versions[i], values[i]);
         i += 1;
     }
-    false
+    bad
 }
 
 fn cells_ok(
@@ -107,12 +118,12 @@ fn cells_ok(
     !bad_agreed(agreed, agreed_versions)
 }
 
-// How many of the `count` slots from slot `first` are delivered.
-fn delivered(versions: &[u32], first: usize, count: usize) -> usize
-    requires { ⌜ first + count ≤ length (now versions) ⌝ }
+// How many of the `count` slots from slot `first` are delivered: of a day, 288 at most.
+fn delivered(versions: &[u32], first: usize, count: usize) -> u32
+    requires { ⌜ (first + count ≤ length (now versions)) × (count ≤ 288) ⌝ }
     ensures { λ r. ⌜ r ≡ sum (λ i. cond (ltb 0 (getD (now (versions .entry)) i 0)) 1 0) first count ⌝ }
 {
-    let mut found = 0;
+    let mut found: u32 = 0;
     let mut k = 0;
     while k < count {
         if 0 < versions[first + k] {
@@ -131,7 +142,7 @@ fn bad_count(head: Head, versions: &[u32], counts: &[u16]) -> bool
     let mut day = 0;
     while day < counts.len() {
         let n = opening::slots_per_day(head);
-        let count = counts[day] as usize;
+        let count = counts[day] as u32;
         if count != delivered(versions, day * n, n) {
             return true;
         }

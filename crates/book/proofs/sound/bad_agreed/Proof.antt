@@ -1,49 +1,62 @@
--- `sound::bad_agreed`. No agreed slot passed has a cell that no calls could leave.
-use borrow.Author.Needs.{needs}
-use mathlib.Core.Path.{sym, _∙_}
-use Prim.Native.Nat.{_-_}
+-- `sound::bad_agreed`. Before each slot `bad` says whether an agreed slot so far has a cell that no calls could leave.
+use mathlib.Core.Bool.{Bool}
+use mathlib.Core.Path.{_≡_, sym, ap, _∙_}
+use Prim.Native.Nat.{ℕ, _≤_, _-_, zero-le}
 use native.Mathlib.Omega.{arith}
+use borrow.Author.Needs.{needs}
 use lib.ListN.{length}
+use Rattle.base.specs.Lists.{any}
+use Rattle.base.proofs.Sums.{any-empty}
+use Rattle.rules.specs.Opening.{Agreed}
+use Rattle.rules.specs.Lent.{agreedLists}
 use Rattle.book.specs.Cells.{agreedFaultAt}
-use Rattle.book.proofs.Passed.{Passed, none-yet, one-more, at-fault, all-passed}
+use Rattle.book.proofs.Searches.{searched-on}
 use Rattle.book.proofs.sound.bad_agreed.Statement.{statement}
 use Rattle.book.proofs.sound.bad_agreed.Tie as tie
 
+record Held (a : Agreed) (bad : Bool) (i : ℕ) : Type 0 where
+  inside : i ≤ length (a .values)
+  known : bad ≡ any (agreedFaultAt a) 0 i
+
 abbrev Inv-loop : tie.InvT-loop
-Inv-loop values versions i₀ i = Passed (agreedFaultAt (record { values = values; versions = versions })) (length values) i
+Inv-loop values versions bad₀ i₀ bad i = Held (agreedLists values versions) bad i
 
 abbrev μ-loop : tie.MeasureT-loop
-μ-loop values versions i₀ i = length values - i
+μ-loop values versions bad₀ i₀ bad i = length values - i
 
 -- ---- Places
 
-abbrev turn : tie.After-number-fault Inv-loop μ-loop → tie.In-loop Inv-loop μ-loop
-turn c = c .before .before .before
+abbrev At-loop : Type 0
+At-loop = tie.At-loop Inv-loop μ-loop
+
+abbrev start : At-loop → tie.Start Inv-loop μ-loop
+start c = c .before .before .before
+
+abbrev turn : tie.After-agreed-fault Inv-loop μ-loop → At-loop
+turn c = c .before .before .before .before
+
+abbrev lent : At-loop → Agreed
+lent c = let a = start c .args in agreedLists (a .values .now) (a .versions .now)
 
 -- ---- Needs
 
 loop-holds : tie.Need-loop-holds Inv-loop μ-loop
-loop-holds c = none-yet _ _
+loop-holds c = record { inside = zero-le; known = sym (any-empty _ _) }
 
-mul-number-fault : tie.Need-mul-number-fault Inv-loop μ-loop
-mul-number-fault c = search needs
+mul-agreed-fault : tie.Need-mul-agreed-fault Inv-loop μ-loop
+mul-agreed-fault c = search needs
 
-shared-slice-read-number-fault : tie.Need-shared-slice-read-number-fault Inv-loop μ-loop
-shared-slice-read-number-fault c = omega arith
+shared-slice-read-agreed-fault : tie.Need-shared-slice-read-agreed-fault Inv-loop μ-loop
+shared-slice-read-agreed-fault c = omega arith
 
-mul-number-fault-2 : tie.Need-mul-number-fault-2 Inv-loop μ-loop
-mul-number-fault-2 c = search needs
+mul-agreed-fault-2 : tie.Need-mul-agreed-fault-2 Inv-loop μ-loop
+mul-agreed-fault-2 c = search needs
 
-shared-slice-read-number-fault-2 : tie.Need-shared-slice-read-number-fault-2 Inv-loop μ-loop
-shared-slice-read-number-fault-2 c = omega arith
+shared-slice-read-agreed-fault-2 : tie.Need-shared-slice-read-agreed-fault-2 Inv-loop μ-loop
+shared-slice-read-agreed-fault-2 c = omega arith
 
-number-fault-requires : tie.Need-number-fault-requires Inv-loop μ-loop
-number-fault-requires c κs = search needs
-
-returns : tie.Need-returns Inv-loop μ-loop
-returns c =
-    let turned = turn (c .before) in
-    at-fault _ _ _ (turned .loop-test .taken) (sym (c .before .number-fault .ensures) ∙ c .if1 .taken)
+agreed-fault-requires : tie.Need-agreed-fault-requires Inv-loop μ-loop
+agreed-fault-requires c κs = search needs
 
 add-i : tie.Need-add-i Inv-loop μ-loop
 add-i c = omega arith
@@ -53,12 +66,18 @@ loop-less c = omega arith
 
 loop-again : tie.Need-loop-again Inv-loop μ-loop
 loop-again c =
-    let turned = turn (c .before) in
-    one-more _ _ _ (turned .before .loop .inv) (turned .loop-test .taken) (sym (c .before .number-fault .ensures) ∙ c .if1 .left)
+    let at = turn c in
+    record {
+      inside = omega arith;
+      known = searched-on (agreedFaultAt (lent at)) (at .loop .i) (at .loop .bad) (c .agreed-fault .result) (at .loop .inv .known)
+          (c .agreed-fault .ensures);
+    }
 
-returns-2 : tie.Need-returns-2 Inv-loop μ-loop
-returns-2 c =
-    all-passed _ _ _ (c .before .loop .inv) (c .loop-test .left)
+returns : tie.Need-returns Inv-loop μ-loop
+returns c =
+    let at = c .before in
+    let e : at .loop .i ≡ length (lent at .values) = omega arith in
+    at .loop .inv .known ∙ ap (any (agreedFaultAt (lent at)) 0) e
 
 pub bad-agreed-spec : {M : Type 1} → statement M
 bad-agreed-spec =
@@ -67,13 +86,12 @@ bad-agreed-spec =
     Inv-loop
     μ-loop
     loop-holds
-    mul-number-fault
-    shared-slice-read-number-fault
-    mul-number-fault-2
-    shared-slice-read-number-fault-2
-    number-fault-requires
-    returns
+    mul-agreed-fault
+    shared-slice-read-agreed-fault
+    mul-agreed-fault-2
+    shared-slice-read-agreed-fault-2
+    agreed-fault-requires
     add-i
     loop-less
     loop-again
-    returns-2)
+    returns)

@@ -1,36 +1,63 @@
 -- `sound::bad_count`. No day passed has a count that differs from the number of its delivered slots.
-use borrow.Author.Needs.{needs}
 use mathlib.Core.Bool.{false, true}
+use mathlib.Core.List.{List}
 use mathlib.Core.Path.{_≡_, sym, ap}
-use Prim.Native.Nat.{ℕ, _*_, _-_, _<_}
+use Prim.Native.Nat.{ℕ, _*_, _-_, _≤_, _<_, zero-le}
 use native.Mathlib.Omega.{arith}
-use lib.ListN.{length}
+use borrow.Author.Needs.{needs}
 use borrow.Author.Tests.{eq-eqb, ne-eqb}
-use Rattle.rules.proofs.Bounds.{bounded, count-high}
+use lib.ListN.{length}
+use Rattle.base.specs.Lists.{any}
+use Rattle.base.proofs.Sums.{any-empty, none-on, one-found}
+use Rattle.rules.specs.declared.Head.{Head}
+use Rattle.rules.proofs.Bounds.{Bounded, bounded, count-high}
 use Rattle.book.specs.Cells.{deliveredIn, countFaultAt}
 use Rattle.book.proofs.Counting.{day-within}
-use Rattle.book.proofs.Passed.{Passed, none-yet, one-more, at-fault, all-passed}
 use Rattle.book.proofs.sound.bad_count.Statement.{statement}
 use Rattle.book.proofs.sound.bad_count.Tie as tie
 
+record Held (h : Head) (versions counts : List ℕ) (day : ℕ) : Type 0 where
+  inside : day ≤ length counts
+  none : any (countFaultAt h versions counts) 0 day ≡ false
+
 abbrev Inv-loop : tie.InvT-loop
-Inv-loop head versions counts day₀ day = Passed (countFaultAt head versions counts) (length counts) day
+Inv-loop head versions counts day₀ day = Held head versions counts day
 
 abbrev μ-loop : tie.MeasureT-loop
 μ-loop head versions counts day₀ day = length counts - day
 
 -- ---- Places
 
-abbrev start : tie.At-loop Inv-loop μ-loop → tie.Start Inv-loop μ-loop
+abbrev At-loop : Type 0
+At-loop = tie.At-loop Inv-loop μ-loop
+
+abbrev In-loop : Type 0
+In-loop = tie.In-loop Inv-loop μ-loop
+
+abbrev start : At-loop → tie.Start Inv-loop μ-loop
 start c = c .before .before .before
 
-abbrev turn : tie.After-delivered Inv-loop μ-loop → tie.In-loop Inv-loop μ-loop
-turn c = c .before .before .before
+abbrev turn : tie.After-shared-slice-known3 Inv-loop μ-loop → In-loop
+turn c = c .before .before
+
+abbrev counted : tie.After-delivered Inv-loop μ-loop → In-loop
+counted c = turn (c .before)
+
+bounds : (c : At-loop) → Bounded (start c .args .head)
+bounds c = bounded (start c .args .head) (start c .pre .0)
+
+within : (c : In-loop) → c .before .loop .day < start (c .before) .args .head .days
+within c = omega (arith, c .loop-test .taken, start (c .before) .pre)
+
+found : (c : tie.After-delivered Inv-loop μ-loop) → let at = counted c .before in
+    deliveredIn (start at .args .head) (start at .args .versions .now) (at .loop .day) ≡ c .delivered .result
+unfolding deliveredIn
+found c = sym (rw (c .before .before .slots-per-day .ensures) at (c .delivered .ensures))
 
 -- ---- Needs
 
 loop-holds : tie.Need-loop-holds Inv-loop μ-loop
-loop-holds c = none-yet _ _
+loop-holds c = record { inside = zero-le; none = any-empty _ _ }
 
 slots-per-day-requires : tie.Need-slots-per-day-requires Inv-loop μ-loop
 slots-per-day-requires c κs = start (c .before) .pre .0
@@ -42,40 +69,32 @@ shared-slice-read-count : tie.Need-shared-slice-read-count Inv-loop μ-loop
 shared-slice-read-count c = omega arith
 
 cast-count : tie.Need-cast-count Inv-loop μ-loop
-cast-count c = omega (arith, c .shared-slice-known3 .given (c .before .before .before .loop .day))
+cast-count c = omega (arith, c .shared-slice-known3 .given (turn c .before .loop .day))
 
 mul-delivered : tie.Need-mul-delivered Inv-loop μ-loop
 mul-delivered c =
-    let begun = start (c .before .before .before) in
-    let d = c .before .before .before .loop .day in
-    let h = begun .args .head in
-    let lt : d < h .days = omega arith in
-    omega (arith, ap (λ (n : ℕ). d * n) (c .before .slots-per-day .ensures), day-within h d lt, count-high h (bounded h (begun .pre .0)))
+    let at = turn c .before in
+    let h = start at .args .head in
+    let d = at .loop .day in
+    omega (arith, ap (λ (n : ℕ). d * n) (c .before .slots-per-day .ensures), day-within h d (within (turn c)), count-high h (bounds at))
 
 delivered-requires : tie.Need-delivered-requires Inv-loop μ-loop
 delivered-requires c κs =
-    let begun = start (c .before .before .before) in
-    let d = c .before .before .before .loop .day in
-    let h = begun .args .head in
-    let lt : d < h .days = omega arith in
-    omega (
-      arith,
-      ap (λ (n : ℕ). d * n) (c .before .slots-per-day .ensures),
-      c .before .slots-per-day .ensures,
-      day-within h d lt,
-      begun .pre .1,
-    )
+    let at = turn c .before in
+    let h = start at .args .head in
+    let d = at .loop .day in
+    let n = c .before .slots-per-day .ensures in
+    omega (arith, ap (λ (n : ℕ). d * n) n, n, day-within h d (within (turn c)), start at .pre .1, bounds at .day-high)
 
 returns : tie.Need-returns Inv-loop μ-loop
-unfolding deliveredIn
 returns c =
-    let turned = turn (c .before) in
-    let a = start (turned .before) .args in
-    let d = turned .before .loop .day in
-    let found : deliveredIn (a .head) (a .versions .now) d ≡ c .before .delivered .result =
-    sym (rw (c .before .before .before .slots-per-day .ensures) at (c .before .delivered .ensures)) in
-    let fault : countFaultAt (a .head) (a .versions .now) (a .counts .now) d ≡ true = rw (found, ne-eqb _ _ (c .if1 .taken)) in
-    at-fault _ _ _ (turned .loop-test .taken) fault
+    let at = counted (c .before) .before in
+    let a = start at .args in
+    let d = at .loop .day in
+    let fault : countFaultAt (a .head) (a .versions .now) (a .counts .now) d ≡ true =
+    rw (found (c .before), ne-eqb _ _ (c .if1 .taken)) in
+    sym (one-found (countFaultAt (a .head) (a .versions .now) (a .counts .now)) d (length (a .counts .now))
+    (counted (c .before) .loop-test .taken) fault)
 
 add-day : tie.Need-add-day Inv-loop μ-loop
 add-day c = omega arith
@@ -84,18 +103,22 @@ loop-less : tie.Need-loop-less Inv-loop μ-loop
 loop-less c = omega arith
 
 loop-again : tie.Need-loop-again Inv-loop μ-loop
-unfolding deliveredIn
 loop-again c =
-    let turned = turn (c .before) in
-    let a = start (turned .before) .args in
-    let d = turned .before .loop .day in
-    let found : deliveredIn (a .head) (a .versions .now) d ≡ c .before .delivered .result =
-    sym (rw (c .before .before .before .slots-per-day .ensures) at (c .before .delivered .ensures)) in
-    let right : countFaultAt (a .head) (a .versions .now) (a .counts .now) d ≡ false = rw (found, eq-eqb _ _ (c .if1 .left)) in
-    one-more _ _ _ (turned .before .loop .inv) (turned .loop-test .taken) right
+    let at = counted (c .before) .before in
+    let a = start at .args in
+    let d = at .loop .day in
+    let right : countFaultAt (a .head) (a .versions .now) (a .counts .now) d ≡ false =
+    rw (found (c .before), eq-eqb _ _ (c .if1 .left)) in
+    record {
+      inside = omega arith;
+      none = none-on (countFaultAt (a .head) (a .versions .now) (a .counts .now)) d (at .loop .inv .none) right;
+    }
 
 returns-2 : tie.Need-returns-2 Inv-loop μ-loop
-returns-2 c = all-passed _ _ _ (c .before .loop .inv) (c .loop-test .left)
+returns-2 c =
+    let at = c .before in
+    let e : at .loop .day ≡ length (start at .args .counts .now) = omega arith in
+    sym (rw e at (at .loop .inv .none))
 
 pub bad-count-spec : {M : Type 1} → statement M
 bad-count-spec =

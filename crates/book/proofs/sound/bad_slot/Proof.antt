@@ -1,30 +1,47 @@
--- `sound::bad_slot`. No slot passed has a cell that no calls could leave.
-use borrow.Author.Needs.{needs}
-use mathlib.Core.Path.{sym, _∙_}
-use Prim.Native.Nat.{_-_}
+-- `sound::bad_slot`. Before each slot `bad` says whether a slot so far has a cell that no calls could leave.
+use mathlib.Core.Bool.{Bool}
+use mathlib.Core.Path.{_≡_, sym, ap, _∙_}
+use Prim.Native.Nat.{ℕ, _≤_, _-_, zero-le}
 use native.Mathlib.Omega.{arith}
+use borrow.Author.Needs.{needs}
 use lib.ListN.{length}
+use Rattle.base.specs.Lists.{any}
+use Rattle.base.proofs.Sums.{any-empty}
+use Rattle.rules.specs.Opening.{Slots}
 use Rattle.rules.specs.Lent.{slots}
 use Rattle.book.specs.Cells.{slotFaultAt}
-use Rattle.book.proofs.Passed.{Passed, none-yet, one-more, at-fault, all-passed}
+use Rattle.book.proofs.Searches.{searched-on}
 use Rattle.book.proofs.sound.bad_slot.Statement.{statement}
 use Rattle.book.proofs.sound.bad_slot.Tie as tie
 
+record Held (s : Slots) (bad : Bool) (i : ℕ) : Type 0 where
+  inside : i ≤ length (s .values)
+  known : bad ≡ any (slotFaultAt s) 0 i
+
 abbrev Inv-loop : tie.InvT-loop
-Inv-loop values versions statuses i₀ i = Passed (slotFaultAt (slots values versions statuses)) (length values) i
+Inv-loop values versions statuses bad₀ i₀ bad i = Held (slots values versions statuses) bad i
 
 abbrev μ-loop : tie.MeasureT-loop
-μ-loop values versions statuses i₀ i = length values - i
+μ-loop values versions statuses bad₀ i₀ bad i = length values - i
 
 -- ---- Places
 
-abbrev turn : tie.After-slot-fault Inv-loop μ-loop → tie.In-loop Inv-loop μ-loop
-turn c = c .before .before .before .before
+abbrev At-loop : Type 0
+At-loop = tie.At-loop Inv-loop μ-loop
+
+abbrev start : At-loop → tie.Start Inv-loop μ-loop
+start c = c .before .before .before .before
+
+abbrev turn : tie.After-slot-fault Inv-loop μ-loop → At-loop
+turn c = c .before .before .before .before .before
+
+abbrev lent : At-loop → Slots
+lent c = let a = start c .args in slots (a .values .now) (a .versions .now) (a .statuses .now)
 
 -- ---- Needs
 
 loop-holds : tie.Need-loop-holds Inv-loop μ-loop
-loop-holds c = none-yet _ _
+loop-holds c = record { inside = zero-le; known = sym (any-empty _ _) }
 
 mul-slot-fault : tie.Need-mul-slot-fault Inv-loop μ-loop
 mul-slot-fault c = search needs
@@ -44,11 +61,6 @@ shared-slice-read-slot-fault-3 c = omega arith
 slot-fault-requires : tie.Need-slot-fault-requires Inv-loop μ-loop
 slot-fault-requires c κs = search needs
 
-returns : tie.Need-returns Inv-loop μ-loop
-returns c =
-    let turned = turn (c .before) in
-    at-fault _ _ _ (turned .loop-test .taken) (sym (c .before .slot-fault .ensures) ∙ c .if1 .taken)
-
 add-i : tie.Need-add-i Inv-loop μ-loop
 add-i c = omega arith
 
@@ -57,12 +69,18 @@ loop-less c = omega arith
 
 loop-again : tie.Need-loop-again Inv-loop μ-loop
 loop-again c =
-    let turned = turn (c .before) in
-    one-more _ _ _ (turned .before .loop .inv) (turned .loop-test .taken) (sym (c .before .slot-fault .ensures) ∙ c .if1 .left)
+    let at = turn c in
+    record {
+      inside = omega arith;
+      known = searched-on (slotFaultAt (lent at)) (at .loop .i) (at .loop .bad) (c .slot-fault .result) (at .loop .inv .known)
+          (c .slot-fault .ensures);
+    }
 
-returns-2 : tie.Need-returns-2 Inv-loop μ-loop
-returns-2 c =
-    all-passed _ _ _ (c .before .loop .inv) (c .loop-test .left)
+returns : tie.Need-returns Inv-loop μ-loop
+returns c =
+    let at = c .before in
+    let e : at .loop .i ≡ length (lent at .values) = omega arith in
+    at .loop .inv .known ∙ ap (any (slotFaultAt (lent at)) 0) e
 
 pub bad-slot-spec : {M : Type 1} → statement M
 bad-slot-spec =
@@ -77,8 +95,7 @@ bad-slot-spec =
     shared-slice-read-slot-fault-2
     shared-slice-read-slot-fault-3
     slot-fault-requires
-    returns
     add-i
     loop-less
     loop-again
-    returns-2)
+    returns)
