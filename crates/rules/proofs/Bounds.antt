@@ -24,14 +24,17 @@ pub record Bounded (h : Head) : Type 0 where
   pub day-high : slotsPerDay h ≤ 288
 
 -- an interval is 5, 15 or 30
-pub interval-bounds : (interval : ℕ) → intervalOk interval ≡ true → (5 ≤ interval) × (interval ≤ 30) × (48 ≤ 1440 / interval) × (1440 / interval ≤ 288)
+pub interval-bounds : (interval : ℕ) → intervalOk interval ≡ true
+    → (5 ≤ interval) × (interval ≤ 30) × (48 ≤ 1440 / interval) × (1440 / interval ≤ 288)
 unfolding intervalOk
 interval-bounds interval e =
     ⊎-elim (λ x. of 5 x (lit≤ tt) (lit≤ tt) (lit≤ tt) (lit≤ tt))
-    (λ d. ⊎-elim (λ x. of 15 x (lit≤ tt) (lit≤ tt) (lit≤ tt) (lit≤ tt)) (λ x. of 30 x (lit≤ tt) (lit≤ tt) (lit≤ tt) (lit≤ tt)) (or-parts _ _ d))
+    (λ d. ⊎-elim (λ x. of 15 x (lit≤ tt) (lit≤ tt) (lit≤ tt) (lit≤ tt)) (λ x. of 30 x (lit≤ tt) (lit≤ tt) (lit≤ tt) (lit≤ tt))
+    (or-parts _ _ d))
     (or-parts _ _ e)
   where
-    of : (l : ℕ) → eqb interval l ≡ true → 5 ≤ l → l ≤ 30 → 48 ≤ 1440 / l → 1440 / l ≤ 288 → (5 ≤ interval) × (interval ≤ 30) × (48 ≤ 1440 / interval) × (1440 / interval ≤ 288)
+    of : (l : ℕ) → eqb interval l ≡ true → 5 ≤ l → l ≤ 30 → 48 ≤ 1440 / l → 1440 / l ≤ 288
+        → (5 ≤ interval) × (interval ≤ 30) × (48 ≤ 1440 / interval) × (1440 / interval ≤ 288)
     of l x p q r s = rw (eqb-true interval l x) (p, q, r, s)
 
 -- the slots of at most 400 days, each with an interval at 1,000,000 W
@@ -39,7 +42,8 @@ caps : (l days : ℕ) → intervalOk l ≡ true → days ≤ 400 → 1440 / l * 
 unfolding intervalOk
 caps l days e m =
     ⊎-elim (λ x. rw (eqb-true l 5 x) (omega arith))
-    (λ (d : (eqb l 15 || eqb l 30) ≡ true). ⊎-elim (λ x. rw (eqb-true l 15 x) (omega arith)) (λ x. rw (eqb-true l 30 x) (omega arith)) (or-parts (eqb l 15) (eqb l 30) d))
+    (λ (d : (eqb l 15 || eqb l 30) ≡ true). ⊎-elim (λ x. rw (eqb-true l 15 x) (omega arith)) (λ x. rw (eqb-true l 30 x) (omega arith))
+    (or-parts (eqb l 15) (eqb l 30) d))
     (or-parts _ _ e)
 
 module _ (h : Head) where

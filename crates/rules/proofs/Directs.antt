@@ -100,30 +100,32 @@ pub record Summed (h : Head) (s : Slots) (a : Agreed) (from to : ℕ) (n : ℕ) 
   pub total : n ≡ sum (λ i. directOf h s a i .value) from (at - from)
   pub low : n ≤ (at - from) * 4_294_967_295
 
-module _ (h : Head) (s : Slots) (a : Agreed) (from to total : ℕ) (outage : Bool) (at : ℕ) (held : Summed h s a from to total outage at) where
-  pub summed-on : (x : ℕ) (next : Bool) → at < to → directAt h s a at ≡ true → x ≡ directOf h s a at .value → x ≤ 4_294_967_295
-      → next ≡ zeroAt (s .versions) (s .statuses) (slotCount h) at → Summed h s a from to (total + x) next (at + 1)
-  unfolding zeroBefore
-  summed-on x next l d e m o =
-      let k : at + 1 - from ≡ at - from + 1 = omega (arith, held .further) in
-      let p : from + (at - from) ≡ at = omega (arith, held .further) in
-      record {
-        further = omega (arith, held .further);
-        inside = omega arith;
-        direct = below-more _ _ (held .direct) (λ q. d);
-        outage = rw (add-one at) o;
-        total = rw (k, sum-more (λ i. directOf h s a i .value) from (at - from), p) (λ t. held .total t + e t);
-        low = omega (arith, held .low, held .further);
-      }
+module _ (h : Head) (s : Slots) (a : Agreed) (from to total : ℕ) (outage : Bool) (at : ℕ) (held : Summed h s a from to total outage at)
+  where
+    pub summed-on : (x : ℕ) (next : Bool) → at < to → directAt h s a at ≡ true → x ≡ directOf h s a at .value → x ≤ 4_294_967_295
+        → next ≡ zeroAt (s .versions) (s .statuses) (slotCount h) at → Summed h s a from to (total + x) next (at + 1)
+    unfolding zeroBefore
+    summed-on x next l d e m o =
+        let k : at + 1 - from ≡ at - from + 1 = omega (arith, held .further) in
+        let p : from + (at - from) ≡ at = omega (arith, held .further) in
+        record {
+          further = omega (arith, held .further);
+          inside = omega arith;
+          direct = below-more _ _ (held .direct) (λ q. d);
+          outage = rw (add-one at) o;
+          total = rw (k, sum-more (λ i. directOf h s a i .value) from (at - from), p) (λ t. held .total t + e t);
+          low = omega (arith, held .low, held .further);
+        }
 
-  -- where the slots end
-  pub summed-end : (at < to → directAt h s a at ≡ false)
-      → DirectTo h s a from to at outage × (total ≡ sum (λ i. directOf h s a i .value) from (at - from)) × (total ≤ (at - from) * 4_294_967_295)
-  summed-end stops = (
-    record { further = held .further; inside = held .inside; direct = held .direct; stops = stops; outage = held .outage },
-    held .total,
-    held .low,
-  )
+    -- where the slots end
+    pub summed-end : (at < to → directAt h s a at ≡ false)
+        → DirectTo h s a from to at outage × (total ≡ sum (λ i. directOf h s a i .value) from (at - from))
+        × (total ≤ (at - from) * 4_294_967_295)
+    summed-end stops = (
+      record { further = held .further; inside = held .inside; direct = held .direct; stops = stops; outage = held .outage },
+      held .total,
+      held .low,
+    )
 
 -- direct slots from slot `from` as far as slot `end`
 module _ (h : Head) (s : Slots) (a : Agreed) (from end : ℕ) (direct : (i : ℕ) → i < end → from ≤ i → directAt h s a i ≡ true) where
@@ -134,7 +136,8 @@ module _ (h : Head) (s : Slots) (a : Agreed) (from end : ℕ) (direct : (i : ℕ
 
   -- the sums of a stretch with the next j slots, which are direct
   module _ (holidays : List ℕ) (start k : ℕ) (at : from ≡ start + k) (m : Summary) (e : m ≡ summaryOf h s a holidays start k) where
-    summary-direct : (j : ℕ) → from + j ≤ end → actualAdded m (sum (λ i. directOf h s a i .value) from j) ≡ summaryOf h s a holidays start (k + j)
+    summary-direct : (j : ℕ) → from + j ≤ end
+        → actualAdded m (sum (λ i. directOf h s a i .value) from j) ≡ summaryOf h s a holidays start (k + j)
     unfolding sum
     summary-direct zero l = simp add-zero e
     summary-direct (suc j) l =
@@ -152,16 +155,19 @@ module _ (h : Head) (s : Slots) (a : Agreed) (from end : ℕ) (direct : (i : ℕ
         } in
         rw (add-suc, ← add-one (k + j))
         (summary-on h s a holidays start (k + j) (actualAdded m before) _ o 0 (summary-direct j (omega arith))
-        (parts ∙ direct-added h s a (from + j) d (actualAdded m before)) (direct-filled h s a (from + j) d holidays ∙ ap (filledAt h s a holidays) i)
+        (parts ∙ direct-added h s a (from + j) d (actualAdded m before))
+        (direct-filled h s a (from + j) d holidays ∙ ap (filledAt h s a holidays) i)
         (direct-shape h s a (from + j) d holidays ∙ ap (shapeAt h s a holidays) i))
 
-    pub summary-run : (l : ℕ) → end ≡ start + l → from ≤ end → actualAdded m (sum (λ i. directOf h s a i .value) from (end - from)) ≡ summaryOf h s a holidays start l
+    pub summary-run : (l : ℕ) → end ≡ start + l → from ≤ end
+        → actualAdded m (sum (λ i. directOf h s a i .value) from (end - from)) ≡ summaryOf h s a holidays start l
     summary-run l x y =
         let z : k + (end - from) ≡ l = omega arith in
         rw z at (summary-direct (end - from) (omega arith))
 
 -- where no slot is direct, the first has a cause
-pub none-direct : (h : Head) (s : Slots) (a : Agreed) (from to end : ℕ) (last : Bool) → DirectTo h s a from to end last → end ≤ from → from < to
+pub none-direct : (h : Head) (s : Slots) (a : Agreed) (from to end : ℕ) (last : Bool) → DirectTo h s a from to end last → end ≤ from
+    → from < to
     → goodAt h s from ≡ false
 none-direct h s a from to end last run l m =
     let e : end ≡ from = omega (arith, run .further) in

@@ -28,7 +28,8 @@ module _ (h : Head) (s : Slots) (a : Agreed) (holidays : List ℕ) (i : ℕ) (ca
     filled-zero z = rw (cause, t, z)
 
     module _ (z : isOutageZero h s i ≡ false) where
-      pub filled-line : (v : ℕ) → v ≡ linearValue h s (a .versions) i → isLinear h s (a .versions) i ≡ true → record { value = v; quality = S; method = 2 } ≡ filledAt h s a holidays i
+      pub filled-line : (v : ℕ) → v ≡ linearValue h s (a .versions) i → isLinear h s (a .versions) i ≡ true
+          → record { value = v; quality = S; method = 2 } ≡ filledAt h s a holidays i
       unfolding filledAt
       filled-line v e l = rw (cause, t, z, l, e)
 
@@ -58,7 +59,11 @@ module _ (P : Outcome → Type 0) where
 
   -- a slot of a span
   pub spanned-by : (h : Head) (b : Cells) (first last i : ℕ)
-      → (isS (filled h b first last i .quality) ≡ true → P (record { value = newValue h b first last i; quality = S; method = filled h b first last i .method + 16 }))
+      → (isS (filled h b first last i .quality) ≡ true → P (record {
+        value = newValue h b first last i;
+        quality = S;
+        method = filled h b first last i .method + 16;
+      }))
       → P (filled h b first last i)
       → P (inSpan h b first last i)
   unfolding inSpan

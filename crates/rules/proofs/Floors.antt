@@ -3,7 +3,8 @@ use mathlib.Core.Bool.{Bool, true, false, false≢true}
 use mathlib.Core.Logic.{⊎-elim}
 use mathlib.Core.Path.{_≡_, refl, sym, ap, subst, _∙_}
 use Prim.Native.Nat.{ℕ, zero, suc, _+_, _-_, _*_, _/_, _%_, _^_, _≤_, _<_}
-use native.Mathlib.Nat.{add-mul, mul-add, suc-mul, mul-zero, zero-mul, div-add-mod', mod-lt, div-eq-of-lt-le, mul-add-div-right, div-lt-iff-lt-mul, div-le-self, div-le-of-le-mul, mul-le-mul, mul-comm, le-refl}
+use native.Mathlib.Nat.{add-mul, mul-add, suc-mul, mul-zero, zero-mul, div-add-mod', mod-lt, div-eq-of-lt-le, mul-add-div-right}
+use native.Mathlib.Nat.{div-lt-iff-lt-mul, div-le-self, div-le-of-le-mul, mul-le-mul, mul-comm, le-refl}
 use native.Mathlib.Omega.{arith}
 use borrow.Author.Tests.{le-ltb, lt-ltb, ltb-true, ltb-false}
 use lib.Dec.{T, ltb}
@@ -266,10 +267,13 @@ module _ (line : Line) (w : Drawn line) where
     value = toZ w64 l +ℤ toZ w64 (ofZ w64 f)
 
     value-is : value ≡ pos ((l * (m - j) + r * j) / m)
-    value-is = (λ i. toZ-pos w64 l (omega arith) i +ℤ (toZ-ofZ w64 f floor-fit ∙ floor-is) i) ∙ line-exact l r j m (omega arith) (omega arith)
+    value-is =
+        (λ i. toZ-pos w64 l (omega arith) i +ℤ (toZ-ofZ w64 f floor-fit ∙ floor-is) i) ∙ line-exact l r j m (omega arith) (omega arith)
 
     pub value-fits : SFits w64 value
-    value-fits = subst (SFits w64) (sym value-is) (record { sfits = omega (arith, weighted-small l r j m (omega arith) (omega arith) 500_000 (w .left) (w .right)) })
+    value-fits =
+        subst (SFits w64) (sym value-is)
+        (record { sfits = omega (arith, weighted-small l r j m (omega arith) (omega arith) 500_000 (w .left) (w .right)) })
 
     value-read : toZ w64 (ofZ w64 value) ≡ pos ((l * (m - j) + r * j) / m)
     value-read = toZ-ofZ w64 value value-fits ∙ value-is

@@ -35,10 +35,12 @@ unfolding fromReferences
 from-form xs = ⊎-elim (λ e. rw e nothing) (λ e. rw e (sameDay _)) (either (eqb (length xs) 0))
 
 pub filled-form : (h : Head) (s : Slots) (a : Agreed) (holidays : List ℕ) (i : ℕ) → Filled (filledAt h s a holidays i)
-filled-form h s a holidays i = filled-by Filled h s a holidays i (λ _. delivered _) (agreed _) outage (λ _. linear _) (from-form (references h s holidays i))
+filled-form h s a holidays i =
+    filled-by Filled h s a holidays i (λ _. delivered _) (agreed _) outage (λ _. linear _) (from-form (references h s holidays i))
 
 -- scaling turns 2 into 18 and 3 into 19
-pub scaled-form : {o : Outcome} → Filled o → isS (o .quality) ≡ true → (v : ℕ) → Form (record { value = v; quality = S; method = o .method + 16 })
+pub scaled-form : {o : Outcome} → Filled o → isS (o .quality) ≡ true → (v : ℕ)
+    → Form (record { value = v; quality = S; method = o .method + 16 })
 scaled-form (delivered w) e v = absurd (false≢true e)
 scaled-form (agreed w) e v = absurd (false≢true e)
 scaled-form outage e v = absurd (false≢true e)

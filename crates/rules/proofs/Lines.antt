@@ -17,9 +17,11 @@ use Rattle.rules.specs.declared.linear.Line.{Line}
 use Rattle.rules.specs.Opening.{Slots, slotCount}
 use Rattle.rules.specs.Tests.{goodAt}
 use Rattle.rules.specs.Filling.{inRun, runBefore, runFrom, runLength, isLinear, lineValue, linearValue}
-use Rattle.rules.specs.Inner.Walks.{zeroAt, zeroBefore, bareLine, fullLine, lineThrough, lineAt, lineBefore, endTests, lengthWithin, Drawn, walkAt}
+use Rattle.rules.specs.Inner.Walks.{zeroAt, zeroBefore, bareLine, fullLine, lineThrough, lineAt, lineBefore, endTests, lengthWithin}
+use Rattle.rules.specs.Inner.Walks.{Drawn, walkAt}
 use Rattle.rules.proofs.Bounds.{Bounded, cap-high}
-use Rattle.rules.proofs.Runs.{before-low, before-none, before-on, from-on, place-within, start-kept, length-kept, linear-kept, start-first, length-first, linear-first, linear-tells}
+use Rattle.rules.proofs.Runs.{before-low, before-none, before-on, from-on, place-within, start-kept, length-kept, linear-kept}
+use Rattle.rules.proofs.Runs.{start-first, length-first, linear-first, linear-tells}
 use Rattle.rules.proofs.Small.{good-small}
 use Rattle.rules.proofs.Outages.{zero-on}
 
@@ -70,7 +72,8 @@ module _ (h : Head) (s : Slots) (v : List ℕ) where
   line-fresh zero p e z = refl
   line-fresh (suc i) p e z =
       ⊎-elim
-      (λ t. absurd (let y : suc (runBefore h s v i) ≡ 0 = sym (through-place i) ∙ ap (λ (q : Line). q .place) (sym (line-some i t) ∙ sym e) ∙ z in omega arith))
+      (λ t. absurd (let y : suc (runBefore h s v i) ≡ 0 = sym (through-place i) ∙ ap (λ (q : Line). q .place) (sym (line-some i t) ∙ sym e)
+      ∙ z in omega arith))
       (λ t. before-none h s v i t)
       (either (inRun h s v i))
 
@@ -130,7 +133,8 @@ module _ (h : Head) (s : Slots) (v : List ℕ) where
           pub line-ends : i + g < slotCount h
           line-ends = rw (ended .1) (ltb-true _ _ (passed (endTests h s i (runFrom h s v i (slotCount h - i))) (ended .0) 1))
 
-          pub line-found : record { place = 1; length = g; left = getD (s .values) (i - 1) 0; right = getD (s .values) (i + g) 0 } ≡ lineAt h s v i
+          pub line-found : record { place = 1; length = g; left = getD (s .values) (i - 1) 0; right = getD (s .values) (i + g) 0 }
+              ≡ lineAt h s v i
           unfolding lineAt lineThrough
           line-found =
               rw (ended .1, e, linear-is ∙ ended .0, start-first h s v i l e first, length-first h s v i l e first, first)
@@ -153,7 +157,8 @@ module _ (h : Head) (s : Slots) (v : List ℕ) where
           right = le-trans (good-small h b s _ (w .right-good)) (cap-high h b);
         }
 
-    pub line-fills : 0 < p .length → (isLinear h s v i ≡ true) × Drawn p × (lineValue (p .left) (p .right) (p .place) (p .length) ≡ linearValue h s v i)
+    pub line-fills : 0 < p .length
+        → (isLinear h s v i ≡ true) × Drawn p × (lineValue (p .left) (p .right) (p .place) (p .length) ≡ linearValue h s v i)
     unfolding linearValue
     line-fills z =
         ⊎-elim
@@ -164,7 +169,8 @@ module _ (h : Head) (s : Slots) (v : List ℕ) where
     pub line-leaves : p .length ≤ 0 → isLinear h s v i ≡ false
     line-leaves z =
         ⊎-elim
-        (λ t. absurd (let y : p .length ≡ runLength h s v i = ap (λ (r : Line). r .length) (line-full t) in omega (arith, place-within h s v i l e)))
+        (λ t. absurd (let y : p .length ≡ runLength h s v i = ap (λ (r : Line). r .length) (line-full t) in
+        omega (arith, place-within h s v i l e)))
         (λ t. t)
         (either (isLinear h s v i))
 
@@ -183,10 +189,12 @@ module _ (h : Head) (s : Slots) (v : List ℕ) (p : Walk) (i : ℕ) (e : p ≡ w
   unfolding walkAt
   walk-line = ap (λ (q : Walk). q .line) e
 
-pub walk-next : (h : Head) (s : Slots) (v : List ℕ) (i : ℕ) (n : ℕ) → n ≡ slotCount h → (r : Bool) → r ≡ zeroAt (s .versions) (s .statuses) n i
+pub walk-next : (h : Head) (s : Slots) (v : List ℕ) (i : ℕ) (n : ℕ) → n ≡ slotCount h → (r : Bool)
+    → r ≡ zeroAt (s .versions) (s .statuses) n i
     → (p : Line) → p ≡ lineAt h s v i → record { at = i + 1; outage = r; line = p } ≡ walkAt h s v (i + 1)
 unfolding walkAt
 walk-next h s v i n l r q p w =
-    let z : zeroAt (s .versions) (s .statuses) n (i + 0) ≡ zeroBefore (s .versions) (s .statuses) n (i + 1) = zero-on (s .versions) (s .statuses) n i 0 in
+    let z : zeroAt (s .versions) (s .statuses) n (i + 0) ≡ zeroBefore (s .versions) (s .statuses) n (i + 1) =
+    zero-on (s .versions) (s .statuses) n i 0 in
     let y : lineAt h s v (i + 0) ≡ lineBefore h s v (i + 1) = line-on h s v i 0 in
     rw (q, w, ← l, ← z, ← y, add-zero)

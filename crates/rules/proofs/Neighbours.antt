@@ -90,7 +90,8 @@ module _ (h : Head) (b : Cells) where
   none-after d ys e later l =
       let (n, m) = later 0 l in
       let unread : read (getD ys 0 noSpan .last) ≡ false =
-      next-none (b .reads) (h .days - d) (d + 1) e (getD ys 0 noSpan .last) (omega (arith, n .ordered)) (omega (arith, n .ordered, n .within)) in
+      next-none (b .reads) (h .days - d) (d + 1) e (getD ys 0 noSpan .last) (omega (arith, n .ordered))
+      (omega (arith, n .ordered, n .within)) in
       false≢true (sym unread ∙ n .last-read)
 
   starts-more : (d m last : ℕ) {xs : List Span} (ys : List Span) → Beginning d xs → Each (suc d) ys
@@ -159,8 +160,11 @@ module _ (h : Head) (b : Cells) where
       let x : spanFrom h b d ≡ spanOf h b first last ∷ [] = rw z (span-here first last t e) in
       rw x (0, omega arith, refl))
       (λ m.
-      let (j, l, s) = found k (suc d) first last m (omega arith) t e in
-      (length (spanFrom h b d) + j, rw length-append (omega arith), getD-append-add (spanFrom h b d) (spansFrom h b (suc d) k) j noSpan ∙ s))
+      let (j, l, s) = found k (suc d) first last m (omega arith) t e in (
+        length (spanFrom h b d) + j,
+        rw length-append (omega arith),
+        getD-append-add (spanFrom h b d) (spansFrom h b (suc d) k) j noSpan ∙ s,
+      ))
       (eq-or-lt-of-le p)
 
   -- two neighbouring boundaries with a reading have their span

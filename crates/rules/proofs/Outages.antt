@@ -98,11 +98,13 @@ module _ (h : Head) (s : Slots) where
       go true x e = absurd (false≢true e)
       go false x e = refl
 
-  pub filled-good : (a : Agreed) (holidays : List ℕ) (i : ℕ) → goodAt h s i ≡ true → actualOf (getD (s .values) i 0) ≡ filledAt h s a holidays i
+  pub filled-good : (a : Agreed) (holidays : List ℕ) (i : ℕ) → goodAt h s i ≡ true
+      → actualOf (getD (s .values) i 0) ≡ filledAt h s a holidays i
   unfolding filledAt
   filled-good a holidays i g = rw g
 
   -- a slot of a run is not zeroed
-  pub run-not-zeroed : (v : List ℕ) (n i : ℕ) → n ≡ slotCount h → inRun h s v i ≡ true → false ≡ zeroBefore (s .versions) (s .statuses) n (suc i)
+  pub run-not-zeroed : (v : List ℕ) (n i : ℕ) → n ≡ slotCount h → inRun h s v i ≡ true
+      → false ≡ zeroBefore (s .versions) (s .statuses) n (suc i)
   unfolding zeroBefore
   run-not-zeroed v n i l e = sym (zero-applies n l i ∙ run-unzeroed h s v i e)

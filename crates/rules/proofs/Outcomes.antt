@@ -51,7 +51,8 @@ filled-unscaled nothing = refl
 -- slot i lies in a span
 abbrev pub Covered : Head → Cells → ℕ → Type 0
 Covered h b i =
-    (j : ℕ) × (j < length (spans h b)) × (getD (spans h b) j noSpan .first * slotsPerDay h ≤ i) × (i < getD (spans h b) j noSpan .last * slotsPerDay h)
+    (j : ℕ) × (j < length (spans h b)) × (getD (spans h b) j noSpan .first * slotsPerDay h ≤ i)
+    × (i < getD (spans h b) j noSpan .last * slotsPerDay h)
 
 module _ (h : Head) (bounds : Bounded h) (b : Cells) where
   module _ (low : AgreedLow (b .agreed)) (i : ℕ) where
@@ -59,7 +60,8 @@ module _ (h : Head) (bounds : Bounded h) (b : Cells) where
     form = unscaled (filled-form h (b .slots) (b .agreed) (b .holidays) i) (filled-low h bounds (b .slots) (b .agreed) (b .holidays) i low)
 
     span-form : (first last : ℕ) → Form (inSpan h b first last i)
-    span-form first last = spanned-by Form h b first last i (λ q. scaled-form (filled-form h (b .slots) (b .agreed) (b .holidays) i) q _) form
+    span-form first last =
+        spanned-by Form h b first last i (λ q. scaled-form (filled-form h (b .slots) (b .agreed) (b .holidays) i) q _) form
 
     pub outcome-form : Form (outcomeAt h b i)
     outcome-form = go (place h bounds b i)
@@ -68,7 +70,8 @@ module _ (h : Head) (bounds : Bounded h) (b : Cells) where
         go outside = form
         go (inside s n l m) = span-form (s .first) (s .last)
 
-    span-fits : WidthsLow (b .widths) → (first last : ℕ) → i < start h b first last + slotsIn h b first last → inSpan h b first last i .value < 100_000_000
+    span-fits : WidthsLow (b .widths) → (first last : ℕ) → i < start h b first last + slotsIn h b first last
+        → inSpan h b first last i .value < 100_000_000
     span-fits w first last l =
         spanned-by (λ o. o .value < 100_000_000) h b first last i
         (λ _. omega (arith, new-high h b first last i l, advance-low h b first last w))

@@ -25,7 +25,8 @@ span-end h b first last l =
     let e : first + (last - first) ≡ last = omega arith in
     sym (add-mul first (last - first) (slotsPerDay h)) ∙ ap (λ (m : ℕ). m * slotsPerDay h) e
 
-pub slots-within : (h : Head) (first last : ℕ) → first ≤ last → last ≤ h .days → first * slotsPerDay h + (last - first) * slotsPerDay h ≤ slotCount h
+pub slots-within : (h : Head) (first last : ℕ) → first ≤ last → last ≤ h .days
+    → first * slotsPerDay h + (last - first) * slotsPerDay h ≤ slotCount h
 unfolding slotCount
 slots-within h first last l m =
     let e : first + (last - first) ≡ last = omega arith in
@@ -34,7 +35,8 @@ slots-within h first last l m =
 -- where slot i lies, by its outcome
 pub data Place (h : Head) (b : Cells) (i : ℕ) : Outcome → Type 0 where
   outside : Place h b i (filledAt h (b .slots) (b .agreed) (b .holidays) i)
-  inside : (s : Span) → Neighbours h b s → s .first * slotsPerDay h ≤ i → i < s .last * slotsPerDay h → Place h b i (inSpan h b (s .first) (s .last) i)
+  inside : (s : Span) → Neighbours h b s → s .first * slotsPerDay h ≤ i → i < s .last * slotsPerDay h
+      → Place h b i (inSpan h b (s .first) (s .last) i)
 
 module _ (h : Head) (bounds : Bounded h) (b : Cells) where
   positive : 0 < slotsPerDay h
@@ -50,7 +52,8 @@ module _ (h : Head) (bounds : Bounded h) (b : Cells) where
       let high : d < s .last = div-lt-iff-lt-mul positive .1 m in
       let p = next-tells (b .reads) (h .days - s .first) (s .first + 1) (s .last) (n .next) in
       let f : lastRead (b .reads) d ≡ some (s .first) =
-      last-found (b .reads) d (s .first) (record { low = low; here = n .first-read; after = λ x y z. p .before x (omega arith) (omega arith) }) in
+      last-found (b .reads) d (s .first)
+      (record { low = low; here = n .first-read; after = λ x y z. p .before x (omega arith) (omega arith) }) in
       let g : nextRead (b .reads) (d + 1) (h .days - d) ≡ some (s .last) =
       next-found (b .reads) (h .days - d) (d + 1) (s .last)
       (record { low = omega arith; high = omega (arith, n .within); here = n .last-read; before = λ x y z. p .before x (omega arith) z }) in
@@ -69,7 +72,8 @@ module _ (h : Head) (bounds : Bounded h) (b : Cells) where
             high = omega (arith, f .low, g .low, g .high);
             here = g .here;
             before = λ x y z.
-                ⊎-elim (λ e. f .after x (omega arith) (leb-true x d e)) (λ e. g .before x (omega (arith, leb-false x d e)) z) (either (leb x d));
+                ⊎-elim (λ e. f .after x (omega arith) (leb-true x d e)) (λ e. g .before x (omega (arith, leb-false x d e)) z)
+                (either (leb x d));
           })
 
       go : (f l : Option ℕ) → lastRead (b .reads) (i / slotsPerDay h) ≡ f

@@ -34,12 +34,14 @@ pub total-next : (l : List ℕ) (i sum : ℕ) → sum ≡ sumOf (take i l) → s
 total-next l i sum e = rw (e, add-one) (total-suc l i)
 
 -- the weeks counted are exactly those that are not too far
-pub week-within : (first farthest k : ℕ) → first ≤ 7 → (k < weeksWithin first farthest → first + 7 * k ≤ farthest) × (first + 7 * k ≤ farthest → k < weeksWithin first farthest)
+pub week-within : (first farthest k : ℕ) → first ≤ 7
+    → (k < weeksWithin first farthest → first + 7 * k ≤ farthest) × (first + 7 * k ≤ farthest → k < weeksWithin first farthest)
 unfolding weeksWithin
 week-within first farthest k l = (λ x. omega arith, λ x. omega arith)
 
 -- a slot on no holiday keeps its 7, 14, .. 364 days
-pub no-holiday : (h : Head) (s : Slots) (holidays : List ℕ) (i : ℕ) → getD holidays (i / slotsPerDay h) 0 ≡ 0 → references h s holidays i ≡ take 4 (weeksBack h s holidays 7 i 52)
+pub no-holiday : (h : Head) (s : Slots) (holidays : List ℕ) (i : ℕ) → getD holidays (i / slotsPerDay h) 0 ≡ 0
+    → references h s holidays i ≡ take 4 (weeksBack h s holidays 7 i 52)
 unfolding references firstBack farthestBack weeksWithin
 no-holiday h s holidays i e = simp (eq-eqb _ _ e)
 
@@ -90,14 +92,16 @@ module _ (h : Head) (s : Slots) (holidays : List ℕ) where
 
   -- where it looks at no slot
   last-out : (k days j : ℕ) → j < days * slotsPerDay h → search days j (suc k) ≡ search days j k ++ week days j k
-  last-out k days j l = rw (each-out (valueOf s) h s holidays days j (suc k) l, each-out (valueOf s) h s holidays days j k l, week-out days j k l)
+  last-out k days j l =
+      rw (each-out (valueOf s) h s holidays days j (suc k) l, each-out (valueOf s) h s holidays days j k l, week-out days j k l)
 
   search-last : (k days j : ℕ) → search days j (suc k) ≡ search days j k ++ week days j k
   search-last zero days j =
       ⊎-elim (λ t. last-out 0 days j (ltb-true _ _ t))
       (λ t.
       search-first days j 0 (ltb-false _ _ t)
-      ∙ rw (each-none (valueOf s) h s holidays 7 (j - days * slotsPerDay h), each-none (valueOf s) h s holidays days j) (append-nil (week days j 0)))
+      ∙ rw (each-none (valueOf s) h s holidays 7 (j - days * slotsPerDay h), each-none (valueOf s) h s holidays days j)
+      (append-nil (week days j 0)))
       (either (ltb j (days * slotsPerDay h)))
   search-last (suc k) days j =
       ⊎-elim (λ t. last-out (suc k) days j (ltb-true _ _ t))

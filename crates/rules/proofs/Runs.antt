@@ -59,7 +59,8 @@ module _ (h : Head) (s : Slots) (v : List ℕ) where
   from-none i zero e = refl
   from-none i (suc k) e = rw e
 
-  pub from-on : (i : ℕ) → i < slotCount h → inRun h s v i ≡ true → runFrom h s v i (slotCount h - i) ≡ suc (runFrom h s v (suc i) (slotCount h - suc i))
+  pub from-on : (i : ℕ) → i < slotCount h → inRun h s v i ≡ true
+      → runFrom h s v i (slotCount h - i) ≡ suc (runFrom h s v (suc i) (slotCount h - suc i))
   unfolding runFrom
   from-on i l e =
       let d : slotCount h - i ≡ suc (slotCount h - suc i) = omega arith in

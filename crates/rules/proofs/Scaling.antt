@@ -68,7 +68,8 @@ module _ (h : Head) (b : Cells) (first last : ℕ) where
           let one : e h b first last i ≡ 1 = rw (q, z) in
           omega (arith, sum-place (e h b first last) a k i l m)
       go false z found =
-          let same : sum (e h b first last) a k ≡ sum (shape h b first last) a k = sum-cong _ _ _ _ (λ i l m. rw z (shape-of-s h (b .slots) (b .agreed) (b .holidays) i)) in
+          let same : sum (e h b first last) a k ≡ sum (shape h b first last) a k =
+          sum-cong _ _ _ _ (λ i l m. rw z (shape-of-s h (b .slots) (b .agreed) (b .holidays) i)) in
           let n = not-all-zero z in
           omega arith
 

@@ -28,7 +28,8 @@ take-map f (suc k) (x ∷ xs) = ap (λ (ys : List ℕ). f x ∷ ys) (take-map f 
 
 -- what is kept of a reference is of its slot: the day and the value at one place are of one slot
 module _ (f : ℕ → ℕ) (h : Head) (s : Slots) (holidays : List ℕ) where
-  week-map : (out found : Bool) (x : ℕ) (ys xs : List ℕ) → ys ≡ map f xs → cond out [] (cond found (f x ∷ ys) ys) ≡ map f (cond out [] (cond found (x ∷ xs) xs))
+  week-map : (out found : Bool) (x : ℕ) (ys xs : List ℕ) → ys ≡ map f xs
+      → cond out [] (cond found (f x ∷ ys) ys) ≡ map f (cond out [] (cond found (x ∷ xs) xs))
   week-map true found x ys xs e = refl
   week-map false true x ys xs e = ap (λ (zs : List ℕ). f x ∷ zs) e
   week-map false false x ys xs e = e
@@ -66,11 +67,13 @@ module _ (h : Head) (w : Bounded h) where
       ap (λ (x : ℕ). x / n) e ∙ add-mul-div-right (at - days * n) days positive
 
   -- no week before the book's first is looked at
-  each-enough : (f : ℕ → ℕ) (s : Slots) (holidays : List ℕ) (r k days at : ℕ) → days + 7 * r ≤ at / n + 7 → r ≤ k → (r < k → at / n < days + 7 * r)
+  each-enough : (f : ℕ → ℕ) (s : Slots) (holidays : List ℕ) (r k days at : ℕ) → days + 7 * r ≤ at / n + 7 → r ≤ k
+      → (r < k → at / n < days + 7 * r)
       → eachWeek f h s holidays days at k ≡ eachWeek f h s holidays days at r
   unfolding eachWeek
   each-enough f s holidays zero zero days at p q o = refl
-  each-enough f s holidays zero (suc k) days at p q o = each-out f h s holidays days at (suc k) (days-out days at (omega (arith, o (omega arith))))
+  each-enough f s holidays zero (suc k) days at p q o =
+      each-out f h s holidays days at (suc k) (days-out days at (omega (arith, o (omega arith))))
   each-enough f s holidays (suc r) zero days at p q o = absurd (omega arith)
   each-enough f s holidays (suc r) (suc k) days at p q o =
       let l = days-low days at (omega arith) in
@@ -97,7 +100,8 @@ unfolding kept
 kept-full l rest c e = rw e (simp append-nil)
 
 -- the first c of four places hold xs, and the others 0
-four-places : (l xs : List ℕ) (c : ℕ) → length l ≡ 4 → c ≤ 4 → ((k : ℕ) → c ≤ k → getD l k 0 ≡ 0) → take c l ≡ xs → (l ≡ inFour xs) × (c ≡ length xs)
+four-places : (l xs : List ℕ) (c : ℕ) → length l ≡ 4 → c ≤ 4 → ((k : ℕ) → c ≤ k → getD l k 0 ≡ 0) → take c l ≡ xs
+    → (l ≡ inFour xs) × (c ≡ length xs)
 unfolding inFour
 four-places l xs c four low zeros e =
     (ext-getD 0 l (inFour xs) four (λ k p. at k (omega arith)), long)
@@ -177,7 +181,8 @@ module _ (h : Head) (w : Bounded h) (slot week : ℕ) (seven : week ≡ 7 * slot
       pub keeps-none : (f : ℕ → ℕ) (s : Slots) → Keeping f h s holidays slot (0 ∷ 0 ∷ 0 ∷ 0 ∷ []) 0 begin weeks
       unfolding kept eachReference
       keeps-none f s =
-          let g = each-enough h w f s holidays weeks (weeksWithin first (farthestBack holidays (slot / n h w))) first slot (b .inside) (b .within) (b .all) in
+          let g = each-enough h w f s holidays weeks (weeksWithin first (farthestBack holidays (slot / n h w))) first slot (b .inside)
+          (b .within) (b .all) in
           record { four = refl; zeros = λ k _. zero-four k; rest = rw (← e, g, begins-same f s weeks) }
 
   module _ {count at weeks : ℕ} (i : Standing h slot week count at weeks) (more : weeks ≡ 0 → ⊥) where
@@ -203,27 +208,32 @@ module _ (h : Head) (w : Bounded h) (slot week : ℕ) (seven : week ≡ 7 * slot
           let e′ : isReference h s holidays (at - 7 * n h w) ≡ false = rw seven at e in
           record { four = k .four; zeros = k .zeros; rest = rw (seven, ← each-passed f h s holidays 7 at weeks more within e′) (k .rest) }
 
-      pub keeps-found : (v : ℕ) → v ≡ f next → isReference h s holidays next ≡ true → Keeping f h s holidays slot (set found count v) (count + 1) next (weeks - 1)
+      pub keeps-found : (v : ℕ) → v ≡ f next → isReference h s holidays next ≡ true
+          → Keeping f h s holidays slot (set found count v) (count + 1) next (weeks - 1)
       keeps-found v q e =
           let e′ : isReference h s holidays (at - 7 * n h w) ≡ true = rw seven at e in
           let p : count < length found = omega (arith, k .four, i .room) in
           record {
             four = simp length-set (k .four);
             zeros = λ j l. getD-set-other found count j v 0 (λ z. omega arith) ∙ k .zeros j (omega arith);
-            rest = rw (q, seven) (sym (kept-more found _ count _ (i .room) p) ∙ (rw (each-found f h s holidays 7 at weeks more within e′) at (k .rest)));
+            rest =
+                rw (q, seven)
+                (sym (kept-more found _ count _ (i .room) p) ∙ (rw (each-found f h s holidays 7 at weeks more within e′) at (k .rest)));
           }
 
 -- the search is over: four places, and their number
 module _ {f : ℕ → ℕ} {h : Head} {s : Slots} {holidays : List ℕ} {slot : ℕ} {found : List ℕ} {count at weeks : ℕ}
     (k : Keeping f h s holidays slot found count at weeks) where
-  pub keeps-spent : count < 4 → weeks ≡ 0 → (found ≡ inFour (eachReference f h s holidays slot)) × (count ≡ length (eachReference f h s holidays slot))
+  pub keeps-spent : count < 4 → weeks ≡ 0
+      → (found ≡ inFour (eachReference f h s holidays slot)) × (count ≡ length (eachReference f h s holidays slot))
   keeps-spent l z =
       let e : kept found count (eachWeek f h s holidays 7 at 0) ≡ eachReference f h s holidays slot = rw z at (k .rest) in
       four-places found _ count (k .four) (omega arith) (k .zeros) (sym (kept-nil found count) ∙ (rw (each-none f h s holidays 7 at) at e))
 
   pub keeps-full : count ≡ 4 → (found ≡ inFour (eachReference f h s holidays slot)) × (count ≡ length (eachReference f h s holidays slot))
   keeps-full z =
-      four-places found _ count (k .four) (omega arith) (k .zeros) (sym (kept-full found (eachWeek f h s holidays 7 at weeks) count z) ∙ k .rest)
+      four-places found _ count (k .four) (omega arith) (k .zeros)
+      (sym (kept-full found (eachWeek f h s holidays 7 at weeks) count z) ∙ k .rest)
 
 -- the first places of four are the list that is in them
 out-of-four : (xs : List ℕ) → length xs ≤ 4 → take (length xs) (inFour xs) ≡ xs

@@ -77,9 +77,11 @@ module _ (h : Head) (s : Slots) (a : Agreed) (holidays : List ℕ) (i : ℕ) whe
   found-some : filledAt h s a holidays i .method ≡ 3 → 1 ≤ length found
   unfolding fromReferences
   found-some =
-      filled-by (λ o. o .method ≡ 3 → 1 ≤ length found) h s a holidays i (λ _ e. absurd (omega arith)) (λ e. absurd (omega arith)) (λ e. absurd (omega arith))
+      filled-by (λ o. o .method ≡ 3 → 1 ≤ length found) h s a holidays i (λ _ e. absurd (omega arith)) (λ e. absurd (omega arith))
+      (λ e. absurd (omega arith))
       (λ _ e. absurd (omega arith))
-      (⊎-elim (λ t. rw t (λ e. absurd (omega arith))) (λ t. rw t (λ _. let n : length found ≡ 0 → ⊥ = eqb-false _ _ t in omega arith)) (either (eqb (length found) 0)))
+      (⊎-elim (λ t. rw t (λ e. absurd (omega arith))) (λ t. rw t (λ _. let n : length found ≡ 0 → ⊥ = eqb-false _ _ t in omega arith))
+      (either (eqb (length found) 0)))
 
   -- the shape of a same-day slot times the number of its references is 12 × their sum
   pub same-day-whole : filledAt h s a holidays i .method ≡ 3 → shapeAt h s a holidays i * length found ≡ 12 * sumOf found

@@ -12,7 +12,8 @@ use Rattle.base.proofs.Logic.{either}
 use Rattle.rules.specs.declared.Head.{Head}
 use Rattle.rules.specs.declared.range.Range.{Range}
 use Rattle.rules.specs.Opening.{Cells}
-use Rattle.rules.specs.Spans.{isS, isN, rangeOf, leastIn, isNear, stateBy, filled, start, slotsIn, G, range, actualSum, R, stateOf, spanOf}
+use Rattle.rules.specs.Spans.{isS, isN, rangeOf, leastIn, isNear, stateBy, filled, start, slotsIn, G, range, actualSum, R, stateOf}
+use Rattle.rules.specs.Spans.{spanOf}
 use Rattle.rules.proofs.Ranges.{apart, advance-below}
 
 -- 01's state: 2 if a slot is N; else, if a slot is S, 1 when R ≥ V and 3 when R < V; else 0 when |R − V| ≤ t and 3 otherwise
@@ -81,6 +82,10 @@ module _ (h : Head) (b : Cells) (sharp : (d : ℕ) → getD (b .widths) d 0 ≡ 
   state-sharp = rw (advance-sharp, range-sharp) (state-only _ _ g (actualSum h b first last) (h .tolerance))
 
   -- R, lowest and highest are the advance of the readings, and the state is 01's
-  pub sharp-dial : (R h b first last ≡ g) × (spanOf h b first last ≡ record { first = first; last = last; lowest = g; highest = g; state = stateThen })
+  pub sharp-dial : (R h b first last ≡ g)
+      × (spanOf h b first last ≡ record { first = first; last = last; lowest = g; highest = g; state = stateThen })
   unfolding spanOf
-  sharp-dial = (advance-sharp, λ t. record { first = first; last = last; lowest = range-sharp t .lowest; highest = range-sharp t .highest; state = state-sharp t })
+  sharp-dial = (
+    advance-sharp,
+    λ t. record { first = first; last = last; lowest = range-sharp t .lowest; highest = range-sharp t .highest; state = state-sharp t },
+  )

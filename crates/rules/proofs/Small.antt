@@ -16,7 +16,8 @@ use Rattle.rules.specs.declared.tests.Cause.the-variants.{Nothing, Gap, 
 use Rattle.rules.specs.Opening.{Slots, Agreed, slotsPerDay}
 use Rattle.rules.specs.Tests.{isGood, timeChangeBit, partialBit, causeOf, causeAt, goodAt}
 use Rattle.rules.specs.Weeks.{firstBack, farthestBack, weeksWithin}
-use Rattle.rules.specs.Filling.{isReference, weekBack, weeksBack, references, meanOf, isLinear, linearValue, fromReferences, filledAt, shapeOf, shapeAt}
+use Rattle.rules.specs.Filling.{isReference, weekBack, weeksBack, references, meanOf, isLinear, linearValue, fromReferences, filledAt}
+use Rattle.rules.specs.Filling.{shapeOf, shapeAt}
 use Rattle.rules.specs.Inner.Lent.{AgreedLow}
 use Rattle.rules.proofs.Bounds.{Bounded, cap, cap-high, good-cap}
 use Rattle.rules.proofs.Floors.{line-small}
@@ -87,11 +88,13 @@ module _ (h : Head) (b : Bounded h) (s : Slots) where
     unfolding weeksBack
     weeks-small first i zero = tt
     weeks-small first i (suc k) =
-        small-join (cap h) (weeksBack h s holidays first i k) (weekBack h s holidays first i k) (weeks-small first i k) (week-small first i k)
+        small-join (cap h) (weeksBack h s holidays first i k) (weekBack h s holidays first i k) (weeks-small first i k)
+        (week-small first i k)
 
     mean-small : (xs : List ℕ) → small (cap h) xs → fromReferences xs .value ≤ cap h
     unfolding fromReferences meanOf
-    mean-small xs p = ⊎-elim (λ e. rw e zero-le) (λ e. rw e (div-le-of-le-mul (length xs) (small-total (cap h) xs p))) (either (eqb (length xs) 0))
+    mean-small xs p =
+        ⊎-elim (λ e. rw e zero-le) (λ e. rw e (div-le-of-le-mul (length xs) (small-total (cap h) xs p))) (either (eqb (length xs) 0))
 
     same-day-small : (xs : List ℕ) → small (cap h) xs → shapeOf (fromReferences xs) xs ≤ 12 * cap h
     unfolding fromReferences shapeOf
@@ -116,5 +119,7 @@ module _ (h : Head) (b : Bounded h) (s : Slots) where
 
     pub filled-low : AgreedLow a → filledAt h s a holidays i .value ≤ 99_999_999
     filled-low low =
-        filled-by (λ o. o .value ≤ 99_999_999) h s a holidays i (λ g. omega (arith, good-small i g, cap-high h b)) (omega (arith, low i)) zero-le
-        (λ g. omega (arith, line-low (a .versions) i g, cap-high h b)) (omega (arith, mean-small holidays (references h s holidays i) (references-small holidays i), cap-high h b))
+        filled-by (λ o. o .value ≤ 99_999_999) h s a holidays i (λ g. omega (arith, good-small i g, cap-high h b)) (omega (arith, low i))
+        zero-le
+        (λ g. omega (arith, line-low (a .versions) i g, cap-high h b))
+        (omega (arith, mean-small holidays (references h s holidays i) (references-small holidays i), cap-high h b))

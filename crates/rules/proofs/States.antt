@@ -13,7 +13,8 @@ use Rattle.rules.specs.declared.Quality.the-variants.{S}
 use Rattle.rules.specs.declared.Span.{Span}
 use Rattle.rules.specs.Opening.{Cells}
 use Rattle.rules.specs.Inner.Lent.{WidthsLow}
-use Rattle.rules.specs.Spans.{isS, isN, actualIn, isScaled, isNear, stateBy, filled, start, slotsIn, range, R, actualSum, stateOf, newValue, inSpan, spanOf, outcomeAt}
+use Rattle.rules.specs.Spans.{isS, isN, actualIn, isScaled, isNear, stateBy, filled, start, slotsIn, range, R, actualSum, stateOf}
+use Rattle.rules.specs.Spans.{newValue, inSpan, spanOf, outcomeAt}
 use Rattle.rules.proofs.Bounds.{Bounded}
 use Rattle.rules.proofs.Forms.{Filled, filled-form}
 use Rattle.rules.proofs.Forms.Filled.{delivered, agreed, outage, linear, sameDay, nothing}

@@ -15,10 +15,12 @@ use Rattle.rules.specs.declared.Quality.the-variants.{S}
 use Rattle.rules.specs.declared.stretch.Stretch.{Stretch}
 use Rattle.rules.specs.Opening.{Cells, slotsPerDay, slotCount}
 use Rattle.rules.specs.Filling.{filledAt, shapeAt}
-use Rattle.rules.specs.Spans.{isS, lastRead, nextRead, filled, shape, start, slotsIn, stateOf, T, allZero, e, E, C, P, newValue, inSpan, between, outcomeAt}
+use Rattle.rules.specs.Spans.{isS, lastRead, nextRead, filled, shape, start, slotsIn, stateOf, T, allZero, e, E, C, P, newValue}
+use Rattle.rules.specs.Spans.{inSpan, between, outcomeAt}
 use Rattle.rules.specs.Inner.Lent.{WidthsLow}
 use Rattle.rules.specs.Inner.Summaries.{scaledBy, Scales}
-use Rattle.rules.specs.Inner.Stretches.{unscaledTo, scalingAt, spanStretch, stretchOf, stretchOn, stretchAt, carriedAt, scales, fitOutcome, fitNext, Scalable}
+use Rattle.rules.specs.Inner.Stretches.{unscaledTo, scalingAt, spanStretch, stretchOf, stretchOn, stretchAt, carriedAt, scales}
+use Rattle.rules.specs.Inner.Stretches.{fitOutcome, fitNext, Scalable}
 use Rattle.rules.proofs.Bounds.{Bounded, cap, cap-low, shapes-all}
 use Rattle.rules.proofs.Boundaries.{last-tells, next-tells}
 use Rattle.rules.proofs.Forms.{filled-form, method-low}
@@ -53,7 +55,8 @@ module _ (h : Head) (w : Bounded h) (b : Cells) (i : ℕ) where
   unfolding spanStretch inSpan
   in-span first last l m j k = go (eqb (stateOf h b first last) 1) refl
     where
-      go : (t : Bool) → eqb (stateOf h b first last) 1 ≡ t → Slot h b i (spanStretch h b first last i) (inSpan h b first last i) (spanStretch h b first last (suc i))
+      go : (t : Bool) → eqb (stateOf h b first last) 1 ≡ t
+          → Slot h b i (spanStretch h b first last i) (inSpan h b first last i) (spanStretch h b first last (suc i))
       go true t = rw (t, and-true) (scaled first last l m j k)
       go false t = rw (t, and-false) (unscaled (last * slotsPerDay h))
 
@@ -111,7 +114,9 @@ module _ (h : Head) (w : Bounded h) (b : Cells) (i : ℕ) where
 
       -- the span is scaled
       pub whole-low : 0 < E h b first last
-      whole-low = shape-positive h b first last (any-some (λ j. isS (filled h b first last j .quality)) (start h b first last) (slotsIn h b first last) i l m q)
+      whole-low =
+          shape-positive h b first last
+          (any-some (λ j. isS (filled h b first last j .quality)) (start h b first last) (slotsIn h b first last) i l m q)
 
       scaling : scales (within h b first last i) ≡ true
       scaling = let n : E h b first last ≡ 0 → ⊥ = omega (arith, whole-low) in rw (ne-eqb _ _ n)
@@ -122,28 +127,33 @@ module _ (h : Head) (w : Bounded h) (b : Cells) (i : ℕ) where
         let z : e h b first last i ≡ 0 = rw q in
         rw (passed, z, add-zero)
 
-  fit-outcome : {before after : Stretch} {x : Outcome} → Slot h b i before x after → fitOutcome (filledAt h (b .slots) (b .agreed) (b .holidays) i) (shapeAt h (b .slots) (b .agreed) (b .holidays) i) before ≡ x
+  fit-outcome : {before after : Stretch} {x : Outcome} → Slot h b i before x after
+      → fitOutcome (filledAt h (b .slots) (b .agreed) (b .holidays) i) (shapeAt h (b .slots) (b .agreed) (b .holidays) i) before ≡ x
   unfolding fitOutcome
   fit-outcome (unscaled until) = rw and-false
   fit-outcome (scaled first last l m j k) = go (isS (filled h b first last i .quality)) refl
     where
-      go : (q : Bool) → isS (filled h b first last i .quality) ≡ q → fitOutcome (filled h b first last i) (shape h b first last i) (within h b first last i) ≡ newly h b first last i
+      go : (q : Bool) → isS (filled h b first last i .quality) ≡ q
+          → fitOutcome (filled h b first last i) (shape h b first last i) (within h b first last i) ≡ newly h b first last i
       go true q = rw (q, scaling first last l m q, new-value first last l m q)
       go false q = rw q
 
-  fit-next : {before after : Stretch} {x : Outcome} → Slot h b i before x after → fitNext (filledAt h (b .slots) (b .agreed) (b .holidays) i) (shapeAt h (b .slots) (b .agreed) (b .holidays) i) before ≡ after
+  fit-next : {before after : Stretch} {x : Outcome} → Slot h b i before x after
+      → fitNext (filledAt h (b .slots) (b .agreed) (b .holidays) i) (shapeAt h (b .slots) (b .agreed) (b .holidays) i) before ≡ after
   unfolding fitNext
   fit-next (unscaled until) = rw and-false
   fit-next (scaled first last l m j k) = go (isS (filled h b first last i .quality)) refl
     where
-      go : (q : Bool) → isS (filled h b first last i .quality) ≡ q → fitNext (filled h b first last i) (shape h b first last i) (within h b first last i) ≡ within h b first last (suc i)
+      go : (q : Bool) → isS (filled h b first last i .quality) ≡ q
+          → fitNext (filled h b first last i) (shape h b first last i) (within h b first last i) ≡ within h b first last (suc i)
       go true q = rw (q, scaling first last l m q, scaling-on first last l m q)
       go false q = rw (q, scaling-kept first last l m q)
 
   module _ (first last : ℕ) where
     e-small : (j : ℕ) → e h b first last j ≤ 12 * cap h
     unfolding e
-    e-small j = go (isS (filled h b first last j .quality)) (allZero h b first last) _ (shape-small h w (b .slots) (b .agreed) (b .holidays) j)
+    e-small j =
+        go (isS (filled h b first last j .quality)) (allZero h b first last) _ (shape-small h w (b .slots) (b .agreed) (b .holidays) j)
       where
         go : (q z : Bool) (v : ℕ) → v ≤ 12 * cap h → cond q (cond z 1 v) 0 ≤ 12 * cap h
         go true true v l = omega (arith, cap-low h w)
@@ -155,7 +165,8 @@ module _ (h : Head) (w : Bounded h) (b : Cells) (i : ℕ) where
     unfolding E start slotsIn
     whole-high l m =
         let n : (last - first) * slotsPerDay h ≤ slotCount h = omega (arith, slots-within h first last l m) in
-        le-trans (le-trans (sum-small (e h b first last) (12 * cap h) e-small (first * slotsPerDay h) ((last - first) * slotsPerDay h)) (mul-le-mul n (le-refl _))) (shapes-all h w)
+        le-trans (le-trans (sum-small (e h b first last) (12 * cap h) e-small (first * slotsPerDay h) ((last - first) * slotsPerDay h))
+        (mul-le-mul n (le-refl _))) (shapes-all h w)
 
     room : start h b first last ≤ i → i < start h b first last + slotsIn h b first last → isS (filled h b first last i .quality) ≡ true
         → P h b first last i + (shape h b first last i + cond (allZero h b first last) 1 0) ≤ E h b first last
@@ -164,7 +175,8 @@ module _ (h : Head) (w : Bounded h) (b : Cells) (i : ℕ) where
         rw (← weight first last l m q, ← running h b first last i l)
         (sum-grows (e h b first last) (start h b first last) {j = i + 1 - start h b first last} {k = slotsIn h b first last} (omega arith))
 
-  scaled-well : WidthsLow (b .widths) → {before after : Stretch} {x : Outcome} → Slot h b i before x after → isS (filledAt h (b .slots) (b .agreed) (b .holidays) i .quality) ≡ true → (before .by .whole ≡ 0 → ⊥)
+  scaled-well : WidthsLow (b .widths) → {before after : Stretch} {x : Outcome} → Slot h b i before x after
+      → isS (filledAt h (b .slots) (b .agreed) (b .holidays) i .quality) ≡ true → (before .by .whole ≡ 0 → ⊥)
       → Scales (shapeAt h (b .slots) (b .agreed) (b .holidays) i) (before .by)
   unfolding T
   scaled-well wide (unscaled until) q t = absurd (t refl)
@@ -177,11 +189,13 @@ module _ (h : Head) (w : Bounded h) (b : Cells) (i : ℕ) where
       }
 
   -- slot i itself
-  step-fits : WidthsLow (b .widths) → Scalable (filledAt h (b .slots) (b .agreed) (b .holidays) i) (shapeAt h (b .slots) (b .agreed) (b .holidays) i) (stretchAt h b i)
+  step-fits : WidthsLow (b .widths)
+      → Scalable (filledAt h (b .slots) (b .agreed) (b .holidays) i) (shapeAt h (b .slots) (b .agreed) (b .holidays) i) (stretchAt h b i)
   step-fits wide = record { method-low = method-low (filled-form h (b .slots) (b .agreed) (b .holidays) i); scales = scaled-well wide slot }
 
   -- the slot and its shape, in the stretch that it lies in
-  module _ (o : Outcome) (x : ℕ) (here : Stretch) (inside : here ≡ stretchAt h b i) (filled : o ≡ filledAt h (b .slots) (b .agreed) (b .holidays) i)
+  module _ (o : Outcome) (x : ℕ) (here : Stretch) (inside : here ≡ stretchAt h b i)
+      (filled : o ≡ filledAt h (b .slots) (b .agreed) (b .holidays) i)
       (shaped : x ≡ shapeAt h (b .slots) (b .agreed) (b .holidays) i) where
     pub step-outcome : fitOutcome o x here ≡ outcomeAt h b i
     step-outcome = (λ t. fitOutcome (filled t) (shaped t) (inside t)) ∙ fit-outcome slot

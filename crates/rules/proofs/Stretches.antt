@@ -5,7 +5,8 @@ use mathlib.Core.Logic.{_⊎_, inl, inr, ⊎-elim}
 use mathlib.Core.Option.{Option, none, some}
 use mathlib.Core.Path.{_≡_, refl, sym, ap, _∙_}
 use Prim.Native.Nat.{ℕ, zero, suc, _+_, _-_, _*_, _/_, _%_, _≤_, _<_}
-use native.Mathlib.Nat.{div-add-mod', mod-lt, mul-div-cancel, zero-div, zero-mul, div-eq-of-lt-le, div-lt-iff-lt-mul, suc-mul, mul-comm, mul-le-mul, eq-or-lt-of-le, le-refl}
+use native.Mathlib.Nat.{div-add-mod', mod-lt, mul-div-cancel, zero-div, zero-mul, div-eq-of-lt-le, div-lt-iff-lt-mul, suc-mul, mul-comm}
+use native.Mathlib.Nat.{mul-le-mul, eq-or-lt-of-le, le-refl}
 use native.Mathlib.Numerals.{add-one}
 use native.Mathlib.Omega.{arith}
 use borrow.Author.Tests.{eq-eqb, ne-eqb}
@@ -16,7 +17,8 @@ use Rattle.rules.specs.declared.Head.{Head}
 use Rattle.rules.specs.declared.stretch.Begins.the-variants.{Nothing}
 use Rattle.rules.specs.Opening.{Cells, slotsPerDay, slotCount}
 use Rattle.rules.specs.Spans.{isRead, lastRead, nextRead, stateOf, spanTo, spanFrom}
-use Rattle.rules.specs.Inner.Stretches.{unscaledTo, spanStretch, stretchOf, stretchOn, stretchAt, carriedAt, beginsAt, beginsWith, stretchFrom}
+use Rattle.rules.specs.Inner.Stretches.{unscaledTo, spanStretch, stretchOf, stretchOn, stretchAt, carriedAt, beginsAt, beginsWith}
+use Rattle.rules.specs.Inner.Stretches.{stretchFrom}
 use Rattle.rules.proofs.Bounds.{Bounded, day-below}
 use Rattle.rules.proofs.Boundaries.{next-tells}
 
@@ -123,7 +125,8 @@ module _ (h : Head) (w : Bounded h) (b : Cells) where
       go false = refl
 
   -- where the carried stretch goes on, it is the slot's, and no span begins
-  pub carried-on : (i : ℕ) → i < slotCount h → (i ≡ carriedAt h b i .until → ⊥) → (beginsAt h b i ≡ Nothing) × (carriedAt h b i ≡ stretchAt h b i)
+  pub carried-on : (i : ℕ) → i < slotCount h → (i ≡ carriedAt h b i .until → ⊥)
+      → (beginsAt h b i ≡ Nothing) × (carriedAt h b i ≡ stretchAt h b i)
   unfolding carriedAt stretchAt
   carried-on zero l x = absurd (x refl)
   carried-on (suc j) l x = ⊎-elim inside first (day-step n j positive)
@@ -131,7 +134,8 @@ module _ (h : Head) (w : Bounded h) (b : Cells) where
       inside : suc j / n ≡ j / n → (beginsAt h b (suc j) ≡ Nothing) × (stretchOn h b (j / n) (suc j) ≡ stretchOn h b (suc j / n) (suc j))
       inside e = (none-inside j e, rw e)
 
-      first : (suc j ≡ suc (j / n) * n) × (suc j / n ≡ suc (j / n)) → (beginsAt h b (suc j) ≡ Nothing) × (stretchOn h b (j / n) (suc j) ≡ stretchOn h b (suc j / n) (suc j))
+      first : (suc j ≡ suc (j / n) * n) × (suc j / n ≡ suc (j / n))
+          → (beginsAt h b (suc j) ≡ Nothing) × (stretchOn h b (j / n) (suc j) ≡ stretchOn h b (suc j / n) (suc j))
       first (p, e) =
           ⊎-elim (λ t. absurd (x (p ∙ sym (read-ends (j / n) (suc j) (day-before j l) t))))
           (λ t. (none-unread (suc j) (rw e t), rw e (same-stretch (j / n) (suc j) (day-before j l) t)))
@@ -143,7 +147,8 @@ module _ (h : Head) (w : Bounded h) (b : Cells) where
   last-here (suc d) t = rw t
 
   -- where it ends, a day begins, and its boundary has a reading if it is not the first
-  pub carried-ends : (i : ℕ) → i < slotCount h → i ≡ carriedAt h b i .until → (i ≡ i / n * n) × (lastRead r (i / n) ≡ cond (isRead r (i / n)) (some (i / n)) none)
+  pub carried-ends : (i : ℕ) → i < slotCount h → i ≡ carriedAt h b i .until
+      → (i ≡ i / n * n) × (lastRead r (i / n) ≡ cond (isRead r (i / n)) (some (i / n)) none)
   unfolding carriedAt lastRead stretchOn
   carried-ends zero l x = rw (zero-div n) (sym (zero-mul n), refl)
   carried-ends (suc j) l x = go (nextRead r (j / n + 1) (h .days - j / n)) refl x
@@ -178,7 +183,8 @@ module _ (h : Head) (w : Bounded h) (b : Cells) where
       go (some f) = refl
       go none = refl
 
-  pub stretch-some : (i last : ℕ) → lastRead r (i / n) ≡ cond (isRead r (i / n)) (some (i / n)) none → nextRead r (i / n + 1) (h .days - i / n) ≡ some last → stretchFrom h b (i / n) last i ≡ stretchAt h b i
+  pub stretch-some : (i last : ℕ) → lastRead r (i / n) ≡ cond (isRead r (i / n)) (some (i / n)) none
+      → nextRead r (i / n + 1) (h .days - i / n) ≡ some last → stretchFrom h b (i / n) last i ≡ stretchAt h b i
   unfolding stretchAt stretchOn stretchOf stretchFrom
   stretch-some i last f e = rw (f, e) (⊎-elim (λ t. rw t) (λ t. rw t) (either (isRead r (i / n))))
 
@@ -200,7 +206,8 @@ module _ (h : Head) (w : Bounded h) (b : Cells) where
           rw (until-last (lastRead r (i / n)) last i) (div-lt-iff-lt-mul positive .0 (omega (arith, t .low)), in-book last m)
 
 -- the search over a list of D + 1 boundaries, behind day d
-pub next-behind : (h : Head) (r : List ℕ) (d : ℕ) (o : Option ℕ) → length r ≡ suc (h .days) → nextRead r (d + 1) (length r - (d + 1)) ≡ o → nextRead r (d + 1) (h .days - d) ≡ o
+pub next-behind : (h : Head) (r : List ℕ) (d : ℕ) (o : Option ℕ) → length r ≡ suc (h .days) → nextRead r (d + 1) (length r - (d + 1)) ≡ o
+    → nextRead r (d + 1) (h .days - d) ≡ o
 next-behind h r d o l e =
     let f : h .days - d ≡ length r - (d + 1) = omega arith in
     rw f e

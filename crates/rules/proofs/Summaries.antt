@@ -29,12 +29,14 @@ sum-small f m p a zero = zero-le
 sum-small f m p a (suc k) = rw (suc-mul k m) (add-le-add (sum-small f m p a k) (p (a + k)))
 
 module _ (h : Head) (s : Slots) (agreed : Agreed) (holidays : List ℕ) (a k : ℕ) where
-  summary-next : summaryOf h s agreed holidays a (k + 1) ≡ addedTo (summaryOf h s agreed holidays a k) (filledAt h s agreed holidays (a + k)) (shapeAt h s agreed holidays (a + k))
+  summary-next : summaryOf h s agreed holidays a (k + 1)
+      ≡ addedTo (summaryOf h s agreed holidays a k) (filledAt h s agreed holidays (a + k)) (shapeAt h s agreed holidays (a + k))
   unfolding summaryOf addedTo sum any
   summary-next = rw (add-one, shape-of-s h s agreed holidays (a + k))
 
   -- one slot on, where o is that slot and x its shape
-  pub summary-on : (m r : Summary) (o : Outcome) (x : ℕ) → m ≡ summaryOf h s agreed holidays a k → r ≡ addedTo m o x → o ≡ filledAt h s agreed holidays (a + k) → x ≡ shapeAt h s agreed holidays (a + k)
+  pub summary-on : (m r : Summary) (o : Outcome) (x : ℕ) → m ≡ summaryOf h s agreed holidays a k → r ≡ addedTo m o x
+      → o ≡ filledAt h s agreed holidays (a + k) → x ≡ shapeAt h s agreed holidays (a + k)
       → r ≡ summaryOf h s agreed holidays a (k + 1)
   summary-on m r o x e f g i = f ∙ (rw (e, g, i) (sym summary-next))
 
@@ -47,14 +49,16 @@ module _ (h : Head) (s : Slots) (agreed : Agreed) (holidays : List ℕ) (a k : �
     unfolding summaryOf
     actual-low low =
         sum-small _ 99_999_999
-        (λ i. cond-small (isA (filledAt h s agreed holidays i .quality) || isF (filledAt h s agreed holidays i .quality)) _ _ (filled-low h b s agreed holidays i low)) a k
+        (λ i. cond-small (isA (filledAt h s agreed holidays i .quality) || isF (filledAt h s agreed holidays i .quality)) _ _
+        (filled-low h b s agreed holidays i low)) a k
 
     shapes-low : summaryOf h s agreed holidays a k .shapes ≤ k * (12 * cap h)
     unfolding summaryOf
     shapes-low = sum-small _ (12 * cap h) (λ i. shape-small h b s agreed holidays i) a k
 
     -- there is room for one slot more, with shape x
-    pub summary-fits : AgreedLow agreed → k ≤ slotCount h → (m : Summary) (x : ℕ) → m ≡ summaryOf h s agreed holidays a k → x ≡ shapeAt h s agreed holidays (a + k)
+    pub summary-fits : AgreedLow agreed → k ≤ slotCount h → (m : Summary) (x : ℕ) → m ≡ summaryOf h s agreed holidays a k
+        → x ≡ shapeAt h s agreed holidays (a + k)
         → (m .actual ≤ 11_519_999_884_800) × (m .shapes ≤ 115_200_000_000) × (m .count ≤ 115_200) × (x ≤ 6_000_000)
     summary-fits low l m x e f =
         let n = count-high h b in
@@ -82,10 +86,12 @@ module _ (m : Summary) (o : Outcome) (x : ℕ) where
   unfolding addedTo with
   added-agreed e = simp (add-zero, or-false) refl ∙ added F e
 
-  pub added-substituted : o .quality ≡ S → record { actual = m .actual; shapes = m .shapes + x; count = m .count + 1; hole = m .hole; filled = true } ≡ addedTo m o x
+  pub added-substituted : o .quality ≡ S
+      → record { actual = m .actual; shapes = m .shapes + x; count = m .count + 1; hole = m .hole; filled = true } ≡ addedTo m o x
   unfolding addedTo with
   added-substituted e = simp (add-zero, or-false, or-true) refl ∙ added S e
 
-  pub added-none : o .quality ≡ N → record { actual = m .actual; shapes = m .shapes; count = m .count; hole = true; filled = m .filled } ≡ addedTo m o x
+  pub added-none : o .quality ≡ N
+      → record { actual = m .actual; shapes = m .shapes; count = m .count; hole = true; filled = m .filled } ≡ addedTo m o x
   unfolding addedTo with
   added-none e = simp (add-zero, or-false, or-true) refl ∙ added N e

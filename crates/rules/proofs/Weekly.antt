@@ -28,10 +28,12 @@ module _ (f : ℕ → ℕ) (h : Head) (s : Slots) (holidays : List ℕ) (days j 
     one-more : k ≡ suc (k - 1)
     one-more = omega (arith, more)
 
-    pub each-found : isReference h s holidays earlier ≡ true → eachWeek f h s holidays days j k ≡ f earlier ∷ eachWeek f h s holidays 7 earlier (k - 1)
+    pub each-found : isReference h s holidays earlier ≡ true
+        → eachWeek f h s holidays days j k ≡ f earlier ∷ eachWeek f h s holidays 7 earlier (k - 1)
     unfolding eachWeek
     each-found e = ap (eachWeek f h s holidays days j) one-more ∙ simp (le-ltb _ _ inside, e)
 
-    pub each-passed : isReference h s holidays earlier ≡ false → eachWeek f h s holidays days j k ≡ eachWeek f h s holidays 7 earlier (k - 1)
+    pub each-passed : isReference h s holidays earlier ≡ false
+        → eachWeek f h s holidays days j k ≡ eachWeek f h s holidays 7 earlier (k - 1)
     unfolding eachWeek
     each-passed e = ap (eachWeek f h s holidays days j) one-more ∙ simp (le-ltb _ _ inside, e)

@@ -24,10 +24,15 @@ abbrev μ-loop : tie.MeasureT-loop
 
 -- ---- Places
 
+abbrev entry-known5 : tie.After-shared-slice-known5 Inv-loop μ-loop → tie.Start Inv-loop μ-loop
+entry-known5 c = c .before .before .before .before .before
+
+-- ---- Places
+
 abbrev At-loop : Type 0
 At-loop = tie.At-loop Inv-loop μ-loop
 
-abbrev start : At-loop → tie.Start Inv-loop μ-loop
+abbrev start : tie.At-loop Inv-loop μ-loop → tie.Start Inv-loop μ-loop
 start c = c .before .before .before .before .before .before
 
 abbrev turn : tie.After-is-good Inv-loop μ-loop → At-loop
@@ -57,9 +62,17 @@ most c = count-high (start c .args .head) (bounded (start c .args .head) (start 
 loop-holds : tie.Need-loop-holds Inv-loop μ-loop
 unfolding sum
 loop-holds c =
-    let pre = c .before .before .before .before .before .pre in
-    let none : c .before .before .before .before .before .args .from - c .before .before .before .before .before .args .from ≡ 0 = omega arith in
-    record { further = le-refl _; inside = pre .ordered; direct = λ i l m. absurd (absent l m); outage = pre .outage; total = rw none; low = zero-le }
+    let begun = entry-known5 c in
+    let pre = begun .pre in
+    let none : begun .args .from - begun .args .from ≡ 0 = omega arith in
+    record {
+      further = le-refl _;
+      inside = pre .ordered;
+      direct = λ i l m. absurd (absent l m);
+      outage = pre .outage;
+      total = rw none;
+      low = zero-le;
+    }
 
 is-good-requires : tie.Need-is-good-requires Inv-loop μ-loop
 is-good-requires c κs = (start (c .before) .pre .fitted, below c)
@@ -93,8 +106,11 @@ returns c =
 outage-zero-requires : tie.Need-outage-zero-requires Inv-loop μ-loop
 outage-zero-requires c κs =
     let at = turn (agreed c) in
-    let fitted = start at .pre .fitted in
-    (fitted .statuses ∙ sym (fitted .versions), omega (arith, below (agreed c .before), fitted .versions), rw (fitted .versions) (at .loop .inv .outage))
+    let fitted = start at .pre .fitted in (
+      fitted .statuses ∙ sym (fitted .versions),
+      omega (arith, below (agreed c .before), fitted .versions),
+      rw (fitted .versions) (at .loop .inv .outage),
+    )
 
 mul-sum-2 : tie.Need-mul-sum-2 Inv-loop μ-loop
 mul-sum-2 c = search needs
@@ -131,11 +147,13 @@ loop-again c =
     (λ w.
     let good = sym (c .before .is-good .ensures) ∙ w .0 .taken in
     let zero = sym (zero-none (s .versions) (s .statuses) (slotCount h) i (good-delivered h s i good)) in
-    rw (w .2, w .3) (on _ false (c .before .before .loop-test .taken) (direct-good h s a i good) (good-value h s a i good) (omega (arith, w .1 .given i)) zero))
+    rw (w .2, w .3) (on _ false (c .before .before .loop-test .taken) (direct-good h s a i good) (good-value h s a i good)
+    (omega (arith, w .1 .given i)) zero))
     (λ w.
     let cause = sym (c .before .is-good .ensures) ∙ w .0 .left in
     let zero = rw (start at .pre .fitted .versions) at (w .3 .ensures) in
-    rw (w .5, w .6) (on _ _ (c .before .before .loop-test .taken) (direct-agreed h s a i (w .2 .left)) (agreed-value h s a i cause) (omega (arith, w .4 .given i)) zero))
+    rw (w .5, w .6) (on _ _ (c .before .before .loop-test .taken) (direct-agreed h s a i (w .2 .left)) (agreed-value h s a i cause)
+    (omega (arith, w .4 .given i)) zero))
     (c .if1 .came)
 
 returns-2 : tie.Need-returns-2 Inv-loop μ-loop

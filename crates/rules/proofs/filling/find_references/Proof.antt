@@ -14,7 +14,8 @@ use Rattle.rules.specs.Inner.Ways.{valueOf, InBook}
 use Rattle.rules.specs.Weeks.{firstBack, farthestBack}
 use Rattle.rules.proofs.Bounds.{Bounded, bounded, count-high, day-below}
 use Rattle.rules.proofs.References.{values-each}
-use Rattle.rules.proofs.Searches.{Keeping, Standing, begin-fits, stands-first, keeps-none, slot-inside, stands-on, keeps-passed, keeps-found}
+use Rattle.rules.proofs.Searches.{Keeping, Standing, begin-fits, stands-first, keeps-none, slot-inside, stands-on, keeps-passed}
+use Rattle.rules.proofs.Searches.{keeps-found}
 use Rattle.rules.proofs.Searches.{keeps-spent, keeps-full}
 use Rattle.rules.proofs.filling.find_references.Statement.{statement}
 use Rattle.rules.proofs.filling.find_references.Tie as tie
@@ -78,7 +79,8 @@ begins : (c : tie.After-struct-known Inv-weeks μ-weeks) → let at = led (c .be
     ≡ entry at .args .slot + 7 * at .slots-per-day .result - r .first * slotsPerDay (entry at .args .head)
 begins c =
     let at = led (c .before) in
-    ap (λ (x : ℕ). entry at .args .slot + 7 * at .slots-per-day .result - c .before .way-back .result .first * x) (at .slots-per-day .ensures)
+    ap (λ (x : ℕ). entry at .args .slot + 7 * at .slots-per-day .result - c .before .way-back .result .first * x)
+    (at .slots-per-day .ensures)
 
 -- the slot of this week lies in the book
 inside : (c : tie.In-weeks Inv-weeks μ-weeks) → let at = c .before in
@@ -98,8 +100,11 @@ day-of-requires c κs = entry c .pre .0 .fitted .head
 
 way-back-requires : tie.Need-way-back-requires Inv-weeks μ-weeks
 way-back-requires c κs =
-    let at = entry (c .before) in
-    (at .pre .0 .fitted .head, at .pre .0 .holidays, rw (c .day-of .ensures) (day-below (at .args .head) (bounds at) (at .args .slot) (at .pre .1)))
+    let at = entry (c .before) in (
+      at .pre .0 .fitted .head,
+      at .pre .0 .holidays,
+      rw (c .day-of .ensures) (day-below (at .args .head) (bounds at) (at .args .slot) (at .pre .1)),
+    )
 
 add-at : tie.Need-add-at Inv-weeks μ-weeks
 add-at c = let at = entry (led c) in rw (led c .slots-per-day .ensures) (omega (arith, bounds at, at .pre .1, most at))
@@ -113,7 +118,8 @@ sub-at : tie.Need-sub-at Inv-weeks μ-weeks
 sub-at c =
     let at = led (c .before) in
     let s = entry at in
-    let fits = begin-fits (s .args .head) (bounds s) (s .args .slot) _ (week at) (s .args .holidays .now) _ _ (first (c .before)) (weeks (c .before)) in
+    let fits = begin-fits (s .args .head) (bounds s) (s .args .slot) _ (week at) (s .args .holidays .now) _ _ (first (c .before))
+    (weeks (c .before)) in
     let same = ap (λ (x : ℕ). c .before .way-back .result .first * x) (at .slots-per-day .ensures) in
     omega (arith, fits, same)
 
@@ -134,7 +140,8 @@ weeks-holds c =
 sub-at-2 : tie.Need-sub-at-2 Inv-weeks μ-weeks
 sub-at-2 c =
     let at = c .before in
-    slot-inside (start at .args .head) (bounds (start at)) _ _ (at .weeks .inv .standing .seven) (at .weeks .inv .standing) (c .weeks-test .left)
+    slot-inside (start at .args .head) (bounds (start at)) _ _ (at .weeks .inv .standing .seven) (at .weeks .inv .standing)
+    (c .weeks-test .left)
 
 sub-left : tie.Need-sub-left Inv-weeks μ-weeks
 sub-left c = omega (arith, c .weeks-test .left)
@@ -229,7 +236,8 @@ returns-2 c =
     let seven = held .standing .seven in
     let more = turned .weeks-test .left in
     let v = keeps-full (keeps-found (s .args .head) (bounds s) _ _ seven (held .standing) more (held .values) _ refl yes) (c .if2 .taken) in
-    let d = keeps-full (keeps-found (s .args .head) (bounds s) _ _ seven (held .standing) more (held .dates) _ (c .before .day-of2 .ensures) yes) (c .if2 .taken) in
+    let d = keeps-full (keeps-found (s .args .head) (bounds s) _ _ seven (held .standing) more (held .dates) _ (c .before .day-of2 .ensures)
+    yes) (c .if2 .taken) in
     let e = values-each (s .args .head) (lent s) (s .args .holidays .now) (s .args .slot) in
     (d .0, v .0 ∙ ap inFour e, v .1 ∙ ap length e)
 

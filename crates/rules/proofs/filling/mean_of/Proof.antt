@@ -1,6 +1,7 @@
 -- `filling::mean_of`. The loop's sum is the total of the values passed; what it has beyond the mean is the remainder.
+use mathlib.Core.List.{List}
 use mathlib.Core.Path.{_≡_, refl, _∙_}
-use Prim.Native.Nat.{_≤_, _<_, _*_, _-_}
+use Prim.Native.Nat.{ℕ, _≤_, _<_, _*_, _-_}
 use native.Mathlib.Nat.{div-lt-iff-lt-mul, div-add-mod', mod-lt}
 use mir.Val.{Fits}
 use mir.Syntax.{w32}
@@ -14,8 +15,13 @@ use Rattle.rules.proofs.References.{total-next}
 use Rattle.rules.proofs.filling.mean_of.Statement.{statement}
 use Rattle.rules.proofs.filling.mean_of.Tie as tie
 
+record Held (values : List ℕ) (count sum i : ℕ) : Type 0 where
+  inside : i ≤ count
+  known : sum ≡ sumOf (take i values)
+  small : sum ≤ i * 4_294_967_295
+
 abbrev Inv-loop : tie.InvT-loop
-Inv-loop values count sum₀ i₀ sum i = (i ≤ count) × (sum ≡ sumOf (take i values)) × (sum ≤ i * 4_294_967_295)
+Inv-loop values count sum₀ i₀ sum i = Held values count sum i
 
 abbrev μ-loop : tie.MeasureT-loop
 μ-loop values count sum₀ i₀ sum i = count - i
@@ -28,7 +34,7 @@ returns c =
     let l : length v ≡ 4 = search needs in
     let e : c .before .loop .i ≡ n = omega arith in
     let p : 0 < n = omega arith in
-    let t : c .before .loop .sum ≡ sumOf (take n v) = rw e at (c .before .loop .inv .1) in
+    let t : c .before .loop .sum ≡ sumOf (take n v) = rw e at (c .before .loop .inv .known) in
     (rw (length-take-le n v (omega arith), ← t), refl, div-add-mod' (c .before .loop .sum) n ∙ t, mod-lt (c .before .loop .sum) p)
 
 loop-holds : tie.Need-loop-holds Inv-loop μ-loop
@@ -58,7 +64,11 @@ loop-less c = omega arith
 loop-again : tie.Need-loop-again Inv-loop μ-loop
 loop-again c =
     let e : Fits w32 (getD (c .before .before .before .args .found .values) (c .before .loop .i) 0) = search needs in
-    (omega arith, total-next (c .before .before .before .args .found .values) (c .before .loop .i) _ (c .before .loop .inv .1), omega arith)
+    record {
+      inside = omega arith;
+      known = total-next (c .before .before .before .args .found .values) (c .before .loop .i) _ (c .before .loop .inv .known);
+      small = omega arith;
+    }
 
 rem-rest : tie.Need-rem-rest Inv-loop μ-loop
 rem-rest c = omega arith

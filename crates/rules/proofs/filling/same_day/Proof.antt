@@ -15,6 +15,11 @@ use Rattle.rules.proofs.filling.same_day.Tie as tie
 
 -- ---- Places
 
+abbrev after-find-references : tie.After-shape-of → tie.After-find-references
+after-find-references c = c .before .before .before .before
+
+-- ---- Places
+
 abbrev start : tie.After-find-references → tie.Start
 start c = c .before .before .before .before .before
 
@@ -26,7 +31,8 @@ few c =
     references-few (a .head) (slots (a .values .now) (a .versions .now) (a .statuses .now)) (a .holidays .now) (a .at)
 
 values : (c : tie.After-find-references) → let a = start c .args in let r = c .find-references .result in
-    take (r .count) (r .values) ≡ references (a .head) (slots (a .values .now) (a .versions .now) (a .statuses .now)) (a .holidays .now) (a .at)
+    take (r .count) (r .values)
+    ≡ references (a .head) (slots (a .values .now) (a .versions .now) (a .statuses .now)) (a .holidays .now) (a .at)
 values c = first-places _ _ _ (c .find-references .ensures .1) (c .find-references .ensures .2) (few c)
 
 -- ---- Needs
@@ -57,14 +63,14 @@ shape-of-requires c κs =
 returns-2 : tie.Need-returns-2
 unfolding shapeOf
 returns-2 c =
-    let search = c .before .before .before .before in
+    let search = after-find-references c in
     let r = search .find-references .result in
     let x = take (r .count) (r .values) in
     let e : length x ≡ r .count = ap length (values search) ∙ sym (search .find-references .ensures .2) in
     let n : length x ≡ 0 → ⊥ = omega (arith, c .before .before .if1 .left) in
     let m = c .before .mean-of .ensures in
     let q : c .shape-of .result * length x ≡ 12 * sumOf x = rw (e, ← m .2, ← m .1) (c .shape-of .ensures) in
-    rw (← values search) (rw (from-some _ n, m .0), shape-exact _ _ _ (omega arith) q)
+    rw (← values search) (simp (from-some x n, m .0), shape-exact _ _ _ (omega arith) q)
 
 pub same-day-spec : {M : Type 1} → statement M
 same-day-spec =

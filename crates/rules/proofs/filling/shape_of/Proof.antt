@@ -8,7 +8,8 @@ use Rattle.rules.proofs.filling.shape_of.Statement.{statement}
 use Rattle.rules.proofs.filling.shape_of.Tie as tie
 
 returns : tie.Need-returns
-returns c = shape-whole (c .before .before .before .args .mean .number) _ (c .before .before .before .pre .0) (c .before .before .before .pre .1)
+returns c =
+    shape-whole (c .before .before .before .args .mean .number) _ (c .before .before .before .pre .0) (c .before .before .before .pre .1)
 
 cast-number : tie.Need-cast-number
 cast-number c = search needs

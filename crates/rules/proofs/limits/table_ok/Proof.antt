@@ -6,7 +6,6 @@ use Rattle.rules.specs.Limits.{tableOk}
 use borrow.Author.Needs.{needs}
 use Rattle.rules.proofs.limits.table_ok.Statement.{statement}
 use Rattle.rules.proofs.limits.table_ok.Tie as tie
-use Rattle.rules.proofs.limits.is_rising.Reads as is-rising-reads
 
 returns : tie.Need-returns
 unfolding tableOk

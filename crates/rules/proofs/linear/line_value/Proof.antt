@@ -4,6 +4,13 @@ use borrow.Author.Needs.{needs}
 use Rattle.rules.proofs.linear.line_value.Statement.{statement}
 use Rattle.rules.proofs.linear.line_value.Tie as tie
 
+-- ---- Places
+
+abbrev start : tie.After-struct-known4 → tie.Start
+start c = c .before .before .before .before
+
+-- ---- Needs
+
 cast-left : tie.Need-cast-left
 cast-left c = search needs
 
@@ -20,19 +27,19 @@ cast-floor-over : tie.Need-cast-floor-over
 cast-floor-over c = search needs
 
 mul-floor-over : tie.Need-mul-floor-over
-mul-floor-over c = risen-fits (c .before .before .before .before .args .line) (c .before .before .before .before .pre)
+mul-floor-over c = risen-fits (start c .args .line) (start c .pre)
 
 floor-over-requires : tie.Need-floor-over-requires
 floor-over-requires c κs = search needs
 
 add-result : tie.Need-add-result
-add-result c = value-fits (c .before .before .before .before .before .args .line) (c .before .before .before .before .before .pre) _ (c .floor-over .ensures)
+add-result c = value-fits (start (c .before) .args .line) (start (c .before) .pre) _ (c .floor-over .ensures)
 
 cast-result : tie.Need-cast-result
-cast-result c = value-whole (c .before .before .before .before .before .args .line) (c .before .before .before .before .before .pre) _ (c .floor-over .ensures)
+cast-result c = value-whole (start (c .before) .args .line) (start (c .before) .pre) _ (c .floor-over .ensures)
 
 returns : tie.Need-returns
-returns c = value-line (c .before .before .before .before .before .args .line) (c .before .before .before .before .before .pre) _ (c .floor-over .ensures)
+returns c = value-line (start (c .before) .args .line) (start (c .before) .pre) _ (c .floor-over .ensures)
 
 pub line-value-spec : {M : Type 1} → statement M
 line-value-spec =

@@ -37,7 +37,13 @@ ends-in-time-requires c κs = (dated (past1 (past2 c)), c .if3 .left)
 
 returns-4 : tie.Need-returns-4
 returns-4 c =
-    simp (dated (past1 (past2 (c .before))), le-leb _ _ (past2 (c .before) .if2 .left), le-leb _ _ (c .before .if3 .left), c .ends-in-time .ensures, and-true)
+    simp (
+      dated (past1 (past2 (c .before))),
+      le-leb _ _ (past2 (c .before) .if2 .left),
+      le-leb _ _ (c .before .if3 .left),
+      c .ends-in-time .ensures,
+      and-true,
+    )
 
 pub are-days-spec : {M : Type 1} → statement M
 are-days-spec = tie.close (tie.spec is-date-requires returns returns-2 returns-3 ends-in-time-requires returns-4)

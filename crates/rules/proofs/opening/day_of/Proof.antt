@@ -11,6 +11,11 @@ use Rattle.rules.proofs.Bounds.{bounded}
 use Rattle.rules.proofs.opening.day_of.Statement.{statement}
 use Rattle.rules.proofs.opening.day_of.Tie as tie
 
+-- ---- Places
+
+abbrev entry : tie.Else2 → tie.Start
+entry c = c .before .before .before .before
+
 five-left : (l : ℕ) → intervalOk l ≡ true → (l ≡ 15 → ⊥) → (l ≡ 30 → ⊥) → l ≡ 5
 unfolding intervalOk
 five-left l e n m =
@@ -29,7 +34,7 @@ returns-2 c = rw (c .if2 .taken)
 returns-3 : tie.Need-returns-3
 unfolding slotsPerDay
 returns-3 c =
-    let start = c .before .before .before .before in
+    let start = entry c in
     rw (five-left _ (bounded _ (start .pre) .interval-good) (c .if2 .left) (c .before .before .if1 .left))
 
 pub day-of-spec : {M : Type 1} → statement M

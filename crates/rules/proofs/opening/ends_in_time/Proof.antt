@@ -8,6 +8,13 @@ use Rattle.rules.specs.Opening.{firstDay}
 use Rattle.rules.proofs.opening.ends_in_time.Statement.{statement}
 use Rattle.rules.proofs.opening.ends_in_time.Tie as tie
 
+-- ---- Places
+
+abbrev start : tie.After-day-number → tie.Start
+start c = c .before .before .before
+
+-- ---- Needs
+
 returns : tie.Need-returns
 unfolding firstDay
 returns c =
@@ -20,7 +27,7 @@ day-number-requires : tie.Need-day-number-requires
 day-number-requires c κs = c .before .before .pre .0
 
 add-result : tie.Need-add-result
-add-result c = omega (arith, c .before .day-number .ensures, last-day _ _ _ (c .before .before .before .before .pre .0), c .before .before .before .before .pre .1)
+add-result c = omega (arith, c .before .day-number .ensures, last-day _ _ _ (start (c .before) .pre .0), start (c .before) .pre .1)
 
 returns-2 : tie.Need-returns-2
 unfolding firstDay

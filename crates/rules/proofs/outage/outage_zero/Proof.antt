@@ -6,6 +6,25 @@ use borrow.Author.Needs.{needs}
 use Rattle.rules.proofs.outage.outage_zero.Statement.{statement}
 use Rattle.rules.proofs.outage.outage_zero.Tie as tie
 
+-- ---- Places
+
+abbrev start : tie.After-shared-slice-known3 → tie.Start
+start c = c .before .before .before
+
+abbrev start-taken3 : tie.Then3 → tie.Start
+start-taken3 c = start (c .before .before .before .before)
+
+abbrev start-outage-bit : tie.After-outage-bit → tie.Start
+start-outage-bit c = start (c .before .before .before .before .before .before)
+
+abbrev passed1 : tie.Then4 → tie.Else1
+passed1 c = c .before .before .before .before .before .before
+
+abbrev passed3 : tie.After-outage-after2 → tie.Else3
+passed3 c = c .before .before .before .before
+
+-- ---- Needs
+
 mul-if1 : tie.Need-mul-if1
 mul-if1 c = search needs
 
@@ -13,13 +32,16 @@ shared-slice-read-if1 : tie.Need-shared-slice-read-if1
 shared-slice-read-if1 c = search needs
 
 returns : tie.Need-returns
-returns c = sym (zero-none _ _ _ _ (delivered _ (c .before .before .before .before .args .statuses .now) _ (c .if1 .taken)))
+returns c = sym (zero-none _ _ _ _ (delivered _ (start (c .before) .args .statuses .now) _ (c .if1 .taken)))
 
 outage-after-requires : tie.Need-outage-after-requires
 outage-after-requires c κs = search needs
 
 returns-2 : tie.Need-returns-2
-returns-2 c = c .outage-after .ensures ∙ sym (zero-first _ _ _ _ (c .before .if2 .taken) (gap _ (c .before .before .before .before .before .before .args .statuses .now) _ (c .before .before .if1 .left)))
+returns-2 c =
+    c .outage-after .ensures
+    ∙ sym (zero-first _ _ _ _ (c .before .if2 .taken)
+    (gap _ (start (c .before .before .before) .args .statuses .now) _ (c .before .before .if1 .left)))
 
 sub-last : tie.Need-sub-last
 sub-last c = search needs
@@ -31,9 +53,11 @@ shared-slice-read-if3 : tie.Need-shared-slice-read-if3
 shared-slice-read-if3 c = search needs
 
 returns-3 : tie.Need-returns-3
-returns-3 c = let a = c .before .before .before .before .before .before .before .args in
+returns-3 c =
+    let begun = start-taken3 c in
+    let a = begun .args in
     let g = gap (a .versions .now) (a .statuses .now) (a .at) (c .before .before .before .if1 .left) in
-    c .before .before .before .before .before .before .before .pre .2 ∙ zero-kept _ _ _ _ _ (omega arith) (c .before .before .before .before .before .before .before .pre .1) g (gap _ (a .statuses .now) _ (c .if3 .taken))
+    begun .pre .2 ∙ zero-kept _ _ _ _ _ (omega arith) (begun .pre .1) g (gap _ (a .statuses .now) _ (c .if3 .taken))
 
 shared-slice-read-outage-bit : tie.Need-shared-slice-read-outage-bit
 shared-slice-read-outage-bit c = search needs
@@ -42,17 +66,22 @@ outage-bit-requires : tie.Need-outage-bit-requires
 outage-bit-requires c κs = search needs
 
 returns-4 : tie.Need-returns-4
-returns-4 c = let a = c .before .before .before .before .before .before .before .before .before .before .args in
-    let g = gap (a .versions .now) (a .statuses .now) (a .at) (c .before .before .before .before .before .before .if1 .left) in
-    sym (zero-before _ _ _ _ _ (omega arith) (c .before .before .before .before .before .before .before .before .before .before .pre .1) g (delivered _ (a .statuses .now) _ (c .before .before .before .if3 .left)) (sym (c .before .outage-bit .ensures) ∙ c .if4 .taken))
+returns-4 c = let a = start-outage-bit (c .before) .args in
+    let g = gap (a .versions .now) (a .statuses .now) (a .at) (passed1 c .if1 .left) in
+    sym (zero-before _ _ _ _ _ (omega arith) (start-outage-bit (c .before) .pre .1) g
+    (delivered _ (a .statuses .now) _ (c .before .before .before .if3 .left)) (sym (c .before .outage-bit .ensures) ∙ c .if4 .taken))
 
 outage-after-requires-2 : tie.Need-outage-after-requires-2
 outage-after-requires-2 c κs = search needs
 
 returns-5 : tie.Need-returns-5
-returns-5 c = let a = c .before .before .before .before .before .before .before .before .before .before .before .args in
-    let g = gap (a .versions .now) (a .statuses .now) (a .at) (c .before .before .before .before .before .before .before .if1 .left) in
-    c .outage-after2 .ensures ∙ sym (zero-after _ _ _ _ _ (omega arith) (c .before .before .before .before .before .before .before .before .before .before .before .pre .1) g (delivered _ (a .statuses .now) _ (c .before .before .before .before .if3 .left)) (sym (c .before .before .outage-bit .ensures) ∙ c .before .if4 .left))
+returns-5 c =
+    let begun = start-outage-bit (c .before .before) in
+    let a = begun .args in
+    let g = gap (a .versions .now) (a .statuses .now) (a .at) (passed3 c .before .before .before .if1 .left) in
+    c .outage-after2 .ensures
+    ∙ sym (zero-after _ _ _ _ _ (omega arith) (begun .pre .1) g (delivered _ (a .statuses .now) _ (passed3 c .if3 .left))
+    (sym (c .before .before .outage-bit .ensures) ∙ c .before .if4 .left))
 
 pub outage-zero-spec : {M : Type 1} → statement M
 outage-zero-spec =

@@ -10,6 +10,13 @@ use borrow.Author.Needs.{needs}
 use Rattle.rules.proofs.range.is_near.Statement.{statement}
 use Rattle.rules.proofs.range.is_near.Tie as tie
 
+-- ---- Places
+
+abbrev start : tie.After-above2 → tie.Start
+start c = c .before .before .before .before .before
+
+-- ---- Needs
+
 cast-above : tie.Need-cast-above
 cast-above c = search needs
 
@@ -19,7 +26,8 @@ above-requires c κs = search needs
 returns : tie.Need-returns
 unfolding isNear
 returns c = let a = c .before .before .before .args in
-    let p : leb (a .range .lowest - a .v) (a .tolerance) ≡ false = lt-leb (a .range .lowest - a .v) (a .tolerance) (omega (arith, c .before .above .ensures, c .if1 .taken)) in
+    let p : leb (a .range .lowest - a .v) (a .tolerance) ≡ false =
+    lt-leb (a .range .lowest - a .v) (a .tolerance) (omega (arith, c .before .above .ensures, c .if1 .taken)) in
     rw p
 
 cast-above-2 : tie.Need-cast-above-2
@@ -30,8 +38,10 @@ above-requires-2 c κs = search needs
 
 returns-2 : tie.Need-returns-2
 unfolding isNear
-returns-2 c = let a = c .before .before .before .before .before .args in
-    let p : leb (a .range .lowest - a .v) (a .tolerance) ≡ true = le-leb (a .range .lowest - a .v) (a .tolerance) (omega (arith, c .before .before .before .above .ensures, c .before .before .if1 .left)) in
+returns-2 c = let a = start c .args in
+    let p : leb (a .range .lowest - a .v) (a .tolerance) ≡ true =
+    le-leb (a .range .lowest - a .v) (a .tolerance)
+    (omega (arith, c .before .before .before .above .ensures, c .before .before .if1 .left)) in
     rw (p, c .above2 .ensures)
 
 pub is-near-spec : {M : Type 1} → statement M

@@ -1,7 +1,8 @@
 -- `readings::next_read`. From boundary d on the answer is that from the start.
+use mathlib.Core.List.{List}
 use borrow.Author.Needs.{needs}
 use mathlib.Core.Path.{_≡_, refl, sym, _∙_}
-use Prim.Native.Nat.{_≤_, _-_}
+use Prim.Native.Nat.{ℕ, _≤_, _-_}
 use native.Mathlib.Omega.{arith}
 use lib.ListN.{length}
 use Rattle.rules.specs.Spans.{nextRead}
@@ -10,15 +11,25 @@ use Rattle.rules.proofs.Stretches.{is-read, unread, next-end, next-at, 
 use Rattle.rules.proofs.readings.next_read.Statement.{statement}
 use Rattle.rules.proofs.readings.next_read.Tie as tie
 
+record Held (reads : List ℕ) (from d : ℕ) : Type 0 where
+  inside : d ≤ length reads
+  known : nextRead reads from (length reads - from) ≡ nextRead reads d (length reads - d)
+
 abbrev Inv-loop : tie.InvT-loop
-Inv-loop reads from d₀ d =
-    (d ≤ length reads) × (nextRead reads from (length reads - from) ≡ nextRead reads d (length reads - d))
+Inv-loop reads from d₀ d = Held reads from d
 
 abbrev μ-loop : tie.MeasureT-loop
 μ-loop reads from d₀ d = length reads - d
 
+-- ---- Places
+
+abbrev start : tie.After-shared-slice-known Inv-loop μ-loop → tie.Start Inv-loop μ-loop
+start c = c .before .before .before
+
+-- ---- Needs
+
 loop-holds : tie.Need-loop-holds Inv-loop μ-loop
-loop-holds c = (omega arith, refl)
+loop-holds c = record { inside = omega arith; known = refl }
 
 mul-if1 : tie.Need-mul-if1 Inv-loop μ-loop
 mul-if1 c = search needs
@@ -27,8 +38,10 @@ shared-slice-read-if1 : tie.Need-shared-slice-read-if1 Inv-loop μ-loop
 shared-slice-read-if1 c = omega arith
 
 returns : tie.Need-returns Inv-loop μ-loop
-returns c = let r = c .before .before .before .before .args .reads .now in
-    sym (c .before .before .before .loop .inv .1 ∙ next-at r (length r) (c .before .before .before .loop .d) (c .before .before .loop-test .taken) (is-read r (c .before .before .before .loop .d) (c .if1 .taken)))
+returns c = let r = start (c .before) .args .reads .now in
+    sym (c .before .before .before .loop .inv .known
+    ∙ next-at r (length r) (c .before .before .before .loop .d) (c .before .before .loop-test .taken)
+    (is-read r (c .before .before .before .loop .d) (c .if1 .taken)))
 
 add-d : tie.Need-add-d Inv-loop μ-loop
 add-d c = omega arith
@@ -37,12 +50,18 @@ loop-less : tie.Need-loop-less Inv-loop μ-loop
 loop-less c = omega arith
 
 loop-again : tie.Need-loop-again Inv-loop μ-loop
-loop-again c = let r = c .before .before .before .before .args .reads .now in
-    (omega arith, c .before .before .before .loop .inv .1 ∙ next-on r (length r) (c .before .before .before .loop .d) (c .before .before .loop-test .taken) (unread r (c .before .before .before .loop .d) (c .if1 .left)))
+loop-again c = let r = start (c .before) .args .reads .now in
+    record {
+      inside = omega arith;
+      known =
+          c .before .before .before .loop .inv .known
+          ∙ next-on r (length r) (c .before .before .before .loop .d) (c .before .before .loop-test .taken)
+          (unread r (c .before .before .before .loop .d) (c .if1 .left));
+    }
 
 returns-2 : tie.Need-returns-2 Inv-loop μ-loop
 returns-2 c = let r = c .before .before .args .reads .now in
-    sym (c .before .loop .inv .1 ∙ next-end r (length r) (c .before .loop .d) (c .loop-test .left))
+    sym (c .before .loop .inv .known ∙ next-end r (length r) (c .before .loop .d) (c .loop-test .left))
 
 pub next-read-spec : {M : Type 1} → statement M
 next-read-spec =

@@ -1,8 +1,9 @@
 -- `readings::span_count`. After d boundaries the count is that of the boundaries passed that have a reading.
+use mathlib.Core.List.{List}
 use borrow.Author.Needs.{needs}
 use mathlib.Core.Logic.{⊎-elim}
 use mathlib.Core.Path.{_≡_, sym, ap}
-use Prim.Native.Nat.{_-_, _≤_, zero-le}
+use Prim.Native.Nat.{ℕ, _-_, _≤_, zero-le}
 use native.Mathlib.Omega.{arith}
 use lib.ListN.{length}
 use Rattle.rules.specs.Inner.Stretches.{readCount}
@@ -10,14 +11,26 @@ use Rattle.rules.proofs.Counts.{count-none, count-read, count-unread}
 use Rattle.rules.proofs.readings.span_count.Statement.{statement}
 use Rattle.rules.proofs.readings.span_count.Tie as tie
 
+record Held (reads : List ℕ) (count d : ℕ) : Type 0 where
+  inside : d ≤ length reads
+  few : count ≤ d
+  known : count ≡ readCount reads d
+
 abbrev Inv-loop : tie.InvT-loop
-Inv-loop reads count₀ d₀ count d = (d ≤ length reads) × (count ≤ d) × (count ≡ readCount reads d)
+Inv-loop reads count₀ d₀ count d = Held reads count d
 
 abbrev μ-loop : tie.MeasureT-loop
 μ-loop reads count₀ d₀ count d = length reads - d
 
+-- ---- Places
+
+abbrev start : tie.Joined1 Inv-loop μ-loop → tie.Start Inv-loop μ-loop
+start c = c .before .before .before .before
+
+-- ---- Needs
+
 loop-holds : tie.Need-loop-holds Inv-loop μ-loop
-loop-holds c = (zero-le, zero-le, sym (count-none (c .args .reads .now)))
+loop-holds c = record { inside = zero-le; few = zero-le; known = sym (count-none (c .args .reads .now)) }
 
 mul-if1 : tie.Need-mul-if1 Inv-loop μ-loop
 mul-if1 c = search needs
@@ -35,14 +48,22 @@ loop-less : tie.Need-loop-less Inv-loop μ-loop
 loop-less c = omega arith
 
 loop-again : tie.Need-loop-again Inv-loop μ-loop
-loop-again c = let r = c .before .before .before .before .args .reads .now in
+loop-again c = let r = start c .args .reads .now in
     let d = c .before .before .before .loop .d in
-    ⊎-elim (λ w. (omega arith, omega arith, omega (arith, count-read r d (w .0 .taken), c .before .before .before .loop .inv .2))) (λ w. (omega arith, omega arith, omega (arith, count-unread r d (w .0 .left), c .before .before .before .loop .inv .2))) (c .if1 .came)
+    ⊎-elim (λ w. record {
+      inside = omega arith;
+      few = omega arith;
+      known = omega (arith, count-read r d (w .0 .taken), c .before .before .before .loop .inv .known);
+    }) (λ w. record {
+      inside = omega arith;
+      few = omega arith;
+      known = omega (arith, count-unread r d (w .0 .left), c .before .before .before .loop .inv .known);
+    }) (c .if1 .came)
 
 returns : tie.Need-returns Inv-loop μ-loop
 returns c = let r = c .before .before .before .args .reads .now in
     let e : c .before .before .loop .d ≡ length r = omega arith in
-    omega (arith, c .before .before .loop .inv .2, ap (readCount r) e)
+    omega (arith, c .before .before .loop .inv .known, ap (readCount r) e)
 
 sub-result : tie.Need-sub-result Inv-loop μ-loop
 sub-result c = omega arith
@@ -50,7 +71,7 @@ sub-result c = omega arith
 returns-2 : tie.Need-returns-2 Inv-loop μ-loop
 returns-2 c = let r = c .before .before .before .args .reads .now in
     let e : c .before .before .loop .d ≡ length r = omega arith in
-    omega (arith, c .before .before .loop .inv .2, ap (readCount r) e)
+    omega (arith, c .before .before .loop .inv .known, ap (readCount r) e)
 
 pub span-count-spec : {M : Type 1} → statement M
 span-count-spec =

@@ -5,6 +5,13 @@ use borrow.Author.Needs.{needs}
 use Rattle.rules.proofs.spans.add.Statement.{statement}
 use Rattle.rules.proofs.spans.add.Tie as tie
 
+-- ---- Places
+
+abbrev start : tie.After-add-actual2 → tie.Start
+start c = c .before .before .before .before
+
+-- ---- Needs
+
 cast-value : tie.Need-cast-value
 cast-value c = search needs
 
@@ -39,7 +46,7 @@ returns-2 : tie.Need-returns-2
 returns-2 c = added-substituted _ _ _ (c .before .before .enum-told2 .given .1)
 
 returns-3 : tie.Need-returns-3
-returns-3 c = c .add-actual2 .ensures ∙ added-agreed (c .before .before .before .before .args .sum) (c .before .before .before .before .args .slot) _ (c .before .enum-told3 .given .1)
+returns-3 c = c .add-actual2 .ensures ∙ added-agreed (start c .args .sum) (start c .args .slot) _ (c .before .enum-told3 .given .1)
 
 returns-4 : tie.Need-returns-4
 returns-4 c = added-none _ _ _ (c .enum-told4 .given .1)

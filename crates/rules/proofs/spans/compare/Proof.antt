@@ -7,6 +7,16 @@ use borrow.Author.Needs.{needs}
 use Rattle.rules.proofs.spans.compare.Statement.{statement}
 use Rattle.rules.proofs.spans.compare.Tie as tie
 
+-- ---- Places
+
+abbrev start : tie.After-shared-slice-known4 → tie.Start
+start c = c .before .before .before .before
+
+abbrev after-advanced : tie.After-state-of → tie.After-advanced
+after-advanced c = c .before .before .before .before .before .before
+
+-- ---- Needs
+
 mul-advanced : tie.Need-mul-advanced
 mul-advanced c = search needs
 
@@ -20,7 +30,7 @@ shared-slice-read-advanced-2 : tie.Need-shared-slice-read-advanced-2
 shared-slice-read-advanced-2 c = search needs
 
 advanced-requires : tie.Need-advanced-requires
-advanced-requires c κs = (c .before .before .before .before) .pre .0 .low ((c .before .before .before .before) .args .first)
+advanced-requires c κs = (start c) .pre .0 .low ((start c) .args .first)
 
 mul-range-of : tie.Need-mul-range-of
 mul-range-of c = search needs
@@ -35,7 +45,7 @@ shared-slice-read-range-of-2 : tie.Need-shared-slice-read-range-of-2
 shared-slice-read-range-of-2 c = search needs
 
 range-of-requires : tie.Need-range-of-requires
-range-of-requires c κs = let a = (c .before .before .before .before .before .before .before) .args in
+range-of-requires c κs = let a = (start (c .before .before .before)) .args in
     let l = advance-below (getD (a .readings .now) (a .first) 0) (getD (a .readings .now) (a .last) 0) in
     omega (arith, c .before .before .advanced .ensures, l)
 
@@ -50,7 +60,13 @@ state-of-requires c κs = search needs
 
 returns : tie.Need-returns
 unfolding comparedWith
-returns c = rw (c .state-of .ensures, c .before .before .least-in .ensures, c .before .before .before .range-of .ensures, c .before .before .before .before .before .before .advanced .ensures)
+returns c =
+    rw (
+      c .state-of .ensures,
+      c .before .before .least-in .ensures,
+      c .before .before .before .range-of .ensures,
+      after-advanced c .advanced .ensures,
+    )
 
 pub compare-spec : {M : Type 1} → statement M
 compare-spec =

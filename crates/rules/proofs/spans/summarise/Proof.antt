@@ -24,11 +24,12 @@ use Rattle.rules.proofs.Summaries.{summary-on, summary-fits}
 use Rattle.rules.proofs.spans.summarise.Statement.{statement}
 use Rattle.rules.proofs.spans.summarise.Tie as tie
 
-record Held (h : Head) (s : Slots) (a : Agreed) (holidays : List ℕ) (start count : ℕ) (m : Summary) (o : Bool) (l : Line) (k : ℕ) : Type 0 where
-  inside : k ≤ count
-  outage : o ≡ zeroBefore (s .versions) (s .statuses) (slotCount h) (start + k)
-  line : l ≡ lineBefore h s (a .versions) (start + k)
-  known : m ≡ summaryOf h s a holidays start k
+record Held (h : Head) (s : Slots) (a : Agreed) (holidays : List ℕ) (start count : ℕ) (m : Summary) (o : Bool) (l : Line) (k : ℕ) : Type 0
+  where
+    inside : k ≤ count
+    outage : o ≡ zeroBefore (s .versions) (s .statuses) (slotCount h) (start + k)
+    line : l ≡ lineBefore h s (a .versions) (start + k)
+    known : m ≡ summaryOf h s a holidays start k
 
 abbrev Inv-loop : tie.InvT-loop
 Inv-loop head values versions statuses holidays agreed agreed-versions count sum₀ start to outage₀ line₀ k₀ sum outage line k =
@@ -83,7 +84,8 @@ most c = count-high (start c .args .head) (bounds c)
 -- there is room for one slot more, or for a run of them
 room : (c : At-loop) (x : ℕ) → let a = start c .args in
     x ≡ shapeAt (a .head) (lent c) (settled c) (a .holidays .now) (a .first .at + c .loop .k)
-    → (c .loop .sum .actual ≤ 11_519_999_884_800) × (c .loop .sum .shapes ≤ 115_200_000_000) × (c .loop .sum .count ≤ 115_200) × (x ≤ 6_000_000)
+    → (c .loop .sum .actual ≤ 11_519_999_884_800) × (c .loop .sum .shapes ≤ 115_200_000_000) × (c .loop .sum .count ≤ 115_200)
+    × (x ≤ 6_000_000)
 room c x e =
     let a = start c .args in
     summary-fits (a .head) (lent c) (settled c) (a .holidays .now) (a .first .at) (c .loop .k) (bounds c) (start c .pre .1 .low)
@@ -96,7 +98,8 @@ cause c =
     let run = added (c .before) in
     let at = turn run .before in
     let a = start at .args in
-    none-direct (a .head) (lent at) (settled at) _ _ _ _ (run .add-up .ensures .0) (c .if1 .left) (omega (arith, turn run .loop-test .taken))
+    none-direct (a .head) (lent at) (settled at) _ _ _ _ (run .add-up .ensures .0) (c .if1 .left)
+    (omega (arith, turn run .loop-test .taken))
 
 -- ---- Needs
 
@@ -158,10 +161,13 @@ loop-again c =
     record {
       inside = omega (arith, to .inside);
       outage = rw k (to .outage);
-      line = rw k (c .before .before .bare .ensures ∙ run-line (a .head) (lent at) (settled at) _ end (to .direct) (c .before .before .before .if1 .taken));
+      line =
+          rw k (c .before .before .bare .ensures
+          ∙ run-line (a .head) (lent at) (settled at) _ end (to .direct) (c .before .before .before .if1 .taken));
       known =
           c .before .add-actual .ensures ∙ ap (actualAdded (at .loop .sum)) (run .add-up .ensures .1)
-          ∙ summary-run (a .head) (lent at) (settled at) _ end (to .direct) (a .holidays .now) (a .first .at) (at .loop .k) refl (at .loop .sum)
+          ∙ summary-run (a .head) (lent at) (settled at) _ end (to .direct) (a .holidays .now) (a .first .at) (at .loop .k) refl
+          (at .loop .sum)
           (at .loop .inv .known) (end - a .first .at) (sym k) (to .further);
     }
 
@@ -223,7 +229,9 @@ loop-again-2 c =
       inside = omega (arith, turn (added (other (c .before) .before)) .loop-test .taken);
       outage = zero ∙ zero-on (s .versions) (s .statuses) (slotCount (a .head)) (a .first .at) (at .loop .k);
       line = c .before .before .line-on .ensures ∙ line-on (a .head) s (x .versions) (a .first .at) (at .loop .k);
-      known = summary-on (a .head) s x (a .holidays .now) (a .first .at) (at .loop .k) _ _ _ _ (at .loop .inv .known) (c .add .ensures) (found .0) (found .1);
+      known =
+          summary-on (a .head) s x (a .holidays .now) (a .first .at) (at .loop .k) _ _ _ _ (at .loop .inv .known) (c .add .ensures)
+          (found .0) (found .1);
     }
 
 returns : tie.Need-returns Inv-loop μ-loop

@@ -15,47 +15,82 @@ use borrow.Author.Needs.{needs}
 use Rattle.rules.proofs.stretch.enter.Statement.{statement}
 use Rattle.rules.proofs.stretch.enter.Tie as tie
 
+-- ---- Places
+
+abbrev start : tie.After-struct-known → tie.Start
+start c = c .before .before .before .before .before .before .before .before .before .before
+
+abbrev after-next-read : tie.After-known-told → tie.After-next-read
+after-next-read c = c .before .before .before
+
+abbrev after-next-read-reach : tie.After-reach → tie.After-next-read
+after-next-read-reach c = after-next-read (c .before)
+
+abbrev after-next-read-no-span2 : tie.After-no-span2 → tie.After-next-read
+after-next-read-no-span2 c = c .before .before .before .before .before
+
+-- ---- Needs
+
 no-span-requires : tie.Need-no-span-requires
 no-span-requires c κs = search needs
 
 returns : tie.Need-returns
-returns c = let a = c .before .before .before .before .before .before .before .before .before .before .before .before .args in
-    let w = bounded (a .head) (c .before .before .before .before .before .before .before .before .before .before .before .before .pre .0 .lent .fitted .head) in
-    let b = cells (slots (a .values .now) (a .versions .now) (a .statuses .now)) (a .holidays .now) (a .readings .now) (a .reads .now) (agreedLists (a .agreed .now) (a .agreed-versions .now)) (a .widths .now) in
-    let k = carried-on (a .head) w b (a .walk .at) (c .before .before .before .before .before .before .before .before .before .before .before .before .pre .1 .inside) (λ z. c .before .if1 .taken (z ∙ ap (λ (s : Stretch). s .until) (sym (c .before .before .before .before .before .before .before .before .before .before .before .before .pre .1 .stretch)))) in
-    (c .no-span .ensures .0 ∙ sym (k .0), c .no-span .ensures .1 ∙ c .before .before .before .before .before .before .before .before .before .before .before .before .pre .1 .stretch ∙ k .1)
+returns c =
+    let begun = start (c .before .before) in
+    let a = begun .args in
+    let w = bounded (a .head) (begun .pre .0 .lent .fitted .head) in
+    let b = cells (slots (a .values .now) (a .versions .now) (a .statuses .now)) (a .holidays .now) (a .readings .now) (a .reads .now)
+    (agreedLists (a .agreed .now) (a .agreed-versions .now)) (a .widths .now) in
+    let k = carried-on (a .head) w b (a .walk .at) (begun .pre .1 .inside)
+    (λ z. c .before .if1 .taken (z ∙ ap (λ (s : Stretch). s .until) (sym (begun .pre .1 .stretch)))) in
+    (c .no-span .ensures .0 ∙ sym (k .0), c .no-span .ensures .1 ∙ begun .pre .1 .stretch ∙ k .1)
 
 slots-per-day-requires : tie.Need-slots-per-day-requires
-slots-per-day-requires c κs = c .before .before .before .before .before .before .before .before .before .before .before .pre .0 .lent .fitted .head
+slots-per-day-requires c κs = start (c .before) .pre .0 .lent .fitted .head
 
 div-day : tie.Need-div-day
-div-day c = let w = bounded (c .before .before .before .before .before .before .before .before .before .before .before .before .args .head) (c .before .before .before .before .before .before .before .before .before .before .before .before .pre .0 .lent .fitted .head) in
+div-day c = let w = bounded (start (c .before .before) .args .head) (start (c .before .before) .pre .0 .lent .fitted .head) in
     omega (arith, c .slots-per-day .ensures, w .day-low)
 
 add-next-read : tie.Need-add-next-read
-add-next-read c = let a = c .before .before .before .before .before .before .before .before .before .before .before .before .args in
-    let w = bounded (a .head) (c .before .before .before .before .before .before .before .before .before .before .before .before .pre .0 .lent .fitted .head) in
-    rw (c .slots-per-day .ensures) (omega (arith, w .days-high, day-below (a .head) w (a .walk .at) (c .before .before .before .before .before .before .before .before .before .before .before .before .pre .1 .inside)))
+add-next-read c =
+    let begun = start (c .before .before) in
+    let a = begun .args in
+    let w = bounded (a .head) (begun .pre .0 .lent .fitted .head) in
+    rw (c .slots-per-day .ensures) (omega (arith, w .days-high, day-below (a .head) w (a .walk .at) (begun .pre .1 .inside)))
 
 next-read-requires : tie.Need-next-read-requires
-next-read-requires c κs = let a = c .before .before .before .before .before .before .before .before .before .before .before .before .args in
-    let w = bounded (a .head) (c .before .before .before .before .before .before .before .before .before .before .before .before .pre .0 .lent .fitted .head) in
-    rw (c .slots-per-day .ensures, c .before .before .before .before .before .before .before .before .before .before .before .before .pre .0 .reads) (omega (arith, day-below (a .head) w (a .walk .at) (c .before .before .before .before .before .before .before .before .before .before .before .before .pre .1 .inside)))
+next-read-requires c κs =
+    let begun = start (c .before .before) in
+    let a = begun .args in
+    let w = bounded (a .head) (begun .pre .0 .lent .fitted .head) in
+    rw (c .slots-per-day .ensures, begun .pre .0 .reads) (omega (arith, day-below (a .head) w (a .walk .at) (begun .pre .1 .inside)))
 
 enum-known-next : tie.Need-enum-known-next
 enum-known-next c = search needs
 
 reach-requires : tie.Need-reach-requires
-reach-requires c κs = let a = c .before .before .before .before .before .before .before .before .before .before .before .before .before .before .before .before .args in
-    let w = bounded (a .head) (c .before .before .before .before .before .before .before .before .before .before .before .before .before .before .before .before .pre .0 .lent .fitted .head) in
-    let b = cells (slots (a .values .now) (a .versions .now) (a .statuses .now)) (a .holidays .now) (a .readings .now) (a .reads .now) (agreedLists (a .agreed .now) (a .agreed-versions .now)) (a .widths .now) in
+reach-requires c κs =
+    let at-next-read = after-next-read c in
+    let begun = start (at-next-read .before .before .before) in
+    let a = begun .args in
+    let w = bounded (a .head) (begun .pre .0 .lent .fitted .head) in
+    let b = cells (slots (a .values .now) (a .versions .now) (a .statuses .now)) (a .holidays .now) (a .readings .now) (a .reads .now)
+    (agreedLists (a .agreed .now) (a .agreed-versions .now)) (a .widths .now) in
     let d = a .walk .at / slotsPerDay (a .head) in
     let last = c .before .next .given .0 .0 in
-    let e : nextRead (a .reads .now) (d + 1) (a .head .days - d) ≡ some last = next-behind (a .head) (a .reads .now) d (some last) (c .before .before .before .before .before .before .before .before .before .before .before .before .before .before .before .before .pre .0 .reads) (rw (c .before .before .before .before .slots-per-day .ensures) at (sym (c .before .before .before .next-read .ensures) ∙ ap nextMeant (c .before .next .given .1))) in
+    let e : nextRead (a .reads .now) (d + 1) (a .head .days - d) ≡ some last =
+    next-behind (a .head) (a .reads .now) d (some last) (begun .pre .0 .reads)
+    (rw (at-next-read .before .slots-per-day .ensures) at
+    (sym (c .before .before .before .next-read .ensures) ∙ ap nextMeant (c .before .next .given .1))) in
     let t = next-tells (a .reads .now) (a .head .days - d) (d + 1) last e in
-    let k = carried-ends (a .head) w b (a .walk .at) (c .before .before .before .before .before .before .before .before .before .before .before .before .before .before .before .before .pre .1 .inside) (c .before .before .before .before .before .if1 .left ∙ ap (λ (s : Stretch). s .until) (c .before .before .before .before .before .before .before .before .before .before .before .before .before .before .before .before .pre .1 .stretch)) in
-    let y = day-below (a .head) w (a .walk .at) (c .before .before .before .before .before .before .before .before .before .before .before .before .before .before .before .before .pre .1 .inside) in
-    rw (c .before .before .before .before .slots-per-day .ensures) (c .before .before .before .before .before .before .before .before .before .before .before .before .before .before .before .before .pre .0, record { ordered = omega (arith, t .low); within = omega (arith, t .high, y); known = c .before .before .before .before .before .before .before .before .before .before .before .before .before .before .before .before .pre .1 .known; at-first = k .0 })
+    let k = carried-ends (a .head) w b (a .walk .at) (begun .pre .1 .inside)
+    (at-next-read .before .before .if1 .left ∙ ap (λ (s : Stretch). s .until) (begun .pre .1 .stretch)) in
+    let y = day-below (a .head) w (a .walk .at) (begun .pre .1 .inside) in
+    rw (at-next-read .before .slots-per-day .ensures) (
+      begun .pre .0,
+      record { ordered = omega (arith, t .low); within = omega (arith, t .high, y); known = begun .pre .1 .known; at-first = k .0 },
+    )
 
 enum-told : tie.Need-enum-told
 enum-told c = search needs
@@ -70,24 +105,43 @@ no-span-requires-2 : tie.Need-no-span-requires-2
 no-span-requires-2 c κs = search needs
 
 returns-2 : tie.Need-returns-2
-returns-2 c = let a = c .before .before .before .before .before .before .before .before .before .before .before .before .before .before .before .before .before .args in
-    let w = bounded (a .head) (c .before .before .before .before .before .before .before .before .before .before .before .before .before .before .before .before .before .pre .0 .lent .fitted .head) in
-    let b = cells (slots (a .values .now) (a .versions .now) (a .statuses .now)) (a .holidays .now) (a .readings .now) (a .reads .now) (agreedLists (a .agreed .now) (a .agreed-versions .now)) (a .widths .now) in
+returns-2 c =
+    let at-next-read = after-next-read-reach c in
+    let begun = start (at-next-read .before .before .before) in
+    let a = begun .args in
+    let w = bounded (a .head) (begun .pre .0 .lent .fitted .head) in
+    let b = cells (slots (a .values .now) (a .versions .now) (a .statuses .now)) (a .holidays .now) (a .readings .now) (a .reads .now)
+    (agreedLists (a .agreed .now) (a .agreed-versions .now)) (a .widths .now) in
     let d = a .walk .at / slotsPerDay (a .head) in
     let last = c .before .before .next .given .0 .0 in
-    let e : nextRead (a .reads .now) (d + 1) (a .head .days - d) ≡ some last = next-behind (a .head) (a .reads .now) d (some last) (c .before .before .before .before .before .before .before .before .before .before .before .before .before .before .before .before .before .pre .0 .reads) (rw (c .before .before .before .before .before .slots-per-day .ensures) at (sym (c .before .before .before .before .next-read .ensures) ∙ ap nextMeant (c .before .before .next .given .1))) in
-    let k = carried-ends (a .head) w b (a .walk .at) (c .before .before .before .before .before .before .before .before .before .before .before .before .before .before .before .before .before .pre .1 .inside) (c .before .before .before .before .before .before .if1 .left ∙ ap (λ (s : Stretch). s .until) (c .before .before .before .before .before .before .before .before .before .before .before .before .before .before .before .before .before .pre .1 .stretch)) in
-    let r = rw (c .before .before .before .before .before .slots-per-day .ensures) at (c .reach .ensures) in
+    let e : nextRead (a .reads .now) (d + 1) (a .head .days - d) ≡ some last =
+    next-behind (a .head) (a .reads .now) d (some last) (begun .pre .0 .reads)
+    (simp (at-next-read .before .slots-per-day .ensures) at
+    (sym (at-next-read .next-read .ensures) ∙ ap nextMeant (c .before .before .next .given .1))) in
+    let k = carried-ends (a .head) w b (a .walk .at) (begun .pre .1 .inside)
+    (at-next-read .before .before .if1 .left ∙ ap (λ (s : Stretch). s .until) (begun .pre .1 .stretch)) in
+    let r = rw (at-next-read .before .slots-per-day .ensures) at (c .reach .ensures) in
     (r .0 ∙ begins-some (a .head) w b (a .walk .at) (k .0) last e, r .1 ∙ stretch-some (a .head) w b (a .walk .at) last (k .1) e)
 
 returns-3 : tie.Need-returns-3
-returns-3 c = let a = c .before .before .before .before .before .before .before .before .before .before .before .before .before .before .before .before .before .before .args in
-    let w = bounded (a .head) (c .before .before .before .before .before .before .before .before .before .before .before .before .before .before .before .before .before .before .pre .0 .lent .fitted .head) in
-    let b = cells (slots (a .values .now) (a .versions .now) (a .statuses .now)) (a .holidays .now) (a .readings .now) (a .reads .now) (agreedLists (a .agreed .now) (a .agreed-versions .now)) (a .widths .now) in
+returns-3 c =
+    let at-next-read = after-next-read-no-span2 c in
+    let begun = start (at-next-read .before .before .before) in
+    let a = begun .args in
+    let w = bounded (a .head) (begun .pre .0 .lent .fitted .head) in
+    let b = cells (slots (a .values .now) (a .versions .now) (a .statuses .now)) (a .holidays .now) (a .readings .now) (a .reads .now)
+    (agreedLists (a .agreed .now) (a .agreed-versions .now)) (a .widths .now) in
     let d = a .walk .at / slotsPerDay (a .head) in
-    let e : nextRead (a .reads .now) (d + 1) (a .head .days - d) ≡ none = next-behind (a .head) (a .reads .now) d none (c .before .before .before .before .before .before .before .before .before .before .before .before .before .before .before .before .before .before .pre .0 .reads) (rw (c .before .before .before .before .before .before .slots-per-day .ensures) at (sym (c .before .before .before .before .before .next-read .ensures) ∙ ap nextMeant (c .before .before .before .enum-told .given .1))) in
-    let k = carried-ends (a .head) w b (a .walk .at) (c .before .before .before .before .before .before .before .before .before .before .before .before .before .before .before .before .before .before .pre .1 .inside) (c .before .before .before .before .before .before .before .if1 .left ∙ ap (λ (s : Stretch). s .until) (c .before .before .before .before .before .before .before .before .before .before .before .before .before .before .before .before .before .before .pre .1 .stretch)) in
-    (c .no-span2 .ensures .0 ∙ sym (begins-none (a .head) w b (a .walk .at) (k .0) e), c .no-span2 .ensures .1 ∙ c .before .unscaled-to .ensures ∙ (rw (c .before .before .slot-count .ensures) (sym (stretch-none (a .head) w b (a .walk .at) e))))
+    let e : nextRead (a .reads .now) (d + 1) (a .head .days - d) ≡ none =
+    next-behind (a .head) (a .reads .now) d none (begun .pre .0 .reads)
+    (simp (at-next-read .before .slots-per-day .ensures) at
+    (sym (at-next-read .next-read .ensures) ∙ ap nextMeant (c .before .before .before .enum-told .given .1))) in
+    let k = carried-ends (a .head) w b (a .walk .at) (begun .pre .1 .inside)
+    (at-next-read .before .before .if1 .left ∙ ap (λ (s : Stretch). s .until) (begun .pre .1 .stretch)) in (
+      c .no-span2 .ensures .0 ∙ sym (begins-none (a .head) w b (a .walk .at) (k .0) e),
+      c .no-span2 .ensures .1 ∙ c .before .unscaled-to .ensures
+          ∙ (rw (c .before .before .slot-count .ensures) (sym (stretch-none (a .head) w b (a .walk .at) e))),
+    )
 
 pub enter-spec : {M : Type 1} → statement M
 enter-spec =

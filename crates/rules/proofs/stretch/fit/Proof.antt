@@ -8,6 +8,16 @@ use borrow.Author.Needs.{needs}
 use Rattle.rules.proofs.stretch.fit.Statement.{statement}
 use Rattle.rules.proofs.stretch.fit.Tie as tie
 
+-- ---- Places
+
+abbrev start : tie.After-is-substituted → tie.Start
+start c = c .before .before .before .before
+
+abbrev after-is-substituted : tie.After-rest → tie.After-is-substituted
+after-is-substituted c = c .before .before .before .before
+
+-- ---- Needs
+
 returns : tie.Need-returns
 unfolding fitOutcome fitNext
 returns c = let z : c .before .before .before .args .here .by .whole ≡ 0 = c .if1 .taken in
@@ -18,19 +28,24 @@ is-substituted-requires c κs = search needs
 
 returns-2 : tie.Need-returns-2
 unfolding fitOutcome fitNext
-returns-2 c = let q : isS (c .before .before .before .before .before .args .slot .quality) ≡ false = sym (c .before .is-substituted .ensures) ∙ not-true _ (c .if2 .taken) in
+returns-2 c =
+    let q : isS (start (c .before) .args .slot .quality) ≡ false = sym (c .before .is-substituted .ensures) ∙ not-true _ (c .if2 .taken) in
     rw q (refl, refl)
 
 scale-requires : tie.Need-scale-requires
-scale-requires c κs = c .before .before .before .before .before .pre .scales (sym (c .before .is-substituted .ensures) ∙ not-false _ (c .if2 .left)) (c .before .before .if1 .left)
+scale-requires c κs =
+    start (c .before) .pre .scales (sym (c .before .is-substituted .ensures) ∙ not-false _ (c .if2 .left)) (c .before .before .if1 .left)
 
 add-t13 : tie.Need-add-t13
 add-t13 c = search needs
 
 returns-3 : tie.Need-returns-3
 unfolding fitOutcome fitNext
-returns-3 c = let q : isS (c .before .before .before .before .before .before .before .before .args .slot .quality) ≡ true = sym (c .before .before .before .before .is-substituted .ensures) ∙ not-false _ (c .before .before .before .if2 .left) in
-    rw (q, ne-eqb _ _ (c .before .before .before .before .before .if1 .left), c .before .before .scale .ensures) (refl, refl)
+returns-3 c =
+    let at-is-substituted = after-is-substituted c in
+    let q : isS (start at-is-substituted .args .slot .quality) ≡ true = sym (at-is-substituted .is-substituted .ensures)
+    ∙ not-false _ (c .before .before .before .if2 .left) in
+    rw (q, ne-eqb _ _ (at-is-substituted .before .if1 .left), c .before .before .scale .ensures) (refl, refl)
 
 pub fit-spec : {M : Type 1} → statement M
 fit-spec =

@@ -14,18 +14,35 @@ use borrow.Author.Needs.{needs}
 use Rattle.rules.proofs.stretch.reach.Statement.{statement}
 use Rattle.rules.proofs.stretch.reach.Tie as tie
 
+-- ---- Places
+
+abbrev start : tie.After-shared-slice-known10 → tie.Start
+start c = c .before .before .before .before .before .before .before .before .before .before
+
+abbrev start-no-span : tie.After-no-span → tie.Start
+start-no-span c = start (c .before .before .before .before)
+
+abbrev start-stretch : tie.After-stretch → tie.Start
+start-stretch c = start (c .before .before .before .before)
+
+-- ---- Needs
+
 mul-if1 : tie.Need-mul-if1
 mul-if1 c = search needs
 
 shared-slice-read-if1 : tie.Need-shared-slice-read-if1
-shared-slice-read-if1 c = omega (arith, c .before .before .before .before .before .before .before .before .before .before .pre .0 .reads, c .before .before .before .before .before .before .before .before .before .before .pre .1 .ordered, c .before .before .before .before .before .before .before .before .before .before .pre .1 .within)
+shared-slice-read-if1 c =
+    let begun = start c in
+    omega (arith, begun .pre .0 .reads, begun .pre .1 .ordered, begun .pre .1 .within)
 
 slots-per-day-requires : tie.Need-slots-per-day-requires
-slots-per-day-requires c κs = c .before .before .before .before .before .before .before .before .before .before .before .pre .0 .lent .fitted .head
+slots-per-day-requires c κs = start (c .before) .pre .0 .lent .fitted .head
 
 mul-unscaled-to : tie.Need-mul-unscaled-to
-mul-unscaled-to c = let b = bounded (c .before .before .before .before .before .before .before .before .before .before .before .before .args .head) (c .before .before .before .before .before .before .before .before .before .before .before .before .pre .0 .lent .fitted .head) in
-    let p : c .before .before .before .before .before .before .before .before .before .before .before .before .args .last ≤ 400 = omega (arith, b .days-high, c .before .before .before .before .before .before .before .before .before .before .before .before .pre .1 .within) in
+mul-unscaled-to c =
+    let begun = start (c .before .before) in
+    let b = bounded (begun .args .head) (begun .pre .0 .lent .fitted .head) in
+    let p : begun .args .last ≤ 400 = omega (arith, b .days-high, begun .pre .1 .within) in
     let q : c .slots-per-day .result ≤ 288 = omega (arith, c .slots-per-day .ensures, b .day-high) in
     omega (arith, mul-le-mul p q)
 
@@ -37,17 +54,27 @@ no-span-requires c κs = search needs
 
 returns : tie.Need-returns
 unfolding beginsWith stretchFrom
-returns c = rw (unread (c .before .before .before .before .before .before .before .before .before .before .before .before .before .before .args .reads .now) (c .before .before .before .before .before .before .before .before .before .before .before .before .before .before .args .day) (c .before .before .before .if1 .taken)) (c .no-span .ensures .0, c .no-span .ensures .1 ∙ c .before .unscaled-to .ensures ∙ (rw (c .before .before .slots-per-day .ensures)))
+returns c =
+    rw (unread (start-no-span c .args .reads .now) (start-no-span c .args .day) (c .before .before .before .if1 .taken))
+    (c .no-span .ensures .0, c .no-span .ensures .1 ∙ c .before .unscaled-to .ensures ∙ (rw (c .before .before .slots-per-day .ensures)))
 
 meet-requires : tie.Need-meet-requires
-meet-requires c κs = (c .before .before .before .before .before .before .before .before .before .before .before .pre .0 .lent, c .before .before .before .before .before .before .before .before .before .before .before .pre .0 .dialled, c .before .before .before .before .before .before .before .before .before .before .before .pre .0 .settled, c .before .before .before .before .before .before .before .before .before .before .before .pre .1, c .before .before .before .before .before .before .before .before .before .before .before .pre .0 .widths)
+meet-requires c κs =
+    let begun = start (c .before) in
+    (begun .pre .0 .lent, begun .pre .0 .dialled, begun .pre .0 .settled, begun .pre .1, begun .pre .0 .widths)
 
 returns-2 : tie.Need-returns-2
 unfolding beginsWith stretchFrom
-returns-2 c = let a = c .before .before .before .before .before .before .before .before .before .before .before .before .before .before .args in
+returns-2 c = let a = start-stretch c .args in
     let s = slots (a .values .now) (a .versions .now) (a .statuses .now) in
     let g = agreedLists (a .agreed .now) (a .agreed-versions .now) in
-    rw (is-read (a .reads .now) (a .day) (c .before .before .before .if1 .left)) (ap Span (c .before .before .meet .ensures .0 ∙ span-versions (a .head) s (a .holidays .now) (a .readings .now) [] (a .reads .now) g (a .widths .now) (a .day) (a .last)), c .before .before .meet .ensures .1 ∙ stretch-versions (a .head) s (a .holidays .now) (a .readings .now) [] (a .reads .now) g (a .widths .now) (a .day) (a .last) (a .walk .at))
+    rw (is-read (a .reads .now) (a .day) (c .before .before .before .if1 .left)) (
+      ap Span (c .before .before .meet .ensures .0
+          ∙ span-versions (a .head) s (a .holidays .now) (a .readings .now) [] (a .reads .now) g (a .widths .now) (a .day) (a .last)),
+      c .before .before .meet .ensures .1
+          ∙ stretch-versions (a .head) s (a .holidays .now) (a .readings .now) [] (a .reads .now) g (a .widths .now) (a .day) (a .last)
+          (a .walk .at),
+    )
 
 pub reach-spec : {M : Type 1} → statement M
 reach-spec =

@@ -11,6 +11,16 @@ use Rattle.rules.proofs.Bounds.{bounded}
 use Rattle.rules.proofs.weeks.way_back.Statement.{statement}
 use Rattle.rules.proofs.weeks.way_back.Tie as tie
 
+-- ---- Places
+
+abbrev start : tie.After-first-day → tie.Start
+start c = c .before .before .before .before
+
+abbrev start-way-within : tie.After-way-within → tie.Start
+start-way-within c = c .before .before .before .before
+
+-- ---- Needs
+
 shared-slice-read-if1 : tie.Need-shared-slice-read-if1
 shared-slice-read-if1 c = search needs
 
@@ -22,7 +32,7 @@ way-within-requires c κs =
 returns : tie.Need-returns
 unfolding firstBack farthestBack
 returns c =
-    let a = c .before .before .before .before .args in
+    let a = start-way-within c .args in
     let e : getD (a .holidays .now) (a .day) 0 ≡ 0 = c .before .if1 .taken in
     rw (eq-eqb _ _ e) (c .way-within .ensures .0, c .way-within .ensures .1)
 
@@ -33,11 +43,11 @@ cast-number : tie.Need-cast-number
 cast-number c = search needs
 
 add-number : tie.Need-add-number
-add-number c = omega (arith, bounded (c .before .before .before .before .args .head) (c .before .before .before .before .pre .0))
+add-number c = omega (arith, bounded (start c .args .head) (start c .pre .0))
 
 to-sunday-requires : tie.Need-to-sunday-requires
 to-sunday-requires c κs =
-    let b = bounded (c .before .before .before .before .args .head) (c .before .before .before .before .pre .0) in
+    let b = bounded (start c .args .head) (start c .pre .0) in
     omega arith
 
 cast-way-within : tie.Need-cast-way-within
@@ -45,13 +55,16 @@ cast-way-within c = search needs
 
 way-within-requires-2 : tie.Need-way-within-requires-2
 way-within-requires-2 c κs =
-    let b = bounded (c .before .before .before .before .before .args .head) (c .before .before .before .before .before .pre .0) in
-    let t = one-to-seven (c .before .first-day .result + c .before .before .before .before .before .args .day) in
+    let begun = start (c .before) in
+    let b = bounded (begun .args .head) (begun .pre .0) in
+    let t = one-to-seven (c .before .first-day .result + begun .args .day) in
     (omega arith, omega arith, omega arith)
 
 returns-2 : tie.Need-returns-2
 unfolding firstBack farthestBack
-returns-2 c = rw (ne-eqb _ _ (c .before .before .before .if1 .left)) (c .way-within2 .ensures .0 ∙ c .before .to-sunday .ensures ∙ rw (c .before .before .first-day .ensures), c .way-within2 .ensures .1)
+returns-2 c =
+    rw (ne-eqb _ _ (c .before .before .before .if1 .left))
+    (c .way-within2 .ensures .0 ∙ c .before .to-sunday .ensures ∙ rw (c .before .before .first-day .ensures), c .way-within2 .ensures .1)
 
 pub way-back-spec : {M : Type 1} → statement M
 way-back-spec =
