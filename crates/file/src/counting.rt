@@ -8,6 +8,7 @@ ghost use lib.Dec.{eqb, leb};
 ghost use lib.ListN.{length};
 ghost use Rattle.base.specs.Numbers.{eightDigits};
 ghost use Rattle.rules.specs.Spans.{isScaled};
+ghost use Rattle.rules.specs.Numbers.{mostSlots};
 ghost use Rattle.file.specs.Inner.Reading.{isPlain, IsRest, Within, metBy, countedWith, countedIn};
 
 // Whether the records have their forms, but for the values of F, of which this is the highest; the counts of A, of S and F,
@@ -64,7 +65,7 @@ fn higher(a: u32, b: u32) -> u32
 }
 
 fn with_plain(found: Counted, slot: SlotRecord) -> Counted
-    requires { ⌜ Within 115_200 (metBy found) × (isPlain slot ≡ true) ⌝ }
+    requires { ⌜ Within mostSlots (metBy found) × (isPlain slot ≡ true) ⌝ }
     ensures { λ r. ⌜ metBy r ≡ countedWith (metBy found) slot ⌝ }
 {
     Counted {
@@ -79,7 +80,7 @@ fn with_plain(found: Counted, slot: SlotRecord) -> Counted
 }
 
 fn with_none(found: Counted, slot: SlotRecord) -> Counted
-    requires { ⌜ Within 115_200 (metBy found) × (slot .letter ≡ 78) ⌝ }
+    requires { ⌜ Within mostSlots (metBy found) × (slot .letter ≡ 78) ⌝ }
     ensures { λ r. ⌜ metBy r ≡ countedWith (metBy found) slot ⌝ }
 {
     Counted {
@@ -94,7 +95,7 @@ fn with_none(found: Counted, slot: SlotRecord) -> Counted
 }
 
 fn with_substituted(found: Counted, slot: SlotRecord) -> Counted
-    requires { ⌜ Within 115_200 (metBy found) × (slot .letter ≡ 83) ⌝ }
+    requires { ⌜ Within mostSlots (metBy found) × (slot .letter ≡ 83) ⌝ }
     ensures { λ r. ⌜ metBy r ≡ countedWith (metBy found) slot ⌝ }
 {
     Counted {
@@ -110,7 +111,7 @@ fn with_substituted(found: Counted, slot: SlotRecord) -> Counted
 
 // F counts with S and by itself.
 fn with_agreed(found: Counted, slot: SlotRecord) -> Counted
-    requires { ⌜ Within 115_200 (metBy found) × (slot .letter ≡ 70) ⌝ }
+    requires { ⌜ Within mostSlots (metBy found) × (slot .letter ≡ 70) ⌝ }
     ensures { λ r. ⌜ metBy r ≡ countedWith (metBy found) slot ⌝ }
 {
     Counted {
@@ -136,7 +137,7 @@ fn one(slot: SlotRecord, letter: u8) -> usize
 
 // (A,1), or a record of no form.
 fn with_rest(found: Counted, slot: SlotRecord) -> Counted
-    requires { ⌜ Within 115_200 (metBy found) × IsRest slot ⌝ }
+    requires { ⌜ Within mostSlots (metBy found) × IsRest slot ⌝ }
     ensures { λ r. ⌜ metBy r ≡ countedWith (metBy found) slot ⌝ }
 {
     Counted {
@@ -152,7 +153,7 @@ fn with_rest(found: Counted, slot: SlotRecord) -> Counted
 
 // The totals with one slot more.
 fn with_slot(found: Counted, slot: SlotRecord) -> Counted
-    requires { ⌜ Within 115_200 (metBy found) ⌝ }
+    requires { ⌜ Within mostSlots (metBy found) ⌝ }
     ensures { λ r. ⌜ metBy r ≡ countedWith (metBy found) slot ⌝ }
 {
     if slots::is_plain(slot) {
@@ -172,7 +173,7 @@ fn with_slot(found: Counted, slot: SlotRecord) -> Counted
 
 // The totals of the first `k` slots.
 pub fn totals(file: &[u8], k: usize) -> Counted
-    requires { ⌜ (6 * k ≤ length (now file)) × (k ≤ 115_200) ⌝ }
+    requires { ⌜ (6 * k ≤ length (now file)) × (k ≤ mostSlots) ⌝ }
     ensures { λ r. ⌜ metBy r ≡ countedIn (now (file .entry)) k ⌝ }
 {
     let mut found = Counted {

@@ -8,6 +8,7 @@ ghost use lib.ListN.{length};
 ghost use Rattle.base.specs.Lists.{any};
 ghost use Rattle.rules.specs.Spans.{isScaled};
 ghost use Rattle.file.specs.Reader.{slotAt};
+ghost use Rattle.rules.specs.Numbers.{mostSlots};
 ghost use Rattle.file.specs.Inner.Reading.{isPlain, isKindless, isKind, kindAt, talliedWith, talliedIn};
 
 // A record of the slot table.
@@ -114,7 +115,7 @@ fn also(found: bool, kind: Kind, slot: SlotRecord) -> bool
 
 // The tally with one slot more: nearly every one is of no kind.
 fn tally_with(found: Tally, slot: SlotRecord) -> Tally
-    requires { ⌜ found .sum ≤ 2 ^ 32 * 115_200 ⌝ }
+    requires { ⌜ found .sum ≤ 2 ^ 32 * mostSlots ⌝ }
     ensures { λ r. ⌜ r ≡ talliedWith found slot ⌝ }
 {
     let sum = found.sum + slot.value as u64;
@@ -138,7 +139,7 @@ fn tally_with(found: Tally, slot: SlotRecord) -> Tally
 
 // The tally of the `k` slots from slot `a`.
 pub fn tally_of(file: &[u8], a: usize, k: usize) -> Tally
-    requires { ⌜ (6 * (a + k) ≤ length (now file)) × (k ≤ 115_200) ⌝ }
+    requires { ⌜ (6 * (a + k) ≤ length (now file)) × (k ≤ mostSlots) ⌝ }
     ensures { λ r. ⌜ r ≡ talliedIn (now (file .entry)) a k ⌝ }
 {
     let mut found = Tally {

@@ -6,7 +6,7 @@ ghost use mathlib.Core.Path.{_≡_};
 ghost use mathlib.Core.Bool.{true};
 ghost use Prim.Native.Nat.{_*_, _/_, _≤_};
 ghost use lib.ListN.{length};
-ghost use Rattle.rules.specs.Numbers.{dayMinutes};
+ghost use Rattle.rules.specs.Numbers.{dayMinutes, mostSlots};
 ghost use Rattle.base.specs.Lists.{every};
 ghost use Rattle.file.specs.Layout.{spanTableBytes};
 ghost use Rattle.file.specs.Reader.{figures, headFieldTests, layoutOk, fileSlots, trailerOk};
@@ -47,7 +47,7 @@ pub fn per_day(g: Figures) -> usize
 // N, the slots of the book.
 pub fn slot_count(g: Figures) -> usize
     requires { ⌜ every (headFieldTests (g .first) (g .days) (g .interval)) ≡ true ⌝ }
-    ensures { λ r. ⌜ (r ≡ fileSlots g) × (r ≤ 115_200) ⌝ }
+    ensures { λ r. ⌜ (r ≡ fileSlots g) × (r ≤ mostSlots) ⌝ }
 {
     per_day(g) * g.days as usize
 }

@@ -9,6 +9,10 @@ mostDays = 400
 abbrev pub dayMinutes : ℕ
 dayMinutes = 1440
 
+-- the slots of the longest book, 400 days of 5 minutes
+abbrev pub mostSlots : ℕ
+mostSlots = 115_200
+
 -- "a tolerance t of 0 to 1,000,000 Wh"
 abbrev pub mostTolerance : ℕ
 mostTolerance = 1_000_000

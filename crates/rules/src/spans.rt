@@ -18,6 +18,7 @@ ghost use Rattle.rules.specs.Spans.{isS, advance, stateBy, share};
 ghost use Rattle.rules.specs.Lent.{lentSlots, lentAgreed};
 ghost use Rattle.rules.specs.Inner.Lent.{Lent, Settled, Dialled, Widths};
 ghost use Rattle.rules.specs.Inner.Walks.{walkAt};
+ghost use Rattle.rules.specs.Numbers.{mostSlots};
 ghost use Rattle.rules.specs.Inner.Summaries.{summaryOf, actualAdded, addedTo, comparedWith, scalingOf, scaledBy, Scales};
 
 // V, the sum and the number of the shapes, whether a slot is N, whether one is S.
@@ -66,7 +67,7 @@ fn add_actual(sum: Summary, value: u64) -> Summary
 
 // One slot more, of at most 115,200: an A or F value is at most 99,999,999 Wh, a shape 6,000,000, all shapes together 115,200,000,000.
 fn add(sum: Summary, slot: Outcome, shape: u64) -> Summary
-    requires { ⌜ (sum .actual ≤ 11_519_999_884_800) × (sum .shapes ≤ 115_200_000_000) × (sum .count ≤ 115_200) × (shape ≤ 6_000_000) ⌝ }
+    requires { ⌜ (sum .actual ≤ 11_519_999_884_800) × (sum .shapes ≤ 115_200_000_000) × (sum .count ≤ mostSlots) × (shape ≤ 6_000_000) ⌝ }
     ensures { λ r. ⌜ r ≡ addedTo sum slot shape ⌝ }
 {
     let value = slot.value as u64;

@@ -12,6 +12,7 @@ use Rattle.rules.specs.declared.Head.{Head}
 use Rattle.rules.specs.declared.Outcome.{Outcome}
 use Rattle.rules.specs.declared.Span.{Span}
 use Rattle.rules.specs.Opening.{Slots, Agreed, Cells, headOk, slotCount}
+use Rattle.rules.specs.Numbers.{mostSlots}
 use Rattle.rules.specs.Spans.{isA, isS, isF, isN, outcomeAt, spans}
 use Rattle.rules.specs.Inner.Lent.{Whole}
 use Rattle.rules.specs.Inner.Stretches.{stretchAt}
@@ -49,10 +50,10 @@ addedTo t o = record {
 
 -- totals that one slot more keeps in their numbers
 pub record Countable (t : Totals) : Type 0 where
-  pub actual : t .actual ≤ 115_200
-  pub substituted : t .substituted ≤ 115_200
-  pub agreed : t .agreed ≤ 115_200
-  pub none : t .none ≤ 115_200
+  pub actual : t .actual ≤ mostSlots
+  pub substituted : t .substituted ≤ mostSlots
+  pub agreed : t .agreed ≤ mostSlots
+  pub none : t .none ≤ mostSlots
   pub sum : t .sum ≤ 11_520_000_000_000
 
 -- the totals with the k direct slots from slot `from`
