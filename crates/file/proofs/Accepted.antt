@@ -18,21 +18,24 @@ use Rattle.rules.specs.declared.Quality.the-variants.{A, S, F, N}
 use Rattle.rules.specs.Spans.{isA, isS, isF, isN}
 use Rattle.file.specs.declared.Verdict.the-variants.{Accepted}
 use Rattle.file.specs.Layout.{Content, letter, total, one, row, ranged, spanWidth, trailerRow, figuresOf, tablesOf, fileOf}
-use Rattle.file.specs.Reader.{figures, fileSlots, layoutFits, countOf, tablesAt, trailerOk, tablesOk, figuresOk, readFile, partOf, tablesPart}
+use Rattle.file.specs.Reader.{figures, fileSlots, layoutFits, countOf, tablesAt, trailerOk, tablesOk, figuresOk, readFile, partOf}
+use Rattle.file.specs.Reader.{tablesPart}
 use Rattle.file.specs.Contents.{WellFormed, slot, noSlot, recordsOf}
 use Rattle.file.proofs.Rows.{length-row}
 use Rattle.file.proofs.Lists.{total-sum, total-le}
 use Rattle.file.proofs.Head.{slots-le}
 use Rattle.file.proofs.Records.{each}
 use Rattle.file.proofs.Fitting.{Fitting, fitting}
-use Rattle.file.proofs.Content.{slot-back, span-back, first-back, days-back, interval-back, layout-back, spans-back, distance-back, trailer-field, length-file}
+use Rattle.file.proofs.Content.{slot-back, span-back, first-back, days-back, interval-back, layout-back, spans-back, distance-back}
+use Rattle.file.proofs.Content.{trailer-field, length-file}
 use Rattle.file.proofs.Agree.{Agree, count-agree, sum-agree, tables-agree}
 use Rattle.file.proofs.Answers.{accepted-with}
 
 -- a figure of a content, as a sum over its slots
 total-slots : (f : Content) (g : Outcome → ℕ) → total g (f .slots) ≡ sum (λ i. g (slot f i)) 0 (length (f .slots))
 total-slots f g =
-    ap (total g) (sym (upTo-list (f .slots) noSlot (slot f) 0 (λ i l. ap (slot f) (zero-add i)))) ∙ total-sum g (slot f) 0 (length (f .slots))
+    ap (total g) (sym (upTo-list (f .slots) noSlot (slot f) 0 (λ i l. ap (slot f) (zero-add i))))
+    ∙ total-sum g (slot f) 0 (length (f .slots))
 
 -- a quality's test, and that of its letter
 pub record Tests (q : Quality) (p : Quality → Bool) : Type 0 where
@@ -54,7 +57,8 @@ testsN = record { same = each (λ r. eqb (letter r) (letter N) ≡ isN r) refl r
 pub count-own : (f : Content) → length (f .slots) ≡ 1440 / f .interval * f .days → (q : Quality) (p : Quality → Bool) → Tests q p
     → countOf (recordsOf f) q ≡ total (one p) (f .slots)
 count-own f e q p s =
-    rw (← e) (sum-cong _ _ 0 (length (f .slots)) (λ i _ _. ap (λ (b : Bool). cond b 1 0) (s .same (slot f i .quality))) ∙ sym (total-slots f (one p)))
+    rw (← e) (sum-cong _ _ 0 (length (f .slots)) (λ i _ _. ap (λ (b : Bool). cond b 1 0) (s .same (slot f i .quality)))
+    ∙ sym (total-slots f (one p)))
 
 pub sum-own : (f : Content) → length (f .slots) ≡ 1440 / f .interval * f .days
     → sum (λ i. slot f i .value) 0 (1440 / f .interval * f .days) ≡ total (λ o. o .value) (f .slots)

@@ -9,7 +9,8 @@ use Rattle.base.proofs.Sums.{sum-cong, any-cong, all-at, at-all}
 use Rattle.rules.specs.declared.Quality.{Quality}
 use Rattle.rules.specs.declared.Quality.the-variants.{S, N}
 use Rattle.file.specs.declared.slots.SlotRecord.{SlotRecord}
-use Rattle.file.specs.Reader.{Tables, ofQuality, scaled, unscaled, recordOk, countOf, startOf, slotsOf, has, spanOk, stateOk, liesIn, outsideOk, tableTests}
+use Rattle.file.specs.Reader.{Tables, ofQuality, scaled, unscaled, recordOk, countOf, startOf, slotsOf, has, spanOk, stateOk, liesIn}
+use Rattle.file.specs.Reader.{outsideOk, tableTests}
 use Rattle.file.proofs.Inside.{ends}
 
 pub record Agree (T U : Tables) : Type 0 where

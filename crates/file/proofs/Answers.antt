@@ -78,7 +78,8 @@ module _ (bs : List ℕ) (g : Figures) (e : readFile bs ≡ Accepted g) where
   pub tabled : Tabled bs (dayMinutes / g .interval) (g .days)
   tabled = record {
     long = omega (arith, is-ready .long);
-    some = interval-is (g .first) (g .days) (g .interval) (is-ready .head) (λ x. 1 ≤ dayMinutes / x) (omega arith) (omega arith) (omega arith);
+    some =
+        interval-is (g .first) (g .days) (g .interval) (is-ready .head) (λ x. 1 ≤ dayMinutes / x) (omega arith) (omega arith) (omega arith);
     day = per-day-le (g .first) (g .days) (g .interval) (is-ready .head);
     few = days-le (g .first) (g .days) (g .interval) (is-ready .head);
   }

@@ -19,9 +19,13 @@ use Rattle.file.specs.declared.Figures.{Figures}
 use Rattle.file.specs.declared.slots.SlotRecord.{SlotRecord}
 use Rattle.file.specs.declared.Verdict.{Verdict}
 use Rattle.file.specs.declared.Verdict.the-variants.{Accepted}
-use Rattle.file.specs.Layout.{Content, total, one, row, fieldsOf, table, slotWidths, slotRow, spanRow, ranged, spanWidth, spanTableBytes, trailerWidths, trailerRow, figuresOf, tablesOf, fileOf}
-use Rattle.file.specs.Reader.{fieldAt, slotAt, spanAt, trailerAt, trailerField, figures, layoutFits, fileSlots, tablesAt, countOf, trailerTests, tableTests, figureTests, spanTests, spanOk, trailerOk, tablesOk, figuresOk, readFile, partOf, tablesPart}
-use Rattle.file.specs.Contents.{Bytes, WellFormed, slot, span, noSlot, slotRecord, spanRecord, recordsOf, outcomeOf, spanOfRecord, contentOf}
+use Rattle.file.specs.Layout.{Content, total, one, row, fieldsOf, table, slotWidths, slotRow, spanRow, ranged, spanWidth}
+use Rattle.file.specs.Layout.{spanTableBytes, trailerWidths, trailerRow, figuresOf, tablesOf, fileOf}
+use Rattle.file.specs.Reader.{fieldAt, slotAt, spanAt, trailerAt, trailerField, figures, layoutFits, fileSlots, tablesAt, countOf}
+use Rattle.file.specs.Reader.{trailerTests, tableTests, figureTests, spanTests, spanOk, trailerOk, tablesOk, figuresOk, readFile}
+use Rattle.file.specs.Reader.{partOf, tablesPart}
+use Rattle.file.specs.Contents.{Bytes, WellFormed, slot, span, noSlot, slotRecord, spanRecord, recordsOf, outcomeOf, spanOfRecord}
+use Rattle.file.specs.Contents.{contentOf}
 use Rattle.file.specs.Claim.{Exactly, Canonical}
 use Rattle.file.proofs.Offsets.{value-lt}
 use Rattle.file.proofs.Rows.{row-reads, field-take, table-reads}
@@ -68,7 +72,8 @@ module _ (bs : List ℕ) (b : Bytes bs) (p : Passed bs (figures bs)) where
 
   blank-right : (j : ℕ) → j < m → spanAt r bs (6 * n) j .blank ≡ 0
   unfolding tablesOk spanOk
-  blank-right j l = eqb-true _ _ (passed (spanTests (tablesAt bs g) j) (all-at _ m (passed (tableTests (tablesAt bs g)) (p .tables) 1) j l) 6)
+  blank-right j l =
+      eqb-true _ _ (passed (spanTests (tablesAt bs g) j) (all-at _ m (passed (tableTests (tablesAt bs g)) (p .tables) 1) j l) 6)
 
   span-right : (j : ℕ) → j < m → spanRecord (spanOfRecord (spanAt r bs (6 * n) j)) ≡ spanAt r bs (6 * n) j
   span-right j l =
@@ -176,7 +181,9 @@ module _ (bs : List ℕ) (b : Bytes bs) (p : Passed bs (figures bs)) where
         rw (slot-is i k) (value-lt bs b i);
     tables = tables-agree (recordsOf f) (tablesAt bs g) agree (unfold tablesOk in p .tables);
     known = unfold trailerOk in passed (trailerTests bs g) (p .trailer) 2;
-    fits = ap (layoutFits (g .layout)) (count-right F isF testsF) ∙ (unfold figuresOk in passed (figureTests (tablesAt bs g) g) (p .figures) 3);
+    fits =
+        ap (layoutFits (g .layout)) (count-right F isF testsF)
+        ∙ (unfold figuresOk in passed (figureTests (tablesAt bs g) g) (p .figures) 3);
     exact = λ e j l.
         let k : j < m = rw (length-upTo (λ x. spanOfRecord (spanAt r bs (6 * n) x)) 0 m) at l in
         rw (span-is j k) (from-exact bs (6 * n + w * j) r e);
@@ -230,7 +237,10 @@ determined bs cs b c g d e s =
 pub exactly : Exactly
 exactly bs b g part = (
   λ e. (contentOf g (tablesPart bs), rw (← e .1) (canonical bs b g (e .0))),
-  λ (f, w). (ap readFile (sym (w .file)) ∙ accepted f (w .formed) ∙ ap Accepted (w .figures), sym (tables-same f (w .formed) bs (w .file)) ∙ w .tables),
+  λ (f, w). (
+    ap readFile (sym (w .file)) ∙ accepted f (w .formed) ∙ ap Accepted (w .figures),
+    sym (tables-same f (w .formed) bs (w .file)) ∙ w .tables,
+  ),
 )
 
 -- the figures and tables of a well-formed content hold it

@@ -58,13 +58,15 @@ module _ (f : Content) where
   unfolding fileOf tablesOf
   file-bytes =
       joined-bytes (tablesOf f) (row trailer)
-      (joined-bytes (table slotRow (f .slots)) (table (spanRow r) (f .spans)) (table-bytes slotRow (f .slots)) (table-bytes (spanRow r) (f .spans)))
+      (joined-bytes (table slotRow (f .slots)) (table (spanRow r) (f .spans)) (table-bytes slotRow (f .slots))
+      (table-bytes (spanRow r) (f .spans)))
       (row-bytes trailer)
 
   pub trailer-place : trailerAt (fileOf f) ≡ 6 * length (f .slots) + w * length (f .spans)
   trailer-place = omega (arith, length-file)
 
-  pub slot-field : (i j : ℕ) → i < length (f .slots) → j < length (slotRow (slot f i)) → field (slotRow (slot f i)) j .1 < 256 ^ field (slotRow (slot f i)) j .0
+  pub slot-field : (i j : ℕ) → i < length (f .slots) → j < length (slotRow (slot f i))
+      → field (slotRow (slot f i)) j .1 < 256 ^ field (slotRow (slot f i)) j .0
       → num (field (slotRow (slot f i)) j .0) (fileOf f) (6 * i + before (slotRow (slot f i)) j) ≡ field (slotRow (slot f i)) j .1
   unfolding slotPart
   slot-field i j l m fit = rw parts (table-field slotRow 6 (λ x. refl) (f .slots) noSlot (spanPart ++ row trailer) i j l m fit)
@@ -84,7 +86,8 @@ module _ (f : Content) where
   trailer-field j l fit =
       let k : ℕ = field trailer j .0 in
       let o : ℕ = before trailer j in
-      let e : trailerAt (fileOf f) + o ≡ length slotPart + (length spanPart + o) = omega (arith, trailer-place, length-slots, length-spans) in
+      let e : trailerAt (fileOf f) + o ≡ length slotPart + (length spanPart + o) =
+      omega (arith, trailer-place, length-slots, length-spans) in
       rw (e, parts)
       (num-skip slotPart (spanPart ++ row trailer) k (length spanPart + o)
       ∙ num-skip spanPart (row trailer) k o
@@ -104,7 +107,8 @@ module _ (f : Content) (h : Fitting f) where
       λ k. record { value = v k; letter = q k; method = m k }
 
   -- the record of span j, whose table begins at byte b
-  pub span-back : (b : ℕ) → b ≡ 6 * length (f .slots) → (j : ℕ) → j < length (f .spans) → spanAt (r f) (fileOf f) b j ≡ spanRecord (span f j)
+  pub span-back : (b : ℕ) → b ≡ 6 * length (f .slots) → (j : ℕ) → j < length (f .spans)
+      → spanAt (r f) (fileOf f) b j ≡ spanRecord (span f j)
   span-back b e j l = rw e (span-read (span f j) (fileOf f) _ (r f) (h .eachSpan j l) (span-field f j l))
 
   -- the trailer's head fields, layout and distance
@@ -143,9 +147,11 @@ module _ (f : Content) (h : Fitting f) where
       ap (λ (x : ℕ). outcomeOf (slotAt (fileOf f) x)) (zero-add i) ∙ ap outcomeOf (slot-back i l)
       ∙ (λ k. record { value = slot f i .value; quality = quality-back (slot f i .quality) k; method = slot f i .method })))
 
-  spans-list : (q : Bool) (b n : ℕ) → q ≡ r f → b ≡ 6 * length (f .slots) → n ≡ length (f .spans) → upTo (λ j. spanOfRecord (spanAt q (fileOf f) b j)) 0 n ≡ f .spans
+  spans-list : (q : Bool) (b n : ℕ) → q ≡ r f → b ≡ 6 * length (f .slots) → n ≡ length (f .spans)
+      → upTo (λ j. spanOfRecord (spanAt q (fileOf f) b j)) 0 n ≡ f .spans
   spans-list q b n d e m =
-      rw (d, m) (upTo-list (f .spans) noSpan _ 0 (λ j l. ap (λ (x : ℕ). spanOfRecord (spanAt (r f) (fileOf f) b x)) (zero-add j) ∙ ap spanOfRecord (span-back b e j l)))
+      rw (d, m) (upTo-list (f .spans) noSpan _ 0
+      (λ j l. ap (λ (x : ℕ). spanOfRecord (spanAt (r f) (fileOf f) b x)) (zero-add j) ∙ ap spanOfRecord (span-back b e j l)))
 
   -- the content of the file's figures and bytes is the content
   read-back : contentOf (figures (fileOf f)) (fileOf f) ≡ f

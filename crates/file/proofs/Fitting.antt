@@ -99,6 +99,7 @@ module _ (f : Content) (w : WellFormed f) where
         interval = interval-is (f .first) (f .days) (f .interval) (w .head) (λ x. x < 2 ^ 8) (omega arith) (omega arith) (omega arith);
         slots = w .slots;
         spans = omega (arith, few, spans-le t spansOk);
-        eachSlot = λ i l. record { value = w .values i l; method = record-tells (t .slot i) (all-at _ _ recordsOk i (rw (← w .slots) l)) .1 };
+        eachSlot =
+            λ i l. record { value = w .values i l; method = record-tells (t .slot i) (all-at _ _ recordsOk i (rw (← w .slots) l)) .1 };
         eachSpan = λ j l. span-fits j l (all-at (spanOk t) (t .spans) spansOk j l);
       }

@@ -18,7 +18,8 @@ module _ (first days interval : ℕ) (ok : every (headFieldTests first days inte
   unfolding intervalOk
   interval-is P p5 p15 p30 =
       ⊎-elim (λ e. rw (eqb-true interval 5 e) p5)
-      (λ e. ⊎-elim (λ f. rw (eqb-true interval 15 f) p15) (λ f. rw (eqb-true interval 30 f) p30) (or-parts (eqb interval 15) (eqb interval 30) e))
+      (λ e. ⊎-elim (λ f. rw (eqb-true interval 15 f) p15) (λ f. rw (eqb-true interval 30 f) p30)
+      (or-parts (eqb interval 15) (eqb interval 30) e))
       (or-parts (eqb interval 5) (eqb interval 15 || eqb interval 30) (passed (headFieldTests first days interval) ok 0))
 
   pub interval-pos : 0 < interval

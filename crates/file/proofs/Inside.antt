@@ -58,7 +58,8 @@ pub record Inside (bs : List ℕ) (g : Figures) (j : ℕ) : Type 0 where
   pub start : tablesAt bs g .span j .first * tablesAt bs g .perDay ≤ fileSlots g
   pub end : tablesAt bs g .span j .last * tablesAt bs g .perDay ≤ fileSlots g
 
-pub inside : (bs : List ℕ) (g : Figures) → Ready bs g → all (spanOk (tablesAt bs g)) 0 (g .spans) ≡ true → (j : ℕ) → j < g .spans → Inside bs g j
+pub inside : (bs : List ℕ) (g : Figures) → Ready bs g → all (spanOk (tablesAt bs g)) 0 (g .spans) ≡ true → (j : ℕ) → j < g .spans
+    → Inside bs g j
 inside bs g r ok j l =
     let t = tablesAt bs g in
     let here = all-at _ (g .spans) ok j l in

@@ -14,7 +14,8 @@ pub layout-lt : (layout : ℕ) → layoutOk layout ≡ true → layout < 256
 unfolding layoutOk
 layout-lt layout ok =
     ⊎-elim (λ e. omega (arith, eqb-true layout 1 e))
-    (λ e. ⊎-elim (λ f. omega (arith, eqb-true layout 2 f)) (λ f. omega (arith, eqb-true layout 3 f)) (or-parts (eqb layout 2) (eqb layout 3) e))
+    (λ e. ⊎-elim (λ f. omega (arith, eqb-true layout 2 f)) (λ f. omega (arith, eqb-true layout 3 f))
+    (or-parts (eqb layout 2) (eqb layout 3) e))
     (or-parts (eqb layout 1) (eqb layout 2 || eqb layout 3) ok)
 
 -- what the code tests

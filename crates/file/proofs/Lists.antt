@@ -17,7 +17,8 @@ total-sum g f a zero = unfold sum in refl
 total-sum g f a (suc k) = ap (λ (y : ℕ). g (f a) + y) (total-sum g f (suc a) k) ∙ sym (sum-first (λ i. g (f i)) a k)
 
 -- a sum over a list is at most b for each element
-pub total-le : (g : Outcome → ℕ) (b : ℕ) (d : Outcome) (os : List Outcome) → ((i : ℕ) → i < length os → g (getD os i d) ≤ b) → total g os ≤ b * length os
+pub total-le : (g : Outcome → ℕ) (b : ℕ) (d : Outcome) (os : List Outcome) → ((i : ℕ) → i < length os → g (getD os i d) ≤ b)
+    → total g os ≤ b * length os
 unfolding total
 total-le g b d [] h = omega arith
 total-le g b d (o ∷ os) h =

@@ -46,7 +46,8 @@ unfolding num bytes
 num-bytes zero n q h = omega arith
 num-bytes (suc k) n q h =
     let small : n / 256 < 256 ^ k = div-lt-iff-lt-mul (lit< tt) .1 (rw pow-suc at h) in
-    let rest : num k (n % 256 ∷ (bytes k (n / 256) ++ q)) 1 ≡ n / 256 = num-cons k (n % 256) (bytes k (n / 256) ++ q) 0 ∙ num-bytes k (n / 256) q small in
+    let rest : num k (n % 256 ∷ (bytes k (n / 256) ++ q)) 1 ≡ n / 256 = num-cons k (n % 256) (bytes k (n / 256) ++ q) 0
+    ∙ num-bytes k (n / 256) q small in
     rw rest (omega arith)
 
 -- a byte before those of a number makes it a longer number: a loop that goes down to place at

@@ -38,7 +38,8 @@ module _ (t : Tables) (ok : all (spanOk t) 0 (t .spans) ≡ true) where
   last-le zero l j h = ⊎-elim (λ e. rw e (omega arith)) (λ k. absurd (not-suc-le-zero k)) (eq-or-lt-of-le h)
   last-le (suc m) l j h =
       ⊎-elim (λ e. rw e (omega arith))
-      (λ k. omega (arith, last-le m (omega arith) j (le-of-suc-le-suc k), follow t ok m l, ordered t (suc m) (here (suc m) l))) (eq-or-lt-of-le h)
+      (λ k. omega (arith, last-le m (omega arith) j (le-of-suc-le-suc k), follow t ok m l, ordered t (suc m) (here (suc m) l)))
+      (eq-or-lt-of-le h)
 
   -- a span that slot i lies in
   pub record Covered (i : ℕ) : Type 0 where
@@ -61,7 +62,8 @@ module _ (t : Tables) (ok : all (spanOk t) 0 (t .spans) ≡ true) where
       ⊎-elim
       (λ e. let c = h e in
       let in-j : liesIn t i (c .by) ≡ true = both _ _ (le-leb _ _ (c .from)) (lt-ltb _ _ (c .to)) in
-      let found : any (liesIn t i) 0 (t .spans) ≡ true = any-some (liesIn t i) 0 (t .spans) (c .by) (omega arith) (omega (arith, c .short)) in-j in
+      let found : any (liesIn t i) 0 (t .spans) ≡ true =
+      any-some (liesIn t i) 0 (t .spans) (c .by) (omega arith) (omega (arith, c .short)) in-j in
       rw (e, found))
       (λ e. rw e) (either (marked i))
 
@@ -74,7 +76,8 @@ module _ (t : Tables) (ok : all (spanOk t) 0 (t .spans) ≡ true) where
       record { by = c .0; short = omega (arith, c .2); from = leb-true _ _ (p .0); to = ltb-true _ _ (p .1) }
 
   -- no such method on a stretch that no span reaches
-  clear : (a k : ℕ) → a + k ≤ slots → all (outsideOk t) 0 slots ≡ true → ((i : ℕ) → a ≤ i → i < a + k → Covered i → ⊥) → any marked a k ≡ false
+  clear : (a k : ℕ) → a + k ≤ slots → all (outsideOk t) 0 slots ≡ true → ((i : ℕ) → a ≤ i → i < a + k → Covered i → ⊥)
+      → any marked a k ≡ false
   clear a k l e h =
       any-none marked a k
       (λ i x y. ⊎-elim (λ s. absurd (h i x y (covered i (all-at (outsideOk t) slots e i (omega arith)) s))) (λ s. s) (either (marked i)))
@@ -91,7 +94,8 @@ module _ (t : Tables) (ok : all (spanOk t) 0 (t .spans) ≡ true) where
 
   -- there are spans: none before the first and none after the last
   pub edges : (m : ℕ) → t .spans ≡ suc m
-      → (not (any marked 0 (t .span 0 .first * n)) && not (any marked (t .span m .last * n) (slots - t .span m .last * n))) ≡ all (outsideOk t) 0 slots
+      → (not (any marked 0 (t .span 0 .first * n)) && not (any marked (t .span m .last * n) (slots - t .span m .last * n)))
+      ≡ all (outsideOk t) 0 slots
   edges m z =
       let l : m < t .spans = omega arith in
       let low : (i : ℕ) → Covered i → t .span 0 .first * n ≤ i =
@@ -99,7 +103,8 @@ module _ (t : Tables) (ok : all (spanOk t) 0 (t .spans) ≡ true) where
       let high : (i : ℕ) → Covered i → i < t .span m .last * n =
       λ i c. lt-of-lt-of-le (c .to) (mul-le-mul-right n (last-le m l (c .by) (omega (arith, c .short)))) in
       let start-in : t .span 0 .first * n ≤ slots =
-      le-trans (mul-le-mul-right n (omega (arith, ordered t 0 (here 0 (omega arith))))) (within t (t .span 0 .last) (ordered t 0 (here 0 (omega arith)) .1)) in
+      le-trans (mul-le-mul-right n (omega (arith, ordered t 0 (here 0 (omega arith)))))
+      (within t (t .span 0 .last) (ordered t 0 (here 0 (omega arith)) .1)) in
       let end-in : t .span m .last * n ≤ slots = within t (t .span m .last) (ordered t m (here m l) .1) in
       let before : Bool = any marked 0 (t .span 0 .first * n) in
       let after : Bool = any marked (t .span m .last * n) (slots - t .span m .last * n) in
@@ -109,13 +114,16 @@ module _ (t : Tables) (ok : all (spanOk t) 0 (t .spans) ≡ true) where
       at-all (outsideOk t) slots (λ i k. covers i (λ s.
       ⊎-elim
       (λ x. ⊎-elim (λ y. find m l i (leb-true _ _ x) (ltb-true _ _ y))
-      (λ y. let r = ltb-false i (t .span m .last * n) y in absurd (missed (t .span m .last * n) (slots - t .span m .last * n) i (not-parts after (p .1)) r (omega arith) s))
+      (λ y. let r = ltb-false i (t .span m .last * n) y in
+      absurd (missed (t .span m .last * n) (slots - t .span m .last * n) i (not-parts after (p .1)) r (omega arith) s))
       (either (ltb i (t .span m .last * n))))
-      (λ x. let r = leb-false (t .span 0 .first * n) i x in absurd (missed 0 (t .span 0 .first * n) i (not-parts before (p .0)) (omega arith) (omega arith) s))
+      (λ x. let r = leb-false (t .span 0 .first * n) i x in
+      absurd (missed 0 (t .span 0 .first * n) i (not-parts before (p .0)) (omega arith) (omega arith) s))
       (either (leb (t .span 0 .first * n) i)))))
       (λ e.
       let none-before : before ≡ false = clear 0 (t .span 0 .first * n) (omega arith) e (λ i x y c. omega (arith, low i c)) in
-      let none-after : after ≡ false = clear (t .span m .last * n) (slots - t .span m .last * n) (omega arith) e (λ i x y c. omega (arith, high i c)) in
+      let none-after : after ≡ false =
+      clear (t .span m .last * n) (slots - t .span m .last * n) (omega arith) e (λ i x y c. omega (arith, high i c)) in
       rw (none-before, none-after))
 
   -- the same, from the outcome of the first test

@@ -48,7 +48,8 @@ pub form-F : (r : SlotRecord) → r .letter ≡ 70 → recordOk r ≡ (eqb (r .m
 unfolding recordOk
 form-F r e = rw (e, or-false)
 
-pub form-none : (r : SlotRecord) → (r .letter ≡ 65 → ⊥) → (r .letter ≡ 83 → ⊥) → (r .letter ≡ 78 → ⊥) → (r .letter ≡ 70 → ⊥) → recordOk r ≡ false
+pub form-none : (r : SlotRecord) → (r .letter ≡ 65 → ⊥) → (r .letter ≡ 83 → ⊥) → (r .letter ≡ 78 → ⊥) → (r .letter ≡ 70 → ⊥)
+    → recordOk r ≡ false
 unfolding recordOk
 form-none r a s n f = rw (ne-eqb _ _ a, ne-eqb _ _ s, ne-eqb _ _ n, ne-eqb _ _ f)
 

@@ -40,7 +40,8 @@ field-at [] q j h fit = absurd (not-suc-le-zero h)
 field-at (f ∷ fs) q zero h fit = rw append-assoc (num-bytes (f .0) (f .1) (row fs ++ q) fit)
 field-at (f ∷ fs) q (suc j) h fit =
     rw append-assoc
-    (subst (λ (n : ℕ). num (field fs j .0) (bytes (f .0) (f .1) ++ (row fs ++ q)) (n + before fs j) ≡ field fs j .1) (length-bytes (f .0) (f .1))
+    (subst (λ (n : ℕ). num (field fs j .0) (bytes (f .0) (f .1) ++ (row fs ++ q)) (n + before fs j) ≡ field fs j .1)
+    (length-bytes (f .0) (f .1))
     (num-skip (bytes (f .0) (f .1)) (row fs ++ q) (field fs j .0) (before fs j) ∙ field-at fs q j (le-of-suc-le-suc h) fit))
 
 -- ---- Tables of rows that are w wide
@@ -70,7 +71,8 @@ module _ {A : Type 0} (r : A → List (ℕ × ℕ)) (w : ℕ) (wide : (x : A) �
       → field (r (getD xs i d)) j .1 < 256 ^ field (r (getD xs i d)) j .0
       → num (field (r (getD xs i d)) j .0) (table r xs ++ q) (w * i + before (r (getD xs i d)) j) ≡ field (r (getD xs i d)) j .1
   table-field xs d q i j h hj fit =
-      table-at xs d q i (field (r (getD xs i d)) j .0) (before (r (getD xs i d)) j) h ∙ field-at (r (getD xs i d)) (table r (drop (suc i) xs) ++ q) j hj fit
+      table-at xs d q i (field (r (getD xs i d)) j .0) (before (r (getD xs i d)) j) h
+      ∙ field-at (r (getD xs i d)) (table r (drop (suc i) xs) ++ q) j hj fit
 
 -- ---- What is read is written: rows and tables
 
@@ -89,7 +91,8 @@ row-listed bs b [] at f e h = refl
 row-listed bs b (w ∷ ws) at f e h =
     let here : f 0 ≡ num w bs at = e 0 ∙ ap (num w bs) (add-zero at) in
     let rest : (k : ℕ) → f (suc k) ≡ fieldAt ws bs (at + w) k = λ k. e (suc k) ∙ ap (num (getD ws k 0) bs) (omega arith) in
-    ap₂ (λ (x y : List ℕ). x ++ y) (ap (bytes w) here ∙ bytes-num bs b w at (omega arith)) (row-listed bs b ws (at + w) _ rest (omega arith))
+    ap₂ (λ (x y : List ℕ). x ++ y) (ap (bytes w) here ∙ bytes-num bs b w at (omega arith))
+    (row-listed bs b ws (at + w) _ rest (omega arith))
     ∙ join bs w (rowWidth ws) at
 
 -- the fields that are read from a place on
@@ -104,11 +107,13 @@ field-inside [] (suc k) = omega arith
 field-inside (w ∷ ws) zero = omega arith
 field-inside (w ∷ ws) (suc k) = omega (arith, field-inside ws k)
 
-pub field-take : (bs : List ℕ) (t : ℕ) (ws : List ℕ) (at : ℕ) → at + rowWidth ws ≤ t → (k : ℕ) → fieldAt ws (take t bs) at k ≡ fieldAt ws bs at k
+pub field-take : (bs : List ℕ) (t : ℕ) (ws : List ℕ) (at : ℕ) → at + rowWidth ws ≤ t → (k : ℕ)
+    → fieldAt ws (take t bs) at k ≡ fieldAt ws bs at k
 field-take bs t ws at l k = num-take bs t (getD ws k 0) (at + rowWidth (take k ws)) (omega (arith, field-inside ws k))
 
 module _ {A : Type 0} (r : A → List (ℕ × ℕ)) (w : ℕ) (f : ℕ → A) (bs : List ℕ) (b : ℕ) where
-  table-upTo : (a n : ℕ) → ((i : ℕ) → i < a + n → row (r (f i)) ≡ take w (drop (b + w * i) bs)) → table r (upTo f a n) ≡ take (w * n) (drop (b + w * a) bs)
+  table-upTo : (a n : ℕ) → ((i : ℕ) → i < a + n → row (r (f i)) ≡ take w (drop (b + w * i) bs))
+      → table r (upTo f a n) ≡ take (w * n) (drop (b + w * a) bs)
   unfolding table upTo
   table-upTo a zero h = rw mul-zero
   table-upTo a (suc n) h =
@@ -119,7 +124,8 @@ module _ {A : Type 0} (r : A → List (ℕ × ℕ)) (w : ℕ) (f : ℕ → A) (b
       ∙ join bs w (w * n) (b + w * a) ∙ ap (λ (k : ℕ). take k (drop (b + w * a) bs)) m
 
   -- a table of what is read from place b on
-  pub table-reads : (n : ℕ) → ((i : ℕ) → i < n → row (r (f i)) ≡ take w (drop (b + w * i) bs)) → table r (upTo f 0 n) ≡ take (w * n) (drop b bs)
+  pub table-reads : (n : ℕ) → ((i : ℕ) → i < n → row (r (f i)) ≡ take w (drop (b + w * i) bs))
+      → table r (upTo f 0 n) ≡ take (w * n) (drop b bs)
   table-reads n h = table-upTo 0 n (λ i l. h i (omega arith)) ∙ rw (mul-zero, add-zero)
 
 -- ---- What is written are bytes

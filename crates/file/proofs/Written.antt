@@ -35,7 +35,8 @@ length-written d at s h =
     simp (length-append, length-drop, length-take-le at d l) (omega arith)
 
 -- what is written after s belongs to what is written from its place on
-pub written-more : (d : List ℕ) (at : ℕ) (s t : List ℕ) → at + length s ≤ length d → written (written d at s) (at + length s) t ≡ written d at (s ++ t)
+pub written-more : (d : List ℕ) (at : ℕ) (s t : List ℕ) → at + length s ≤ length d
+    → written (written d at s) (at + length s) t ≡ written d at (s ++ t)
 unfolding written
 written-more d at s t h =
     let p : List ℕ = take at d ++ s in
@@ -75,7 +76,8 @@ rows d e at o fs gs p q h =
     rw (p, m) (written-more d at (row fs) (row gs) (omega (arith, length-row fs)) ∙ ap (written d at) (row-join fs gs))
 
 -- a field after a row
-pub row-next : (d e f : List ℕ) (at o k n : ℕ) (fs : List (ℕ × ℕ)) → e ≡ written d at (row fs) → f ≡ written e o (bytes k n) → o ≡ at + widths fs → at + widths fs ≤ length d
+pub row-next : (d e f : List ℕ) (at o k n : ℕ) (fs : List (ℕ × ℕ)) → e ≡ written d at (row fs) → f ≡ written e o (bytes k n)
+    → o ≡ at + widths fs → at + widths fs ≤ length d
     → f ≡ written d at (row (fs ++ ((k, n) ∷ [])))
 row-next d e f at o k n fs p q m h = q ∙ row-last e o k n ∙ rows d e at o fs ((k, n) ∷ []) p m h
 

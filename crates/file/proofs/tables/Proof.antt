@@ -8,6 +8,16 @@ use Rattle.file.proofs.Answers.{long-enough}
 use Rattle.file.proofs.tables.Statement.{statement}
 use Rattle.file.proofs.tables.Tie as tie
 
+-- ---- Places
+
+abbrev start : tie.After-enum-told → tie.Start
+start c = c .before .before .before .before
+
+abbrev start-result2 : tie.After-result2 → tie.Start
+start-result2 c = c .before .before .before .before .before
+
+-- ---- Needs
+
 read-requires : tie.Need-read-requires
 read-requires c κs = search needs
 
@@ -15,28 +25,28 @@ enum-told : tie.Need-enum-told
 enum-told c = search needs
 
 sub-end : tie.Need-sub-end
-sub-end c = omega (arith, long-enough (c .before .before .before .before .args .file .now) _ (sym (c .before .before .read .ensures) ∙ c .enum-told .given .1))
+sub-end c = omega (arith, long-enough (start c .args .file .now) _ (sym (c .before .before .read .ensures) ∙ c .enum-told .given .1))
 
 slice-aggregate-result : tie.Need-slice-aggregate-result
-slice-aggregate-result c = sym (length-take-le _ (c .before .before .before .before .before .args .file .now) (search needs))
+slice-aggregate-result c = sym (length-take-le _ (start (c .before) .args .file .now) (search needs))
 
 enum-told-2 : tie.Need-enum-told-2
 enum-told-2 c = search needs
 
 slice-aggregate-result-2 : tie.Need-slice-aggregate-result-2
-slice-aggregate-result-2 c = sym (length-take-le _ (c .before .before .before .before .before .args .file .now) (search needs))
+slice-aggregate-result-2 c = sym (length-take-le _ (start-result2 c .args .file .now) (search needs))
 
 returns : tie.Need-returns
 unfolding tablesPart
 returns c =
-    let args = c .before .before .before .before .before .args in
+    let args = start (c .before) .args in
     let read = c .before .before .before .read in
     sym (ap (λ v. partOf v (args .file .now)) (sym (read .ensures) ∙ c .before .enum-told .given .1))
 
 returns-2 : tie.Need-returns-2
 unfolding tablesPart
 returns-2 c =
-    let args = c .before .before .before .before .before .args in
+    let args = start-result2 c .args in
     let read = c .before .before .before .read in
     sym (ap (λ v. partOf v (args .file .now)) (sym (read .ensures) ∙ c .before .enum-told2 .given .1))
 

@@ -33,7 +33,8 @@ returns c =
     let high = highest c in
     let s = start high in
     let tested = high .before .both in
-    met-agreed (s .args .found) (s .args .slot) (s .pre .1) (tested .result) (tested .ensures) (high .higher .result) (high .higher .ensures)
+    met-agreed (s .args .found) (s .args .slot) (s .pre .1) (tested .result) (tested .ensures) (high .higher .result)
+    (high .higher .ensures)
 
 pub with-agreed-spec : {M : Type 1} → statement M
 with-agreed-spec =

@@ -6,6 +6,11 @@ use Rattle.file.proofs.Counts.{met-none}
 use Rattle.file.proofs.counting.with_none.Statement.{statement}
 use Rattle.file.proofs.counting.with_none.Tie as tie
 
+-- ---- Places
+
+abbrev after-is-zero : tie.After-struct-known3 → tie.After-is-zero
+after-is-zero c = c .before .before .before .before
+
 abbrev start : tie.After-both → tie.Start
 start c = c .before .before
 
@@ -28,7 +33,7 @@ returns : tie.Need-returns
 returns c =
     let tested = c .before .before .before in
     let s = start tested in
-    let same = tested .both .ensures ∙ ap (λ (b : Bool). s .args .found .formed && b) (tested .before .is-zero .ensures) in
+    let same = tested .both .ensures ∙ ap (λ (b : Bool). s .args .found .formed && b) (after-is-zero c .is-zero .ensures) in
     met-none (s .args .found) (s .args .slot) (s .pre .1) (tested .both .result) same
 
 pub with-none-spec : {M : Type 1} → statement M

@@ -4,6 +4,11 @@ use borrow.Author.Needs.{needs}
 use Rattle.file.proofs.counting.with_slot.Statement.{statement}
 use Rattle.file.proofs.counting.with_slot.Tie as tie
 
+-- ---- Places
+
+abbrev passed1 : tie.Else3 → tie.Else1
+passed1 c = c .before .before .before .before
+
 abbrev start : tie.Else1 → tie.Start
 start c = c .before .before
 
@@ -40,7 +45,7 @@ returns-4 c = search needs
 with-rest-requires : tie.Need-with-rest-requires
 with-rest-requires c κs =
     let second = third c .before .before in
-    let first = second .before .before in (
+    let first = passed1 (third c) in (
       start first .pre,
       record {
         plain = sym (first .before .is-plain .ensures) ∙ first .if1 .left;

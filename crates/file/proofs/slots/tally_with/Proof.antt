@@ -6,6 +6,11 @@ use Rattle.file.proofs.Tallies.{tallied-kindless}
 use Rattle.file.proofs.slots.tally_with.Statement.{statement}
 use Rattle.file.proofs.slots.tally_with.Tie as tie
 
+-- ---- Places
+
+abbrev after-is-kindless : tie.After-also4 → tie.After-is-kindless
+after-is-kindless c = c .before .before .before .before .before
+
 abbrev before : tie.After-is-kindless → tie.Start
 before c = c .before .before .before
 
@@ -36,7 +41,7 @@ also-requires-4 : tie.Need-also-requires-4
 also-requires-4 c κs = search needs
 
 returns-2 : tie.Need-returns-2
-returns-2 c = λ k. let args = before (c .before .before .before .before .before) .args in record {
+returns-2 c = λ k. let args = before (after-is-kindless c) .args in record {
   none = c .before .before .before .also .ensures k;
   scaled = c .before .before .also2 .ensures k;
   unscaled = c .before .also3 .ensures k;

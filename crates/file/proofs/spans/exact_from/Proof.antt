@@ -4,6 +4,13 @@ use Rattle.file.proofs.Offsets.{exact-at}
 use Rattle.file.proofs.spans.exact_from.Statement.{statement}
 use Rattle.file.proofs.spans.exact_from.Tie as tie
 
+-- ---- Places
+
+abbrev after-number : tie.After-shared-slice-known3 → tie.After-number
+after-number c = c .before .before .before .before
+
+-- ---- Needs
+
 add-number : tie.Need-add-number
 add-number c = search needs
 
@@ -41,7 +48,13 @@ shared-slice-read-t14 : tie.Need-shared-slice-read-t14
 shared-slice-read-t14 c = search needs
 
 returns : tie.Need-returns
-returns c = rw (exact-at _ _, c .before .before .before .before .number .ensures .0, c .before .before .before .number2 .ensures .0, c .before .before .number3 .ensures .0)
+returns c =
+    simp (
+      exact-at,
+      after-number c .number .ensures .0,
+      c .before .before .before .number2 .ensures .0,
+      c .before .before .number3 .ensures .0,
+    )
 
 pub exact-from-spec : {M : Type 1} → statement M
 exact-from-spec =

@@ -4,6 +4,13 @@ use Rattle.file.proofs.Offsets.{ranged-at}
 use Rattle.file.proofs.spans.ranged_from.Statement.{statement}
 use Rattle.file.proofs.spans.ranged_from.Tie as tie
 
+-- ---- Places
+
+abbrev after-number2 : tie.After-shared-slice-known3 → tie.After-number2
+after-number2 c = c .before .before .before .before
+
+-- ---- Needs
+
 number-requires : tie.Need-number-requires
 number-requires c κs = search needs
 
@@ -50,7 +57,14 @@ shared-slice-read-t19 : tie.Need-shared-slice-read-t19
 shared-slice-read-t19 c = search needs
 
 returns : tie.Need-returns
-returns c = rw (ranged-at _ _, c .before .before .before .before .before .number .ensures .0, c .before .before .before .before .number2 .ensures .0, c .before .before .before .number3 .ensures .0, c .before .before .number4 .ensures .0)
+returns c =
+    simp (
+      ranged-at,
+      after-number2 c .before .number .ensures .0,
+      after-number2 c .number2 .ensures .0,
+      c .before .before .before .number3 .ensures .0,
+      c .before .before .number4 .ensures .0,
+    )
 
 pub ranged-from-spec : {M : Type 1} → statement M
 ranged-from-spec =

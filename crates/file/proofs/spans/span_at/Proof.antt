@@ -8,6 +8,13 @@ use Rattle.file.proofs.SpanRecords.{record-in}
 use Rattle.file.proofs.spans.span_at.Statement.{statement}
 use Rattle.file.proofs.spans.span_at.Tie as tie
 
+-- ---- Places
+
+abbrev start : tie.After-struct-known → tie.Start
+start c = c .before .before .before
+
+-- ---- Needs
+
 slot-count-requires : tie.Need-slot-count-requires
 slot-count-requires c κs = search needs
 
@@ -21,12 +28,19 @@ add-ranged-from : tie.Need-add-ranged-from
 add-ranged-from c = search needs
 
 ranged-from-requires : tie.Need-ranged-from-requires
-ranged-from-requires c κs = let a = c .before .before .before .before .args in
-    let room = record-in (a .file .now) (a .g) (c .before .before .before .before .pre .0) true (eq-eqb (a .g .layout) 3 (c .if1 .taken)) (a .j) (c .before .before .before .before .pre .1) in
+ranged-from-requires c κs =
+    let begun = start (c .before) in
+    let a = begun .args in
+    let room = record-in (a .file .now) (a .g) (begun .pre .0) true (eq-eqb (a .g .layout) 3 (c .if1 .taken)) (a .j) (begun .pre .1) in
     omega (arith, room, c .before .before .slot-count .ensures .0)
 
 returns : tie.Need-returns
-returns c = c .ranged-from .ensures ∙ (rw (eq-eqb (c .before .before .before .before .before .args .g .layout) 3 (c .before .if1 .taken), c .before .before .before .slot-count .ensures .0))
+returns c =
+    c .ranged-from .ensures
+    ∙ (rw (
+      eq-eqb (start (c .before .before) .args .g .layout) 3 (c .before .if1 .taken),
+      c .before .before .before .slot-count .ensures .0,
+    ))
 
 mul-exact-from : tie.Need-mul-exact-from
 mul-exact-from c = search needs
@@ -35,12 +49,16 @@ add-exact-from : tie.Need-add-exact-from
 add-exact-from c = search needs
 
 exact-from-requires : tie.Need-exact-from-requires
-exact-from-requires c κs = let a = c .before .before .before .before .args in
-    let room = record-in (a .file .now) (a .g) (c .before .before .before .before .pre .0) false (ne-eqb (a .g .layout) 3 (c .if1 .left)) (a .j) (c .before .before .before .before .pre .1) in
+exact-from-requires c κs =
+    let begun = start (c .before) in
+    let a = begun .args in
+    let room = record-in (a .file .now) (a .g) (begun .pre .0) false (ne-eqb (a .g .layout) 3 (c .if1 .left)) (a .j) (begun .pre .1) in
     omega (arith, room, c .before .before .slot-count .ensures .0)
 
 returns-2 : tie.Need-returns-2
-returns-2 c = c .exact-from .ensures ∙ (rw (ne-eqb (c .before .before .before .before .before .args .g .layout) 3 (c .before .if1 .left), c .before .before .before .slot-count .ensures .0))
+returns-2 c =
+    c .exact-from .ensures
+    ∙ (rw (ne-eqb (start (c .before .before) .args .g .layout) 3 (c .before .if1 .left), c .before .before .before .slot-count .ensures .0))
 
 pub span-at-spec : {M : Type 1} → statement M
 span-at-spec =

@@ -10,9 +10,18 @@ use Rattle.file.proofs.Inside.{room, Room, ends, ordered}
 use Rattle.file.proofs.spans.state_ok.Statement.{statement}
 use Rattle.file.proofs.spans.state_ok.Tie as tie
 
+-- ---- Places
+
+abbrev start : tie.After-per-day → tie.Start
+start c = c .before .before .before
+
+abbrev after-per-day : tie.After-state-rule → tie.After-per-day
+after-per-day c = c .before .before .before .before .before
+
 -- the span's slots are among the file's
 inside : (s : tie.Start) → Room (s .args .file .now) (s .args .g)
-    × (startOf (tablesAt (s .args .file .now) (s .args .g)) (s .args .j) + slotsOf (tablesAt (s .args .file .now) (s .args .g)) (s .args .j) ≤ fileSlots (s .args .g))
+    × (startOf (tablesAt (s .args .file .now) (s .args .g)) (s .args .j) + slotsOf (tablesAt (s .args .file .now) (s .args .g)) (s .args .j)
+    ≤ fileSlots (s .args .g))
 inside s = (room _ _ (s .pre .0), ends (tablesAt (s .args .file .now) (s .args .g)) (s .args .j) (s .pre .2))
 
 span-at-requires : tie.Need-span-at-requires
@@ -25,19 +34,26 @@ cast-a : tie.Need-cast-a
 cast-a c = search needs
 
 mul-a : tie.Need-mul-a
-mul-a c = rw (c .before .before .span-at .ensures, c .before .per-day .ensures .0) (omega (arith, inside (c .before .before .before .before)))
+mul-a c = rw (c .before .before .span-at .ensures, c .before .per-day .ensures .0) (omega (arith, inside (start (c .before))))
 
 sub-k : tie.Need-sub-k
-sub-k c = rw (c .before .before .before .span-at .ensures) (omega (arith, ordered (tablesAt (c .before .before .before .before .before .args .file .now) (c .before .before .before .before .before .args .g)) (c .before .before .before .before .before .args .j) (c .before .before .before .before .before .pre .2)))
+sub-k c =
+    let begun = start (c .before .before) in
+    rw (c .before .before .before .span-at .ensures)
+    (omega (arith, ordered (tablesAt (begun .args .file .now) (begun .args .g)) (begun .args .j) (begun .pre .2)))
 
 cast-k : tie.Need-cast-k
 cast-k c = search needs
 
 mul-k : tie.Need-mul-k
-mul-k c = rw (c .before .before .before .span-at .ensures, c .before .before .per-day .ensures .0) (omega (arith, inside (c .before .before .before .before .before)))
+mul-k c =
+    rw (c .before .before .before .span-at .ensures, c .before .before .per-day .ensures .0)
+    (omega (arith, inside (start (c .before .before))))
 
 tally-of-requires : tie.Need-tally-of-requires
-tally-of-requires c κs = rw (c .before .before .before .span-at .ensures, c .before .before .per-day .ensures .0) (omega (arith, inside (c .before .before .before .before .before)))
+tally-of-requires c κs =
+    rw (c .before .before .before .span-at .ensures, c .before .before .per-day .ensures .0)
+    (omega (arith, inside (start (c .before .before))))
 
 is-within-requires : tie.Need-is-within-requires
 is-within-requires c κs = search needs
@@ -47,9 +63,9 @@ state-rule-requires c κs = search needs
 
 returns : tie.Need-returns
 unfolding stateOk talliedIn
-returns c = let s = c .before .before .before .before .before .before .span-at .ensures in
-    let n = c .before .before .before .before .before .per-day .ensures .0 in
-    let e = rw (s, n) at (c .before .before .tally-of .ensures) in
+returns c = let s = after-per-day c .before .span-at .ensures in
+    let n = after-per-day c .per-day .ensures .0 in
+    let e = simp (s, n) at (c .before .before .tally-of .ensures) in
     c .state-rule .ensures
     ∙ rule-same (ap (λ x. x .state) s)
     (ap (λ t. t .none) e) (ap (λ t. t .scaled) e) (ap (λ t. t .unscaled) e) (ap (λ t. t .substituted) e)

@@ -7,6 +7,19 @@ use Rattle.file.proofs.Offsets.{figures-at}
 use Rattle.file.proofs.trailer.figures_at.Statement.{statement}
 use Rattle.file.proofs.trailer.figures_at.Tie as tie
 
+-- ---- Places
+
+abbrev start : tie.After-number2 → tie.Start
+start c = c .before .before .before
+
+abbrev after-number4 : tie.After-number7 → tie.After-number4
+after-number4 c = c .before .before .before
+
+abbrev after-number2 : tie.After-number7 → tie.After-number2
+after-number2 c = after-number4 c .before .before .before
+
+-- ---- Needs
+
 sub-t : tie.Need-sub-t
 sub-t c = search needs
 
@@ -32,7 +45,7 @@ shared-slice-read-t10 : tie.Need-shared-slice-read-t10
 shared-slice-read-t10 c = search needs
 
 cast-t11 : tie.Need-cast-t11
-cast-t11 c = omega (arith, c .shared-slice-known2 .given (length (c .before .before .before .before .args .file .now) - 32 + 4))
+cast-t11 c = omega (arith, c .shared-slice-known2 .given (length (start (c .before) .args .file .now) - 32 + 4))
 
 add-number-2 : tie.Need-add-number-2
 add-number-2 c = search needs
@@ -83,17 +96,17 @@ shared-slice-read-t28 : tie.Need-shared-slice-read-t28
 shared-slice-read-t28 c = search needs
 
 cast-t29 : tie.Need-cast-t29
-cast-t29 c = omega (arith, c .shared-slice-known3 .given (length (c .before .before .before .before .before .before .before .before .before .before .args .file .now) - 32 + 5))
+cast-t29 c = omega (arith, c .shared-slice-known3 .given (length (start (after-number2 (c .before)) .args .file .now) - 32 + 5))
 
 returns : tie.Need-returns
 returns c =
-    let number = c .before .before .before .before .before .before .before .before .number in
-    let number2 = c .before .before .before .before .before .before .before .number2 in
-    let number3 = c .before .before .before .before .before .number3 in
-    let number4 = c .before .before .before .before .number4 in
+    let number = after-number2 (c .before) .before .number in
+    let number2 = after-number2 (c .before) .number2 in
+    let number3 = after-number4 (c .before) .before .number3 in
+    let number4 = after-number4 (c .before) .number4 in
     let number5 = c .before .before .before .number5 in
-    rw (
-      figures-at _,
+    simp (
+      figures-at,
       number .ensures .0,
       number2 .ensures .0,
       number3 .ensures .0,

@@ -6,10 +6,12 @@ use Rattle.file.proofs.trailer.per_day.Statement.{statement}
 use Rattle.file.proofs.trailer.per_day.Tie as tie
 
 cast-result : tie.Need-cast-result
-cast-result c = omega (arith, per-day-le (c .before .args .g .first) (c .before .args .g .days) (c .before .args .g .interval) (c .before .pre))
+cast-result c =
+    omega (arith, per-day-le (c .before .args .g .first) (c .before .args .g .days) (c .before .args .g .interval) (c .before .pre))
 
 div-result : tie.Need-div-result
-div-result c = omega (arith, interval-pos (c .before .args .g .first) (c .before .args .g .days) (c .before .args .g .interval) (c .before .pre))
+div-result c =
+    omega (arith, interval-pos (c .before .args .g .first) (c .before .args .g .days) (c .before .args .g .interval) (c .before .pre))
 
 returns : tie.Need-returns
 returns c = (refl, per-day-le (c .before .args .g .first) (c .before .args .g .days) (c .before .args .g .interval) (c .before .pre))

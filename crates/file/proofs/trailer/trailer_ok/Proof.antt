@@ -8,6 +8,28 @@ use Rattle.file.specs.Reader.{trailerOk}
 use Rattle.file.proofs.trailer.trailer_ok.Statement.{statement}
 use Rattle.file.proofs.trailer.trailer_ok.Tie as tie
 
+-- ---- Places
+
+abbrev start : tie.Then2 → tie.Start
+start c = c .before .before .before .before .before
+
+abbrev start-span-bytes : tie.After-span-bytes → tie.Start
+start-span-bytes c = c .before .before .before .before .before .before .before
+
+abbrev passed2 : tie.Then3 → tie.Else2
+passed2 c = c .before .before .before
+
+abbrev passed2-passed3 : tie.Else3 → tie.Else2
+passed2-passed3 c = c .before .before .before
+
+abbrev after-head-ok : tie.Else3 → tie.After-head-ok
+after-head-ok c = passed2-passed3 c .before .before .before
+
+abbrev passed2-slot-count : tie.After-slot-count → tie.Else2
+passed2-slot-count c = passed2-passed3 (c .before)
+
+-- ---- Needs
+
 sub-t : tie.Need-sub-t
 sub-t c = search needs
 
@@ -24,7 +46,7 @@ is-layout-requires c κs = search needs
 returns-2 : tie.Need-returns-2
 unfolding trailerOk
 returns-2 c =
-    let before = c .before .before .before .before .before in
+    let before = start c in
     let head-ok = c .before .before .before .head-ok in
     let if1 = c .before .before .if1 in
     simp (
@@ -45,13 +67,19 @@ span-bytes-requires c κs = search needs
 returns-3 : tie.Need-returns-3
 unfolding trailerOk
 returns-3 c =
-    let head = sym (c .before .before .before .before .before .before .head-ok .ensures) ∙ not-false _ (c .before .before .before .before .before .if1 .left) in
-    let known = sym (c .before .before .before .before .is-layout .ensures) ∙ not-false _ (c .before .before .before .if2 .left) in
+    let past2 = passed2 c in
+    let head = sym (past2 .before .before .before .head-ok .ensures) ∙ not-false _ (past2 .before .before .if1 .left) in
+    let known = sym (past2 .before .is-layout .ensures) ∙ not-false _ (c .before .before .before .if2 .left) in
     let back = c .before .span-bytes .ensures .0 in
-    simp (le-leb _ _ ((c .before .before .before .before .before .before .before .before) .pre), head, known, tests-false (c .before .before .number .ensures .0) (rw back at (c .if3 .taken)))
+    simp (
+      le-leb _ _ ((start-span-bytes (c .before)) .pre),
+      head,
+      known,
+      tests-false (c .before .before .number .ensures .0) (rw back at (c .if3 .taken)),
+    )
 
 slot-count-requires : tie.Need-slot-count-requires
-slot-count-requires c κs = sym (c .before .before .before .before .before .before .head-ok .ensures) ∙ not-false _ (c .before .before .before .before .before .if1 .left)
+slot-count-requires c κs = sym (after-head-ok c .head-ok .ensures) ∙ not-false _ (passed2-passed3 c .before .before .if1 .left)
 
 mul-result : tie.Need-mul-result
 mul-result c = search needs
@@ -65,11 +93,12 @@ add-result-2 c = search needs
 returns-4 : tie.Need-returns-4
 unfolding trailerOk
 returns-4 c =
-    let head = sym (c .before .before .before .before .before .before .before .head-ok .ensures) ∙ not-false _ (c .before .before .before .before .before .before .if1 .left) in
-    let known = sym (c .before .before .before .before .before .is-layout .ensures) ∙ not-false _ (c .before .before .before .before .if2 .left) in
+    let past2 = passed2-slot-count c in
+    let head = sym (after-head-ok (c .before) .head-ok .ensures) ∙ not-false _ (past2 .before .before .if1 .left) in
+    let known = sym (past2 .before .is-layout .ensures) ∙ not-false _ (past2 .if2 .left) in
     let back = c .before .before .span-bytes .ensures .0 in
     simp (
-      le-leb _ _ ((c .before .before .before .before .before .before .before .before .before) .pre),
+      le-leb _ _ ((start-span-bytes (c .before .before)) .pre),
       head,
       known,
       tests-true (c .before .before .before .number .ensures .0) (rw back at (c .before .if3 .left)),

@@ -9,6 +9,19 @@ use Rattle.file.proofs.Written.{row-last, row-next}
 use Rattle.file.proofs.writer.put_days.Statement.{statement}
 use Rattle.file.proofs.writer.put_days.Tie as tie
 
+-- ---- Places
+
+abbrev start : tie.After-put → tie.Start
+start c = c .before .before .before .before
+
+abbrev after-put : tie.After-put2 → tie.After-put
+after-put c = c .before .before .before .before .before
+
+abbrev after-put2 : tie.After-buf3 → tie.After-put2
+after-put2 c = c .before .before .before .before .before .before
+
+-- ---- Needs
+
 cast-put : tie.Need-cast-put
 cast-put c = search needs
 
@@ -38,9 +51,10 @@ same-length c = search needs
 
 returns : tie.Need-returns
 returns c =
-    let a = c .before .before .before .before .before .before .before .before .before .before .before .before .before .before .before .before .args in
-    let put = c .before .before .before .before .before .before .before .before .before .before .before .before .put in
-    let put2 = c .before .before .before .before .before .before .before .put2 in
+    let at-put2 = after-put2 (c .before) in
+    let a = start (after-put at-put2) .args in
+    let put = after-put at-put2 .put in
+    let put2 = at-put2 .put2 in
     let put3 = c .before .before .put3 in
     let row = trailerRow (a .g) in
     let r1 = put .ensures ∙ row-last (a .buf .now) (a .at) 2 (a .g .first) in

@@ -8,6 +8,16 @@ use Rattle.file.proofs.Written.{row-next}
 use Rattle.file.proofs.writer.put_head.Statement.{statement}
 use Rattle.file.proofs.writer.put_head.Tie as tie
 
+-- ---- Places
+
+abbrev after-put-days : tie.After-put → tie.After-put-days
+after-put-days c = c .before .before .before .before .before
+
+abbrev after-put : tie.After-buf3 → tie.After-put
+after-put c = c .before .before .before .before .before .before
+
+-- ---- Needs
+
 put-days-requires : tie.Need-put-days-requires
 put-days-requires c κs = search needs
 
@@ -34,12 +44,14 @@ same-length c = search needs
 
 returns : tie.Need-returns
 returns c =
-    let a = c .before .before .before .before .before .before .before .before .before .before .before .before .before .before .before .args in
-    let put-days = c .before .before .before .before .before .before .before .before .before .before .before .before .put-days in
-    let put = c .before .before .before .before .before .before .before .put in
+    let at-put = after-put (c .before) in
+    let a = after-put-days at-put .before .before .before .args in
+    let put-days = after-put-days at-put .put-days in
+    let put = at-put .put in
     let put2 = c .before .before .put2 in
     let row = trailerRow (a .g) in
-    let r4 = row-next (a .buf .now) _ _ (a .at) (a .at + 5) 1 (a .g .layout) (take 3 row) (put-days .ensures) (put .ensures) (omega arith) (omega arith) in
+    let r4 = row-next (a .buf .now) _ _ (a .at) (a .at + 5) 1 (a .g .layout) (take 3 row) (put-days .ensures) (put .ensures) (omega arith)
+    (omega arith) in
     row-next (a .buf .now) _ _ (a .at) (a .at + 6) 2 (a .g .spans) (take 4 row) r4 (put2 .ensures) (omega arith) (omega arith)
 
 pub put-head-spec : {M : Type 1} → statement M

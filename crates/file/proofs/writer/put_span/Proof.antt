@@ -9,6 +9,16 @@ use Rattle.file.proofs.Written.{row-next}
 use Rattle.file.proofs.writer.put_span.Statement.{statement}
 use Rattle.file.proofs.writer.put_span.Tie as tie
 
+-- ---- Places
+
+abbrev after-put-range : tie.After-put → tie.After-put-range
+after-put-range c = c .before .before .before .before .before
+
+abbrev after-put : tie.After-buf3 → tie.After-put
+after-put c = c .before .before .before .before .before
+
+-- ---- Needs
+
 put-range-requires : tie.Need-put-range-requires
 put-range-requires c κs = search needs
 
@@ -31,9 +41,12 @@ same-length : tie.Need-same-length
 same-length c = search needs
 
 returns : tie.Need-returns
-returns c = let a = c .before .before .before .before .before .before .before .before .before .before .before .before .before .before .args in
+returns c =
+    let at-put = after-put (c .before) in
+    let a = after-put-range at-put .before .before .before .args in
     let row = spanRow true (a .span) in
-    let r5 = row-next (a .buf .now) _ _ (a .at) (a .at + 12) 1 (a .span .state) (take 4 row) (c .before .before .before .before .before .before .before .before .before .before .before .put-range .ensures) (c .before .before .before .before .before .before .put .ensures) (omega arith) (omega arith) in
+    let r5 = row-next (a .buf .now) _ _ (a .at) (a .at + 12) 1 (a .span .state) (take 4 row) (after-put-range at-put .put-range .ensures)
+    (at-put .put .ensures) (omega arith) (omega arith) in
     row-next (a .buf .now) _ _ (a .at) (a .at + 13) 1 0 (take 5 row) r5 (c .before .before .put2 .ensures) (omega arith) (omega arith)
 
 pub put-span-spec : {M : Type 1} → statement M
