@@ -24,7 +24,8 @@ use Rattle.rules.proofs.Forms.Form.{unscaled, scaledLinear, scaledSameDay}
 use Rattle.rules.proofs.Neighbours.{Neighbours, each-span, side-by-side}
 use Rattle.rules.proofs.Outcomes.{outcome-form, scaled-inside}
 use Rattle.rules.proofs.States.{state-low, range-ordered, range-low, open-exactly, scaled-exactly, scaled-whole, scaled-within, agreed-no-s}
-use Rattle.file.specs.Reader.{Tables, ofQuality, scaled, unscaled as isUnscaled, startOf, slotsOf, has, recordOk, inRange, stateRule, spanOk, stateOk, outsideOk, tableTests}
+use Rattle.file.specs.Reader.{Tables, ofQuality, scaled, unscaled as isUnscaled, startOf, slotsOf, has, recordOk, inRange, stateRule}
+use Rattle.file.specs.Reader.{spanOk, stateOk, outsideOk, tableTests}
 use Rattle.file.specs.Contents.{slotRecord, spanRecord}
 use Rattle.file.proofs.Accepted.{Tests, testsS, testsN}
 use Rattle.file.proofs.Outside.{covers}
@@ -60,7 +61,8 @@ rule-ok state hasN hasScaled hasUnscaled hasS lowest values highest n s u v a =
       same-own (eqb state 2),
       same-own (eqb state 1),
       implied (eqb state 1) (not hasUnscaled) (λ e. rw (u (eqb-true state 1 e))),
-      implied (eqb state 1) (inRange lowest values highest) (λ e. let (p, q) = v (eqb-true state 1 e) in both _ _ (le-leb lowest values p) (le-leb values highest q)),
+      implied (eqb state 1) (inRange lowest values highest)
+          (λ e. let (p, q) = v (eqb-true state 1 e) in both _ _ (le-leb lowest values p) (le-leb values highest q)),
       implied (eqb state 0) (not hasS) (λ e. rw (a (eqb-true state 0 e))),
     )
 
@@ -110,7 +112,8 @@ module _ (h : Head) (bounds : Bounded h) (b : Cells) (narrow : WidthsLow (b .wid
             rw (e, eq-eqb _ _ (side-by-side h b k m), or-true)
 
     has-is : (q : Quality) (p : Quality → Bool) → Tests q p
-        → has t (ofQuality q) j ≡ any (λ i. p (outcomeAt h b i .quality)) (start h b (s .first) (s .last)) (slotsIn h b (s .first) (s .last))
+        → has t (ofQuality q) j
+        ≡ any (λ i. p (outcomeAt h b i .quality)) (start h b (s .first) (s .last)) (slotsIn h b (s .first) (s .last))
     unfolding start slotsIn
     has-is q p tests = any-cong _ _ _ _ (λ i _ _. tests .same (outcomeAt h b i .quality))
 
@@ -122,7 +125,8 @@ module _ (h : Head) (bounds : Bounded h) (b : Cells) (narrow : WidthsLow (b .wid
         (open-exactly h bounds b s here ∙ sym (has-is N isN testsN))
         (scaled-exactly h bounds b s here)
         (λ z.
-        any-cong _ _ _ _ (λ i _ _. ap (λ (q : Bool). q && not (isScaled (outcomeAt h b i .method))) (testsS .same (outcomeAt h b i .quality)))
+        any-cong _ _ _ _ (λ i _ _. ap (λ (q : Bool). q && not (isScaled (outcomeAt h b i .method)))
+        (testsS .same (outcomeAt h b i .quality)))
         ∙ scaled-whole h bounds b s here z)
         (scaled-within h bounds b s here)
         (λ z. has-is S isS testsS ∙ agreed-no-s h bounds b s here z)

@@ -39,7 +39,8 @@ module _ (d : List ℕ) where
   behind s t l = rw zero-add at (written-more d 0 s t (rw zero-add l))
 
   -- s at the front and t from place m on
-  two : (s t : List ℕ) (m : ℕ) → length s ≤ m → m + length t ≤ length d → written (written d 0 s) m t ≡ s ++ (gap d (length s) m ++ (t ++ drop (m + length t) d))
+  two : (s t : List ℕ) (m : ℕ) → length s ≤ m → m + length t ≤ length d
+      → written (written d 0 s) m t ≡ s ++ (gap d (length s) m ++ (t ++ drop (m + length t) d))
   unfolding written
   two s t m l k =
       let e : m ≡ length s + (m - length s) = omega arith in
@@ -61,7 +62,8 @@ module _ (d : List ℕ) where
       let n : length (s ++ r) ≡ length s + length r = length-append s r in
       let a : length r ≤ length g = rw (length-take-le (m - length s) (drop (length s) d) (rw length-drop (omega arith))) (omega arith) in
       let w : written (s ++ (g ++ x)) (length s) r ≡ s ++ (r ++ (drop (length r) g ++ x)) =
-      ap₂ (λ (u v : List ℕ). u ++ (r ++ v)) (take-append-seam s (g ++ x)) (drop-append-add s (g ++ x) (length r) ∙ drop-append-le (length r) g x a) in
+      ap₂ (λ (u v : List ℕ). u ++ (r ++ v)) (take-append-seam s (g ++ x))
+      (drop-append-add s (g ++ x) (length r) ∙ drop-append-le (length r) g x a) in
       let y : gap d (length s + length r) m ≡ drop (length r) g = rest in
       ap (λ (u : List ℕ). written u (length s) r) (two s t m (omega arith) k) ∙ w
       ∙ sym (two (s ++ r) t m (omega arith) k ∙ (rw (n, y) (append-assoc s r (drop (length r) g ++ x))))
@@ -72,7 +74,8 @@ module _ (d : List ℕ) where
           let e : m - length s ≡ length r + (m - (length s + length r)) = omega arith in
           let n : length r ≤ length o = rw length-drop (omega arith) in
           ap (take (m - (length s + length r))) (sym (drop-drop (length r) (length s) d))
-          ∙ sym (ap (λ (x : ℕ). drop (length r) (take x o)) e ∙ ap (drop (length r)) (take-add (length r) (m - (length s + length r)) o) ∙ drop-at (take (length r) o) (take (m - (length s + length r)) (drop (length r) o)) (length r) (length-take-le (length r) o n))
+          ∙ sym (ap (λ (x : ℕ). drop (length r) (take x o)) e ∙ ap (drop (length r)) (take-add (length r) (m - (length s + length r)) o)
+          ∙ drop-at (take (length r) o) (take (m - (length s + length r)) (drop (length r) o)) (length r) (length-take-le (length r) o n))
 
 -- a table of one row, and of two tables' rows
 pub table-one : {X : Type 0} (r : X → List (ℕ × ℕ)) (x : X) → table r (x ∷ []) ≡ row (r x)
@@ -82,7 +85,8 @@ table-one r x = append-nil (row (r x))
 pub table-append : {X : Type 0} (r : X → List (ℕ × ℕ)) (xs ys : List X) → table r (xs ++ ys) ≡ table r xs ++ table r ys
 unfolding table
 table-append r [] ys = refl
-table-append r (x ∷ xs) ys = ap (λ (l : List ℕ). row (r x) ++ l) (table-append r xs ys) ∙ sym (append-assoc (row (r x)) (table r xs) (table r ys))
+table-append r (x ∷ xs) ys =
+    ap (λ (l : List ℕ). row (r x) ++ l) (table-append r xs ys) ∙ sym (append-assoc (row (r x)) (table r xs) (table r ys))
 
 pub written-none : (d : List ℕ) (at : ℕ) → written d at [] ≡ d
 unfolding written
@@ -101,7 +105,8 @@ module _ (h : Head) (b : Cells) where
   buffer-first d = rw (written-none d 0) (written-none d (6 * slotCount h))
 
   -- more slots, and more spans
-  pub buffer-slots : (d : List ℕ) (os rest : List Outcome) (ss : List Span) → length os + length rest ≤ slotCount h → 6 * slotCount h + 14 * length ss ≤ length d
+  pub buffer-slots : (d : List ℕ) (os rest : List Outcome) (ss : List Span) → length os + length rest ≤ slotCount h
+      → 6 * slotCount h + 14 * length ss ≤ length d
       → written (bufferOf h d os ss) (6 * length os) (table slotRow rest) ≡ bufferOf h d (os ++ rest) ss
   unfolding bufferOf
   buffer-slots d os rest ss l k =
@@ -111,7 +116,8 @@ module _ (h : Head) (b : Cells) where
       rw (table-append slotRow os rest, ← a)
       (front-more d (table slotRow os) (table (spanRow true) ss) (table slotRow rest) (6 * slotCount h) (omega arith) (omega arith))
 
-  pub buffer-spans : (d : List ℕ) (os : List Outcome) (ss rest : List Span) → length os ≤ slotCount h → 6 * slotCount h + 14 * length ss ≤ length d
+  pub buffer-spans : (d : List ℕ) (os : List Outcome) (ss rest : List Span) → length os ≤ slotCount h
+      → 6 * slotCount h + 14 * length ss ≤ length d
       → written (bufferOf h d os ss) (6 * slotCount h + 14 * length ss) (table (spanRow true) rest) ≡ bufferOf h d os (ss ++ rest)
   unfolding bufferOf
   buffer-spans d os ss rest l k =
@@ -128,7 +134,8 @@ module _ (h : Head) (b : Cells) where
 
   -- the trailer behind both tables ends the file
   file-written : (w : Bounded h) (d : List ℕ) → fileLength h b ≤ length d
-      → written (bufferAt h b d (slotCount h)) (6 * slotCount h + 14 * length (spans h b)) (row (trailerRow (figuresOf (published h b)))) ≡ fileOf (published h b) ++ drop (fileLength h b) d
+      → written (bufferAt h b d (slotCount h)) (6 * slotCount h + 14 * length (spans h b)) (row (trailerRow (figuresOf (published h b))))
+      ≡ fileOf (published h b) ++ drop (fileLength h b) d
   unfolding bufferAt bufferOf fileOf tablesOf fileLength published outcomes
   file-written w d k =
       let s : List ℕ = table slotRow (firstSlots h b (slotCount h)) in
@@ -140,10 +147,13 @@ module _ (h : Head) (b : Cells) where
       let o = length-upTo (outcomeAt h b) 0 (slotCount h) in
       let g : length u ≡ 32 = length-row (trailerRow (figuresOf (published h b))) in
       let p : written (written d 0 s) (6 * slotCount h) t ≡ written d 0 (s ++ t) = rw (sym a) (behind d s t (omega arith)) in
-      let q : written (written d 0 (s ++ t)) (6 * slotCount h + 14 * length (spans h b)) u ≡ written d 0 ((s ++ t) ++ u) = rw (sym n) (behind d (s ++ t) u (omega arith)) in
-      let m : length ((s ++ t) ++ u) ≡ 6 * length (firstSlots h b (slotCount h)) + 14 * length (spans h b) + 32 = omega (arith, length-append (s ++ t) u) in
+      let q : written (written d 0 (s ++ t)) (6 * slotCount h + 14 * length (spans h b)) u ≡ written d 0 ((s ++ t) ++ u) =
+      rw (sym n) (behind d (s ++ t) u (omega arith)) in
+      let m : length ((s ++ t) ++ u) ≡ 6 * length (firstSlots h b (slotCount h)) + 14 * length (spans h b) + 32 =
+      omega (arith, length-append (s ++ t) u) in
       rw (begun-all h b w, p) (q ∙ front d ((s ++ t) ++ u) ∙ ap (λ (x : ℕ). ((s ++ t) ++ u) ++ drop x d) m)
 
-  pub file-put : (w : Bounded h) (d d₁ d₂ : List ℕ) (place : ℕ) (g : Figures) → fileLength h b ≤ length d → d₁ ≡ bufferAt h b d (slotCount h) → place ≡ 6 * slotCount h + 14 * length (spans h b)
+  pub file-put : (w : Bounded h) (d d₁ d₂ : List ℕ) (place : ℕ) (g : Figures) → fileLength h b ≤ length d
+      → d₁ ≡ bufferAt h b d (slotCount h) → place ≡ 6 * slotCount h + 14 * length (spans h b)
       → g ≡ figuresOf (published h b) → d₂ ≡ written d₁ place (row (trailerRow g)) → d₂ ≡ fileOf (published h b) ++ drop (fileLength h b) d
   file-put w d d₁ d₂ place g k x y z e = e ∙ (rw (x, y, z) (file-written w d k))

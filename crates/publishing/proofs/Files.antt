@@ -55,8 +55,12 @@ module _ (h : Head) (b : Cells) where
     well-formed = record {
       head = head-own;
       slots = slots-own;
-      values = λ i l. rw (slot-own i (rw slots-own at l)) (omega (arith, outcome-fits h (bounded h ok) b (agreed-low h b s) i (widths-low h b s)));
-      tables = tables-agree (recordsOf (published h b)) (bookTables h b) agree (book-ok h (bounded h ok) b (widths-low h b s) (agreed-low h b s));
+      values =
+          λ i l. rw (slot-own i (rw slots-own at l))
+          (omega (arith, outcome-fits h (bounded h ok) b (agreed-low h b s) i (widths-low h b s)));
+      tables =
+          tables-agree (recordsOf (published h b)) (bookTables h b) agree
+          (book-ok h (bounded h ok) b (widths-low h b s) (agreed-low h b s));
       known = unfold layoutOk in refl;
       fits = unfold layoutFits in refl;
       exact = λ e. absurd (false≢true (sym e));
@@ -66,8 +70,10 @@ module _ (h : Head) (b : Cells) where
     published-fits = fitting (published h b) well-formed
 
     -- the reader accepts it, with its figures and its tables
-    pub published-accepted : (readFile (fileOf (published h b)) ≡ Accepted (figuresOf (published h b))) × (tablesPart (fileOf (published h b)) ≡ tablesOf (published h b))
+    pub published-accepted : (readFile (fileOf (published h b)) ≡ Accepted (figuresOf (published h b)))
+        × (tablesPart (fileOf (published h b)) ≡ tablesOf (published h b))
     published-accepted = (accepted (published h b) well-formed, tables-back (published h b) well-formed)
 
-pub files-equal : (h g : Head) (b c : Cells) → Sound h b → Sound g c → (fileOf (published h b) ≡ fileOf (published g c)) ↔ (published h b ≡ published g c)
+pub files-equal : (h g : Head) (b c : Cells) → Sound h b → Sound g c
+    → (fileOf (published h b) ≡ fileOf (published g c)) ↔ (published h b ≡ published g c)
 files-equal h g b c p q = (injective (published h b) (published g c) (published-fits h b p) (published-fits g c q), ap fileOf)

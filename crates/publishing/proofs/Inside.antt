@@ -34,13 +34,15 @@ use Rattle.file.proofs.Rows.{length-row}
 use Rattle.file.proofs.Written.{length-written}
 use Rattle.publishing.specs.declared.tables.Totals.{Totals}
 use Rattle.publishing.specs.declared.tables.Progress.{Progress}
-use Rattle.publishing.specs.Inner.Publishing.{totalsOf, addedTo, directTotals, directRecords, firstSlots, bufferOf, bufferAt, bufferIn, progressAt, Countable}
+use Rattle.publishing.specs.Inner.Publishing.{totalsOf, addedTo, directTotals, directRecords, firstSlots, bufferOf, bufferAt}
+use Rattle.publishing.specs.Inner.Publishing.{bufferIn, progressAt, Countable}
 use Rattle.publishing.proofs.Buffers.{buffer-slots, buffer-spans, length-first, table-one, written-none}
 use Rattle.publishing.proofs.Records.{records-more}
 use Rattle.publishing.proofs.Totals.{totals-next, begun-next, slots-next, countable}
 
 -- the stretch begins at slot `from` and ends before slot `until`; d₀ is the buffer at its first slot, d that before slot i
-pub record Inside (h : Head) (b : Cells) (d₀ : List ℕ) (from until : ℕ) (o : Bool) (l : Line) (here : Stretch) (t : Totals) (d : List ℕ) (i : ℕ)
+pub record Inside (h : Head) (b : Cells) (d₀ : List ℕ) (from until : ℕ) (o : Bool) (l : Line) (here : Stretch) (t : Totals) (d : List ℕ)
+    (i : ℕ)
     : Type 0 where
   pub further : from ≤ i
   pub inside : i ≤ until
@@ -72,7 +74,8 @@ module _ (h : Head) (w : Bounded h) (b : Cells) where
 
 module _ (h : Head) (w : Bounded h) (b : Cells) (d₀ : List ℕ) (from until : ℕ) (last : until ≤ slotCount h) where
   -- one slot on
-  module _ (o : Bool) (l : Line) (here : Stretch) (t : Totals) (d : List ℕ) (i : ℕ) (held : Inside h b d₀ from until o l here t d i) (inside : i < until)
+  module _ (o : Bool) (l : Line) (here : Stretch) (t : Totals) (d : List ℕ) (i : ℕ) (held : Inside h b d₀ from until o l here t d i)
+      (inside : i < until)
       (slot : Outcome) (x : ℕ) (filled : slot ≡ filledAt h (b .slots) (b .agreed) (b .holidays) i)
       (shaped : x ≡ shapeAt h (b .slots) (b .agreed) (b .holidays) i) where
     outcome : fitOutcome slot x here ≡ outcomeAt h b i
@@ -89,13 +92,15 @@ module _ (h : Head) (w : Bounded h) (b : Cells) (d₀ : List ℕ) (from until : 
       where
         later : from < i → begunBefore h b (i + 1) ≡ begunBefore h b (from + 1)
         later l =
-            let ends : i ≡ carriedAt h b i .until → ⊥ = λ e. omega (arith, e ∙ ap (λ (r : Stretch). r .until) (sym (held .carried l)) ∙ held .end) in
+            let ends : i ≡ carriedAt h b i .until
+            → ⊥ = λ e. omega (arith, e ∙ ap (λ (r : Stretch). r .until) (sym (held .carried l)) ∙ held .end) in
             let none = carried-on h w b i (omega arith) ends .0 in
             begun-next h b i ∙ ap (λ (g : Begins). begunBefore h b i ++ listOf g) none ∙ append-nil _ ∙ held .begun l
 
     on-stretch : i + 1 < until → fitNext slot x here ≡ stretchAt h b (i + 1)
     on-stretch l =
-        let ends : i + 1 ≡ carriedAt h b (i + 1) .until → ⊥ = λ e. omega (arith, e ∙ ap (λ (r : Stretch). r .until) (sym on-carried) ∙ on-end) in
+        let ends : i + 1 ≡ carriedAt h b (i + 1) .until
+        → ⊥ = λ e. omega (arith, e ∙ ap (λ (r : Stretch). r .until) (sym on-carried) ∙ on-end) in
         on-carried ∙ carried-on h w b (i + 1) (omega arith) ends .1
 
     inside-on : (o' : Bool) (l' : Line) (out : List ℕ) → o' ≡ zeroAt (b .slots .versions) (b .slots .statuses) (slotCount h) i
@@ -116,7 +121,9 @@ module _ (h : Head) (w : Bounded h) (b : Cells) (d₀ : List ℕ) (from until : 
           carried = λ k. on-carried;
           begun = λ k. on-begun;
           totals = (λ k. addedTo (held .totals k) (outcome k)) ∙ sym (totals-next h b i);
-          long = ap length e ∙ length-written d (6 * i) r (omega (arith, held .long, length-row (slotRow (fitOutcome slot x here)))) ∙ held .long;
+          long =
+              ap length e ∙ length-written d (6 * i) r (omega (arith, held .long, length-row (slotRow (fitOutcome slot x here))))
+              ∙ held .long;
           bytes = λ y n f.
               e ∙ (λ k. written (held .bytes y n f k) (6 * i) (row (slotRow (outcome k))))
               ∙ slot-more h w b y i (from + 1) (omega arith) (omega (arith, begun));
@@ -174,10 +181,16 @@ module _ (h : Head) (w : Bounded h) (b : Cells) (d₀ : List ℕ) (from until : 
       })
   run (suc k) m direct =
       let is = direct (i + k) (omega arith) (omega arith) in
-      let on = inside-on h w b d₀ from until last _ _ here _ _ (i + k) (run k (omega arith) (λ j n. direct j (omega arith))) (omega arith) _ 0
+      let on = inside-on h w b d₀ from until last _ _ here _ _ (i + k) (run k (omega arith) (λ j n. direct j (omega arith))) (omega arith) _
+      0
       (direct-filled h (b .slots) (b .agreed) (i + k) is (b .holidays)) (direct-shape h (b .slots) (b .agreed) (i + k) is (b .holidays))
       _ _ _ refl refl room refl in
-      rw (add-suc i k) (rw (direct-outcome h b (i + k) here, direct-next h b (i + k) here, records-more h (b .slots) (b .agreed) d i k (omega (arith, held .long, last)), add-one (i + k)) at on)
+      rw (add-suc i k) (rw (
+        direct-outcome h b (i + k) here,
+        direct-next h b (i + k) here,
+        records-more h (b .slots) (b .agreed) d i k (omega (arith, held .long, last)),
+        add-one (i + k),
+      ) at on)
 
   pub inside-run : (end : ℕ) (o' : Bool) (l' : Line) (t' : Totals) (out : List ℕ) → i ≤ end → end ≤ until
       → ((j : ℕ) → j < end → i ≤ j → directAt h (b .slots) (b .agreed) j ≡ true)
@@ -197,26 +210,34 @@ module _ (h : Head) (b : Cells) (d₀ : List ℕ) (from until : ℕ) (o : Bool) 
     (held : Inside h b d₀ from until o l here t d i) (further : from < until) (ends : until ≤ i) where
   pub passed : record { walk = record { at = i; outage = o; line = l }; stretch = here } ≡ passAt h b i
   unfolding passAt walkAt
-  passed = λ k. record { walk = record { at = i; outage = held .outage k; line = held .line k }; stretch = held .carried (omega (arith, held .inside)) k }
+  passed =
+      λ k. record {
+        walk = record { at = i; outage = held .outage k; line = held .line k };
+        stretch = held .carried (omega (arith, held .inside)) k;
+      }
 
 -- from a stretch to the next
-module _ (h : Head) (w : Bounded h) (b : Cells) (i : ℕ) (inside : i < slotCount h) (n : ℕ) (known : n ≡ length (begunBefore h b i)) (g : Begins)
+module _ (h : Head) (w : Bounded h) (b : Cells) (i : ℕ) (inside : i < slotCount h) (n : ℕ) (known : n ≡ length (begunBefore h b i))
+    (g : Begins)
     (begins : g ≡ beginsAt h b i) where
   -- with the span that begins at slot i
   pub spans-begun : n + length (listOf g) ≡ length (begunBefore h b (i + 1))
   spans-begun = rw (known, begins) (sym (ap length (begun-next h b i) ∙ length-append (begunBefore h b i) (listOf (beginsAt h b i))))
 
-  pub bytes-begun : (x d e : List ℕ) (place : ℕ) → 6 * slotCount h + 14 * length (spans h b) ≤ length x → d ≡ bufferAt h b x i → place ≡ 6 * slotCount h
+  pub bytes-begun : (x d e : List ℕ) (place : ℕ) → 6 * slotCount h + 14 * length (spans h b) ≤ length x → d ≡ bufferAt h b x i
+      → place ≡ 6 * slotCount h
       → e ≡ written d (place + 14 * n) (table (spanRow true) (listOf g)) → e ≡ bufferIn h b x i (i + 1)
   unfolding bufferAt bufferIn
   bytes-begun x d e place room held p u =
       let first = length-first h b i in
-      let more = buffer-spans h b x (firstSlots h b i) (begunBefore h b i) (listOf (beginsAt h b i)) (omega arith) (omega (arith, begun-room h b w i inside)) in
+      let more = buffer-spans h b x (firstSlots h b i) (begunBefore h b i) (listOf (beginsAt h b i)) (omega arith)
+      (omega (arith, begun-room h b w i inside)) in
       u ∙ (rw (held, p, known, begins, begun-next h b i) more)
 
 -- behind a stretch, where k slots' spans have begun
 module _ (h : Head) (b : Cells) (at k : ℕ) (begun : begunBefore h b at ≡ begunBefore h b k) where
-  pub whole-progress : (p : Progress) → p .pass ≡ passAt h b at → p .spans ≡ length (begunBefore h b k) → p .totals ≡ totalsOf (firstSlots h b at)
+  pub whole-progress : (p : Progress) → p .pass ≡ passAt h b at → p .spans ≡ length (begunBefore h b k)
+      → p .totals ≡ totalsOf (firstSlots h b at)
       → p ≡ progressAt h b at
   unfolding progressAt
   whole-progress p x y z = let s = y ∙ ap length (sym begun) in λ t. record { pass = x t; spans = s t; totals = z t }

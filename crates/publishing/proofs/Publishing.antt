@@ -21,7 +21,8 @@ use Rattle.rules.specs.Inner.Stretches.{readCount}
 use Rattle.rules.proofs.Bounds.{bounded}
 use Rattle.rules.proofs.Counts.{span-count}
 use Rattle.rules.proofs.Neighbours.{spans-few}
-use Rattle.book.specs.Cells.{slotFaultAt, dayFaultAt, numberFault, readFault, readFaultAt, agreedFaultAt, readsOf, cellsOk, Book, bookFits, bookOk}
+use Rattle.book.specs.Cells.{slotFaultAt, dayFaultAt, numberFault, readFault, readFaultAt, agreedFaultAt, readsOf, cellsOk, Book, bookFits}
+use Rattle.book.specs.Cells.{bookOk}
 use Rattle.book.proofs.Fits.{lengths-of}
 use Rattle.publishing.specs.Publishing.{published, fileLength, publishAnswer, publishAfter}
 use Rattle.publishing.specs.declared.Published.{Published}
@@ -41,7 +42,8 @@ neither true b e = absurd (false≢true (sym e))
 neither false b e = (refl, e)
 
 -- numbers within a limit at the first n places of a list are so at every place, where it is n long
-module _ (numbers : List ℕ) (n limit : ℕ) (long : length numbers ≡ n) (faultAt : ℕ → Bool) (low : (i : ℕ) → faultAt i ≡ false → getD numbers i 0 ≤ limit) where
+module _ (numbers : List ℕ) (n limit : ℕ) (long : length numbers ≡ n) (faultAt : ℕ → Bool)
+    (low : (i : ℕ) → faultAt i ≡ false → getD numbers i 0 ≤ limit) where
   all-low : any faultAt 0 n ≡ false → (i : ℕ) → getD numbers i 0 ≤ limit
   all-low none i =
       ⊎-elim inside
@@ -70,7 +72,8 @@ module _ (h : Head) (b : Cells) (s : Sound h b) where
   readings-low d =
       let le =
       all-low (b .readings) (suc (h .days)) 99_999_999 (lengths-of h b (s .fit) .readings) (readFaultAt (readsOf b))
-      (λ i e. number-low 99_999_999 (getD (b .reads) i 0) (getD (b .readings) i 0) (read-clean i e .0)) (not-true _ (passed cellTests (s .cells) 2)) d in
+      (λ i e. number-low 99_999_999 (getD (b .reads) i 0) (getD (b .readings) i 0) (read-clean i e .0))
+      (not-true _ (passed cellTests (s .cells) 2)) d in
       omega arith
 
   pub widths-low : WidthsLow (b .widths)
@@ -84,14 +87,19 @@ module _ (h : Head) (b : Cells) (s : Sound h b) where
   agreed-low i =
       let le =
       all-low (b .agreed .values) (slotCount h) 99_999_999 (lengths-of h b (s .fit) .agreed) (agreedFaultAt (b .agreed))
-      (λ j e. number-low 99_999_999 (getD (b .agreed .versions) j 0) (getD (b .agreed .values) j 0) e) (not-true _ (passed cellTests (s .cells) 3)) i in
+      (λ j e. number-low 99_999_999 (getD (b .agreed .versions) j 0) (getD (b .agreed .values) j 0) e)
+      (not-true _ (passed cellTests (s .cells) 3)) i in
       omega arith
 
   pub whole-of : Whole h b
   whole-of =
       let l = lengths-of h b (s .fit) in
       record {
-        lent = record { fitted = record { head = s .head; values = l .values; versions = l .versions; statuses = l .statuses }; holidays = l .holidays };
+        lent =
+            record {
+              fitted = record { head = s .head; values = l .values; versions = l .versions; statuses = l .statuses };
+              holidays = l .holidays;
+            };
         dialled = record { length = l .readings; low = readings-low };
         reads = l .reads;
         settled = record { values = l .agreed; versions = l .agreedVersions; low = agreed-low };

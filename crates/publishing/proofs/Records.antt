@@ -38,7 +38,8 @@ module _ (h : Head) (s : Slots) (a : Agreed) where
       rw (p, e) (written-more d (6 * from) (directRecords h s a from k) (row (slotRow (f (from + k)))) (omega (arith, n)))
 
 -- the direct slots from `from` as far as `at` are written into d₀ and counted
-pub record Ran (h : Head) (s : Slots) (a : Agreed) (d₀ : List ℕ) (from to : ℕ) (t₀ : Totals) (o : Bool) (t : Totals) (d : List ℕ) (at : ℕ) : Type 0 where
+pub record Ran (h : Head) (s : Slots) (a : Agreed) (d₀ : List ℕ) (from to : ℕ) (t₀ : Totals) (o : Bool) (t : Totals) (d : List ℕ)
+    (at : ℕ) : Type 0 where
   pub further : from ≤ at
   pub inside : at ≤ to
   pub direct : (i : ℕ) → i < at → from ≤ i → directAt h s a i ≡ true
@@ -49,7 +50,8 @@ pub record Ran (h : Head) (s : Slots) (a : Agreed) (d₀ : List ℕ) (from to : 
 
 module _ (h : Head) (s : Slots) (a : Agreed) (d₀ : List ℕ) (from to : ℕ) (t₀ : Totals) (o : Bool) (t : Totals) (d : List ℕ) (at : ℕ)
     (ran : Ran h s a d₀ from to t₀ o t d at) where
-  pub ran-on : (x : Outcome) (o' : Bool) (t' : Totals) (d' : List ℕ) → 6 * to ≤ length d₀ → at < to → directAt h s a at ≡ true → x ≡ directOf h s a at
+  pub ran-on : (x : Outcome) (o' : Bool) (t' : Totals) (d' : List ℕ) → 6 * to ≤ length d₀ → at < to → directAt h s a at ≡ true
+      → x ≡ directOf h s a at
       → o' ≡ zeroAt (s .versions) (s .statuses) (slotCount h) at → t' ≡ addedTo t x → d' ≡ written d (6 * at) (row (slotRow x))
       → Ran h s a d₀ from to t₀ o' t' d' (at + 1)
   unfolding zeroBefore directTotals
@@ -76,7 +78,8 @@ module _ (h : Head) (s : Slots) (a : Agreed) (d₀ : List ℕ) (from to : ℕ) (
   }
 
 -- where no slot is direct, nothing is written
-pub none-put : (h : Head) (s : Slots) (a : Agreed) (d e : List ℕ) (from to : ℕ) (t : Totals) (r : DirectPut) → PutTo h s a d e from to t r → r .end ≤ from → e ≡ d
+pub none-put : (h : Head) (s : Slots) (a : Agreed) (d e : List ℕ) (from to : ℕ) (t : Totals) (r : DirectPut) → PutTo h s a d e from to t r
+    → r .end ≤ from → e ≡ d
 unfolding upTo table
 none-put h s a d e from to t r put l =
     let k : r .end - from ≡ 0 = omega arith in

@@ -59,7 +59,8 @@ module _ (h : Head) (b : Cells) (i : ℕ) where
       go false = omega arith
 
   pub count-low : (q : Quality → Bool) → total (one q) (firstSlots h b i) ≤ i * 1
-  count-low q = rw (total-sum (one q) (outcomeAt h b) 0 i) (sum-small (λ j. one q (outcomeAt h b j)) 1 (λ j. one-low q (outcomeAt h b j)) 0 i)
+  count-low q =
+      rw (total-sum (one q) (outcomeAt h b) 0 i) (sum-small (λ j. one q (outcomeAt h b j)) 1 (λ j. one-low q (outcomeAt h b j)) 0 i)
 
   pub sum-low : Bounded h → AgreedLow (b .agreed) → WidthsLow (b .widths) → total (λ o. o .value) (firstSlots h b i) ≤ i * 100_000_000
   sum-low w low narrow =
@@ -75,19 +76,27 @@ module _ (t : Totals) (o : Outcome) where
   unfolding with
   added q e = ap (λ (x : Quality). addedTo t (with x)) (sym e)
 
-  pub added-actual : o .quality ≡ A → record { actual = t .actual + 1; substituted = t .substituted; agreed = t .agreed; none = t .none; sum = t .sum + o .value } ≡ addedTo t o
+  pub added-actual : o .quality ≡ A
+      → record { actual = t .actual + 1; substituted = t .substituted; agreed = t .agreed; none = t .none; sum = t .sum + o .value }
+      ≡ addedTo t o
   unfolding addedTo with
   added-actual e = simp add-zero refl ∙ added A e
 
-  pub added-substituted : o .quality ≡ S → record { actual = t .actual; substituted = t .substituted + 1; agreed = t .agreed; none = t .none; sum = t .sum + o .value } ≡ addedTo t o
+  pub added-substituted : o .quality ≡ S
+      → record { actual = t .actual; substituted = t .substituted + 1; agreed = t .agreed; none = t .none; sum = t .sum + o .value }
+      ≡ addedTo t o
   unfolding addedTo with
   added-substituted e = simp add-zero refl ∙ added S e
 
-  pub added-agreed : o .quality ≡ F → record { actual = t .actual; substituted = t .substituted; agreed = t .agreed + 1; none = t .none; sum = t .sum + o .value } ≡ addedTo t o
+  pub added-agreed : o .quality ≡ F
+      → record { actual = t .actual; substituted = t .substituted; agreed = t .agreed + 1; none = t .none; sum = t .sum + o .value }
+      ≡ addedTo t o
   unfolding addedTo with
   added-agreed e = simp add-zero refl ∙ added F e
 
-  pub added-none : o .quality ≡ N → record { actual = t .actual; substituted = t .substituted; agreed = t .agreed; none = t .none + 1; sum = t .sum + o .value } ≡ addedTo t o
+  pub added-none : o .quality ≡ N
+      → record { actual = t .actual; substituted = t .substituted; agreed = t .agreed; none = t .none + 1; sum = t .sum + o .value }
+      ≡ addedTo t o
   unfolding addedTo with
   added-none e = simp add-zero refl ∙ added N e
 
@@ -107,7 +116,8 @@ module _ (h : Head) (b : Cells) (i : ℕ) where
     progress-here = e ∙ ap (progressAt h b) (sym progress-place)
 
 -- before slot 0
-pub progress-first : (h : Head) (b : Cells) (p : Pass) → p ≡ passAt h b 0 → record { pass = p; spans = 0; totals = record { actual = 0; substituted = 0; agreed = 0; none = 0; sum = 0 } } ≡ progressAt h b 0
+pub progress-first : (h : Head) (b : Cells) (p : Pass) → p ≡ passAt h b 0
+    → record { pass = p; spans = 0; totals = record { actual = 0; substituted = 0; agreed = 0; none = 0; sum = 0 } } ≡ progressAt h b 0
 unfolding progressAt begunBefore totalsOf total upTo
 progress-first h b p e = rw e
 
@@ -122,7 +132,17 @@ module _ (h : Head) (b : Cells) (t : Totals) (e : t ≡ totalsOf (outcomes h b))
 
   -- the trailer's figures of what a book publishes
   pub figures-found : (first spans₀ : ℕ) → first ≡ firstDay h → spans₀ ≡ length (spans h b)
-      → record { first = first; days = h .days; interval = h .interval; spans = spans₀; actual = t .actual; substituted = t .substituted + t .agreed; none = t .none; sum = t .sum; layout = 3 } ≡ figuresOf (published h b)
+      → record {
+        first = first;
+        days = h .days;
+        interval = h .interval;
+        spans = spans₀;
+        actual = t .actual;
+        substituted = t .substituted + t .agreed;
+        none = t .none;
+        sum = t .sum;
+        layout = 3;
+      } ≡ figuresOf (published h b)
   unfolding figuresOf published totalsOf
   figures-found first spans₀ x y = rw (x, y, e)
 

@@ -4,51 +4,34 @@ use mathlib.Core.Bool.{true}
 use mathlib.Core.Path.{_≡_, sym, _∙_}
 use borrow.Author.Tests.{not-true, not-false}
 use Rattle.rules.specs.Opening.{headOk}
-use Rattle.rules.proofs.opening.head_ok.Reads as head-ok-reads
 use Rattle.book.specs.Cells.{Book, bookFits}
 use Rattle.book.specs.Lent.{lentBook}
 use Rattle.publishing.proofs.Publishing.{refused-1, refused-2}
-use Rattle.publishing.proofs.lists_fit.Reads as lists-fit-reads
-use Rattle.publishing.proofs.put_fitted.Reads as put-fitted-reads
-use Rattle.publishing.proofs.publish.Reads as reads
-use Rattle.publishing.proofs.publish.Lts as lts
 use Rattle.publishing.proofs.publish.Statement.{statement}
 use Rattle.publishing.proofs.publish.Tie as tie
 
-abbrev claims : lts.Claims
-claims = (
-  head-ok-reads.Asked,
-  head-ok-reads.Learnt,
-  lists-fit-reads.Asked,
-  lists-fit-reads.Learnt,
-  put-fitted-reads.Asked,
-  put-fitted-reads.Learnt,
-)
+-- ---- Places
 
-abbrev Start : Type 0
-Start = lts.Start claims reads.Pre reads.Post
+abbrev entry-taken1 : tie.Then1 → tie.Start
+entry-taken1 c = c .before .before .before .before .before .before .before .before .before .before .before .before .before
 
-abbrev lent : Start → Book
-lent c = lentBook (c .args .values) (c .args .versions) (c .args .statuses) (c .args .holidays) (c .args .readings) (c .args .reads) (c .args .agreed) (c .args .agreed-versions) (c .args .counts) (c .args .widths)
+abbrev lent : tie.Start → Book
+lent c =
+    lentBook (c .args .values) (c .args .versions) (c .args .statuses) (c .args .holidays) (c .args .readings) (c .args .reads)
+    (c .args .agreed) (c .args .agreed-versions) (c .args .counts) (c .args .widths)
 
 -- ---- The tests that were passed
 
-abbrev Past1 : Type 0
-Past1 = lts.Else1 claims reads.Pre reads.Post
-
-abbrev Past2 : Type 0
-Past2 = lts.Else2 claims reads.Pre reads.Post
-
-abbrev from1 : Past1 → Start
+abbrev from1 : tie.Else1 → tie.Start
 from1 c = c .before .before .before .before .before .before .before .before .before .before .before .before .before
 
-abbrev from2 : Past2 → Start
+abbrev from2 : tie.Else2 → tie.Start
 from2 c = from1 (c .before .before)
 
-head-passed : (c : Past1) → headOk (from1 c .args .head) ≡ true
+head-passed : (c : tie.Else1) → headOk (from1 c .args .head) ≡ true
 head-passed c = sym (c .before .head-ok .ensures) ∙ not-false _ (c .if1 .left)
 
-lists-passed : (c : Past2) → bookFits (from2 c .args .head) (lent (from2 c)) ≡ true
+lists-passed : (c : tie.Else2) → bookFits (from2 c .args .head) (lent (from2 c)) ≡ true
 lists-passed c = sym (c .before .lists-fit .ensures) ∙ not-false _ (c .if2 .left)
 
 -- ---- The needs
@@ -58,7 +41,7 @@ head-ok-requires c κs = search needs
 
 returns : tie.Need-returns
 returns c =
-    let start = c .before .before .before .before .before .before .before .before .before .before .before .before .before in
+    let start = entry-taken1 c in
     refused-1 (start .args .head) (lent start) (start .args .out .now) (sym (c .before .head-ok .ensures) ∙ not-true _ (c .if1 .taken))
 
 lists-fit-requires : tie.Need-lists-fit-requires

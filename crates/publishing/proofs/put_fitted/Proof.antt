@@ -10,20 +10,32 @@ use Rattle.publishing.proofs.Publishing.{refused-11, put-left}
 use Rattle.publishing.proofs.put_fitted.Statement.{statement}
 use Rattle.publishing.proofs.put_fitted.Tie as tie
 
+-- ---- Places
+
+abbrev entry : tie.After-slice-known → tie.Start
+entry c = c .before .before .before .before .before .before .before .before .before .before .before
+
+abbrev passed1 : tie.After-out → tie.Else1
+passed1 c = c .before .before .before
+
+-- ---- Needs
+
 book-ok-requires : tie.Need-book-ok-requires
-book-ok-requires c κs = c .before .before .before .before .before .before .before .before .before .before .before .pre
+book-ok-requires c κs = entry c .pre
 
 returns : tie.Need-returns
-returns c = let start = c .before .before .before .before .before .before .before .before .before .before .before .before .before in
+returns c = let start = entry (c .before .before) in
     let a = start .args in
-    let b = lentBook (a .values) (a .versions) (a .statuses) (a .holidays) (a .readings) (a .reads) (a .agreed) (a .agreed-versions) (a .counts) (a .widths) in
+    let b = lentBook (a .values) (a .versions) (a .statuses) (a .holidays) (a .readings) (a .reads) (a .agreed) (a .agreed-versions)
+    (a .counts) (a .widths) in
     refused-11 (a .head) b (a .out .now) (start .pre .0) (start .pre .1) (sym (c .before .book-ok .ensures) ∙ not-true _ (c .if1 .taken))
 
 put-sound-requires : tie.Need-put-sound-requires
 unfolding bookOk
-put-sound-requires c κs = let start = c .before .before .before .before .before .before .before .before .before .before .before .before .before .before in
+put-sound-requires c κs = let start = entry (c .before .before .before) in
     let a = start .args in
-    let b = lentBook (a .values) (a .versions) (a .statuses) (a .holidays) (a .readings) (a .reads) (a .agreed) (a .agreed-versions) (a .counts) (a .widths) in
+    let b = lentBook (a .values) (a .versions) (a .statuses) (a .holidays) (a .readings) (a .reads) (a .agreed) (a .agreed-versions)
+    (a .counts) (a .widths) in
     record {
       head = start .pre .0;
       fit = fits-of (a .head) b (start .pre .1) .0;
@@ -34,11 +46,13 @@ same-length : tie.Need-same-length
 same-length c = search needs
 
 returns-2 : tie.Need-returns-2
-returns-2 c = let at-else = c .before .before .before .before in
-    let start = at-else .before .before .before .before .before .before .before .before .before .before .before .before .before in
+returns-2 c = let at-else = passed1 (c .before) in
+    let start = entry (at-else .before .before) in
     let a = start .args in
-    let b = lentBook (a .values) (a .versions) (a .statuses) (a .holidays) (a .readings) (a .reads) (a .agreed) (a .agreed-versions) (a .counts) (a .widths) in
-    put-left (a .head) b (a .out .now) (start .pre .0) (start .pre .1) (sym (at-else .before .book-ok .ensures) ∙ not-false _ (at-else .if1 .left))
+    let b = lentBook (a .values) (a .versions) (a .statuses) (a .holidays) (a .readings) (a .reads) (a .agreed) (a .agreed-versions)
+    (a .counts) (a .widths) in
+    put-left (a .head) b (a .out .now) (start .pre .0) (start .pre .1)
+    (sym (at-else .before .book-ok .ensures) ∙ not-false _ (at-else .if1 .left))
     _ _ (c .before .before .put-sound .ensures)
 
 pub put-fitted-spec : {M : Type 1} → statement M

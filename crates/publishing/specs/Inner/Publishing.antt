@@ -118,7 +118,8 @@ pub record Next (h : Head) (b : Cells) (d : List ℕ) (table : ℕ) (here : Prog
 pub record PutFrom (h : Head) (s : Slots) (a : Agreed) (d : List ℕ) (from to : ℕ) (before : Bool) (t : Totals) : Type 0 where
   pub direct : DirectFrom h s a from to before
   pub room : 6 * to ≤ length d
-  pub countable : (k : ℕ) → from + k ≤ to → ((i : ℕ) → i < from + k → from ≤ i → directAt h s a i ≡ true) → Countable (directTotals h s a t from k)
+  pub countable : (k : ℕ) → from + k ≤ to → ((i : ℕ) → i < from + k → from ≤ i → directAt h s a i ≡ true)
+      → Countable (directTotals h s a t from k)
 
 -- the records of the direct slots are written
 pub record PutTo (h : Head) (s : Slots) (a : Agreed) (d e : List ℕ) (from to : ℕ) (t : Totals) (r : DirectPut) : Type 0 where

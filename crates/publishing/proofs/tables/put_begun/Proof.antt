@@ -13,6 +13,16 @@ use borrow.Author.Needs.{needs}
 use Rattle.publishing.proofs.tables.put_begun.Statement.{statement}
 use Rattle.publishing.proofs.tables.put_begun.Tie as tie
 
+-- ---- Places
+
+abbrev start : tie.After-begins → tie.Start
+start c = c .before .before .before
+
+abbrev after-begins : tie.After-out → tie.After-begins
+after-begins c = c .before .before .before .before
+
+-- ---- Needs
+
 enum-known-begins : tie.Need-enum-known-begins
 enum-known-begins c = search needs
 
@@ -23,7 +33,8 @@ add-put-span : tie.Need-add-put-span
 add-put-span c = search needs
 
 put-span-requires : tie.Need-put-span-requires
-put-span-requires c κs = omega (arith, c .before .before .before .before .before .pre, ap (λ (x : Begins). length (listOf x)) (c .before .before .begins .given .1))
+put-span-requires c κs =
+    omega (arith, start (c .before .before) .pre, ap (λ (x : Begins). length (listOf x)) (c .before .before .begins .given .1))
 
 add-result : tie.Need-add-result
 add-result c = search needs
@@ -35,13 +46,25 @@ same-length : tie.Need-same-length
 same-length c = search needs
 
 returns : tie.Need-returns
-returns c = let e = c .before .before .before .before .before .begins .given .1 in
-    (omega (arith, ap (λ (x : Begins). length (listOf x)) e), c .before .before .put-span .ensures ∙ ap (written (c .before .before .before .before .before .before .before .before .args .out .now) (c .before .before .before .before .before .before .before .before .args .at + 14 * c .before .before .before .before .before .before .before .before .args .count)) (sym (table-one (spanRow true) (c .before .before .before .before .before .begins .given .0 .0)) ∙ ap (λ (x : Begins). table (spanRow true) (listOf x)) (sym e)))
+returns c =
+    let at-begins = after-begins (c .before) in
+    let begun = start at-begins in
+    let e = at-begins .begins .given .1 in (
+      omega (arith, ap (λ (x : Begins). length (listOf x)) e),
+      c .before .before .put-span .ensures
+          ∙ ap (written (begun .args .out .now) (begun .args .at + 14 * begun .args .count))
+          (sym (table-one (spanRow true) (at-begins .begins .given .0 .0)) ∙ ap (λ (x : Begins). table (spanRow true) (listOf x)) (sym e)),
+    )
 
 returns-2 : tie.Need-returns-2
 unfolding table
-returns-2 c = let e = c .enum-told .given .1 in
-    (omega (arith, ap (λ (x : Begins). length (listOf x)) e), sym (ap (λ (x : Begins). written (c .before .before .before .args .out .now) (c .before .before .before .args .at + 14 * c .before .before .before .args .count) (table (spanRow true) (listOf x))) e ∙ written-none (c .before .before .before .args .out .now) (c .before .before .before .args .at + 14 * c .before .before .before .args .count)))
+returns-2 c = let e = c .enum-told .given .1 in (
+  omega (arith, ap (λ (x : Begins). length (listOf x)) e),
+  sym (ap (λ (x : Begins). written (c .before .before .before .args .out .now)
+      (c .before .before .before .args .at + 14 * c .before .before .before .args .count) (table (spanRow true) (listOf x))) e
+      ∙ written-none (c .before .before .before .args .out .now)
+      (c .before .before .before .args .at + 14 * c .before .before .before .args .count)),
+)
 
 pub put-begun-spec : {M : Type 1} → statement M
 put-begun-spec =

@@ -32,6 +32,14 @@ abbrev μ-loop : tie.MeasureT-loop
 
 -- ---- Places
 
+abbrev after-is-good-passed2 : tie.Else2 Inv-loop μ-loop → tie.After-is-good Inv-loop μ-loop
+after-is-good-passed2 c = c .before .before .before
+
+abbrev after-put-slot-arg2 : tie.After-outage-zero Inv-loop μ-loop → tie.After-put-slot-arg2 Inv-loop μ-loop
+after-put-slot-arg2 c = c .before .before .before .before
+
+-- ---- Places
+
 abbrev At-loop : Type 0
 At-loop = tie.At-loop Inv-loop μ-loop
 
@@ -86,7 +94,8 @@ counts c =
     let ran = at .loop .inv in
     let from = start at .args .from in
     let k : from + (at .loop .at - from) ≡ at .loop .at = omega (arith, ran .further) in
-    rw (ran .totals) (start at .pre .countable (at .loop .at - from) (omega (arith, k, ran .inside)) (λ i l. ran .direct i (omega (arith, k))))
+    rw (ran .totals) (start at .pre .countable (at .loop .at - from) (omega (arith, k, ran .inside))
+    (λ i l. ran .direct i (omega (arith, k))))
 
 -- ---- Needs
 
@@ -112,7 +121,8 @@ mul-delivered : tie.Need-mul-delivered Inv-loop μ-loop
 mul-delivered c = search needs
 
 shared-slice-read-delivered : tie.Need-shared-slice-read-delivered Inv-loop μ-loop
-shared-slice-read-delivered c = let turned = turn (c .before .before) in omega (arith, below turned, start (turned .before) .pre .direct .fitted .values)
+shared-slice-read-delivered c =
+    let turned = turn (c .before .before) in omega (arith, below turned, start (turned .before) .pre .direct .fitted .values)
 
 delivered-requires : tie.Need-delivered-requires Inv-loop μ-loop
 delivered-requires c κs = search needs
@@ -130,7 +140,8 @@ mul-if2 : tie.Need-mul-if2 Inv-loop μ-loop
 mul-if2 c = search needs
 
 shared-slice-read-if2 : tie.Need-shared-slice-read-if2 Inv-loop μ-loop
-shared-slice-read-if2 c = let turned = turn (c .before .before) in omega (arith, below turned, start (turned .before) .pre .direct .settled .versions)
+shared-slice-read-if2 c =
+    let turned = turn (c .before .before) in omega (arith, below turned, start (turned .before) .pre .direct .settled .versions)
 
 same-length : tie.Need-same-length Inv-loop μ-loop
 same-length c = turn (c .before .before .before) .before .loop .inv .long
@@ -147,7 +158,7 @@ mul-by-agreement c = search needs
 
 shared-slice-read-by-agreement : tie.Need-shared-slice-read-by-agreement Inv-loop μ-loop
 shared-slice-read-by-agreement c =
-    let turned = turn (c .before .before .before .before) in
+    let turned = turn (after-is-good-passed2 (c .before)) in
     omega (arith, below turned, start (turned .before) .pre .direct .settled .values)
 
 by-agreement-requires : tie.Need-by-agreement-requires Inv-loop μ-loop
@@ -162,11 +173,14 @@ put-slot-requires-2 c κs = let turned = turn (agreed c) in omega (arith, room t
 outage-zero-requires : tie.Need-outage-zero-requires Inv-loop μ-loop
 outage-zero-requires c κs =
     let turned = turn (agreed (c .before .before .before)) in
-    let fitted = start (turned .before) .pre .direct .fitted in
-    (fitted .statuses ∙ sym (fitted .versions), omega (arith, below turned, fitted .versions), rw (fitted .versions) (turned .before .loop .inv .outage))
+    let fitted = start (turned .before) .pre .direct .fitted in (
+      fitted .statuses ∙ sym (fitted .versions),
+      omega (arith, below turned, fitted .versions),
+      rw (fitted .versions) (turned .before .loop .inv .outage),
+    )
 
 add-requires-2 : tie.Need-add-requires-2 Inv-loop μ-loop
-add-requires-2 c κs = counts (turn (agreed (c .before .before .before .before)))
+add-requires-2 c κs = counts (turn (agreed (after-put-slot-arg2 c)))
 
 add-at : tie.Need-add-at Inv-loop μ-loop
 add-at c = omega (arith, below (turn (c .before)), most (turn (c .before) .before))
@@ -187,12 +201,14 @@ loop-again c =
     (λ w.
     let is = sym (c .before .is-good .ensures) ∙ w .0 .taken in
     let zero = sym (zero-none (s .versions) (s .statuses) (slotCount h) i (good-delivered h s i is)) in
-    on (w .2 .result) _ _ _ (start at .pre .room) (turned .loop-test .taken) (direct-good h s a i is) (w .2 .ensures ∙ good-outcome h s a i is)
+    on (w .2 .result) _ _ _ (start at .pre .room) (turned .loop-test .taken) (direct-good h s a i is)
+    (w .2 .ensures ∙ good-outcome h s a i is)
     (w .9 ∙ zero) (w .10 ∙ w .7 .ensures) (w .8 ∙ w .4 .ensures))
     (λ w.
     let cause = sym (c .before .is-good .ensures) ∙ w .0 .left in
     let zero = rw (start at .pre .direct .fitted .versions) at (w .9 .ensures) in
-    on (w .4 .result) _ _ _ (start at .pre .room) (turned .loop-test .taken) (direct-agreed h s a i (w .2 .left)) (w .4 .ensures ∙ agreed-outcome h s a i cause)
+    on (w .4 .result) _ _ _ (start at .pre .room) (turned .loop-test .taken) (direct-agreed h s a i (w .2 .left))
+    (w .4 .ensures ∙ agreed-outcome h s a i cause)
     (w .12 ∙ zero) (w .13 ∙ w .10 .ensures) (w .11 ∙ w .6 .ensures))
     (c .if1 .came)
 

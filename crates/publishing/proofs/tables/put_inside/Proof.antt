@@ -29,13 +29,15 @@ use Rattle.publishing.proofs.tables.put_inside.Statement.{statement}
 use Rattle.publishing.proofs.tables.put_inside.Tie as tie
 
 abbrev Inv-loop : tie.InvT-loop
-Inv-loop head values versions statuses holidays readings reads agreed agreed-versions widths out₀ from at₀ outage₀ line₀ stretch₀ totals₀ until
+Inv-loop head values versions statuses holidays readings reads agreed agreed-versions widths out₀ from at₀ outage₀ line₀ stretch₀ totals₀
+    until
     out at outage line stretch totals =
     let b = cells (slots values versions statuses) holidays readings reads (agreedLists agreed agreed-versions) widths in
     Inside head b out₀ (from .pass .walk .at) (from .pass .stretch .until) outage line stretch totals out at
 
 abbrev μ-loop : tie.MeasureT-loop
-μ-loop head values versions statuses holidays readings reads agreed agreed-versions widths out₀ from at₀ outage₀ line₀ stretch₀ totals₀ until
+μ-loop head values versions statuses holidays readings reads agreed agreed-versions widths out₀ from at₀ outage₀ line₀ stretch₀ totals₀
+    until
     out at outage line stretch totals =
     until - at
 
@@ -89,9 +91,11 @@ ahead : (c : tie.Start Inv-loop μ-loop) → let a = c .args in
     (a .from .pass .walk .at < a .from .pass .stretch .until) × (a .from .pass .stretch .until ≤ slotCount (a .head))
 ahead c =
     let a = c .args in
-    rw (ap (λ (s : Stretch). s .until) (c .pre .stretch)) (stretch-ahead (a .head) (bounds c) (lent c) (a .from .pass .walk .at) (c .pre .inside))
+    rw (ap (λ (s : Stretch). s .until) (c .pre .stretch))
+    (stretch-ahead (a .head) (bounds c) (lent c) (a .from .pass .walk .at) (c .pre .inside))
 
-room : (c : tie.Start Inv-loop μ-loop) → 6 * slotCount (c .args .head) + 14 * length (spans (c .args .head) (lent c)) ≤ length (c .args .out .now)
+room : (c : tie.Start Inv-loop μ-loop)
+    → 6 * slotCount (c .args .head) + 14 * length (spans (c .args .head) (lent c)) ≤ length (c .args .out .now)
 room c = omega (arith, c .pre .roomy .room)
 
 below : (c : In-loop) → c .before .loop .at < slotCount (start (c .before) .args .head)
@@ -106,7 +110,8 @@ cause : (c : tie.Else1 Inv-loop μ-loop) → let at = turn (other c) .before in
 cause c =
     let run = other c in
     let at = turn run .before in
-    none-direct (start at .args .head) (lent (start at) .slots) (lent (start at) .agreed) _ _ _ _ (run .put-direct .ensures .direct) (c .if1 .left)
+    none-direct (start at .args .head) (lent (start at) .slots) (lent (start at) .agreed) _ _ _ _ (run .put-direct .ensures .direct)
+    (c .if1 .left)
     (turn run .loop-test .taken)
 
 -- ---- Needs
@@ -139,16 +144,27 @@ put-direct-requires c κs =
     let held = at .loop .inv in
     let whole = s .pre .roomy .whole in
     record {
-      direct = record { fitted = whole .lent .fitted; settled = whole .settled; ordered = held .inside; inside = ahead s .1; outage = held .outage };
+      direct =
+          record {
+            fitted = whole .lent .fitted;
+            settled = whole .settled;
+            ordered = held .inside;
+            inside = ahead s .1;
+            outage = held .outage;
+          };
       room = omega (arith, ahead s .1, room s, held .long);
-      countable = run-countable (s .args .head) (bounds s) (lent s) _ _ _ (ahead s .1) (room s) _ _ _ _ _ _ held (whole .settled .low) (whole .widths .low);
+      countable =
+          run-countable (s .args .head) (bounds s) (lent s) _ _ _ (ahead s .1) (room s) _ _ _ _ _ _ held (whole .settled .low)
+          (whole .widths .low);
     }
 
 bare-requires : tie.Need-bare-requires Inv-loop μ-loop
 bare-requires c κs = search needs
 
 loop-less : tie.Need-loop-less Inv-loop μ-loop
-loop-less c = let run = put (ran c) in omega (arith, c .before .before .if1 .taken, turn run .loop-test .taken, run .put-direct .ensures .direct .inside)
+loop-less c =
+    let run = put (ran c) in
+    omega (arith, c .before .before .if1 .taken, turn run .loop-test .taken, run .put-direct .ensures .direct .inside)
 
 loop-again : tie.Need-loop-again Inv-loop μ-loop
 loop-again c =
@@ -158,8 +174,10 @@ loop-again c =
     let b = lent s in
     let done = run .put-direct .ensures in
     let to = done .direct in
-    inside-run (s .args .head) (bounds s) b _ _ _ (ahead s .1) (room s) _ _ _ _ _ _ (at .loop .inv) _ _ _ _ _ (to .further) (to .inside) (to .direct) (to .outage)
-    (c .before .bare .ensures ∙ run-line (s .args .head) (b .slots) (b .agreed) _ _ (to .direct) (c .before .before .if1 .taken)) (done .totals) (done .bytes)
+    inside-run (s .args .head) (bounds s) b _ _ _ (ahead s .1) (room s) _ _ _ _ _ _ (at .loop .inv) _ _ _ _ _ (to .further) (to .inside)
+    (to .direct) (to .outage)
+    (c .before .bare .ensures ∙ run-line (s .args .head) (b .slots) (b .agreed) _ _ (to .direct) (c .before .before .if1 .taken))
+    (done .totals) (done .bytes)
 
 outage-zero-requires : tie.Need-outage-zero-requires Inv-loop μ-loop
 outage-zero-requires c κs =
@@ -201,7 +219,8 @@ fit-requires c κs =
     let found = c .before in
     let turned = turn (other (chosen found)) in
     let s = start (turned .before) in
-    step-scalable (s .args .head) (bounds s) (lent s) (turned .before .loop .at) _ _ _ (turned .before .loop .inv .stretch (turned .loop-test .taken))
+    step-scalable (s .args .head) (bounds s) (lent s) (turned .before .loop .at) _ _ _
+    (turned .before .loop .inv .stretch (turned .loop-test .taken))
     (found .unscaled .ensures .0) (found .unscaled .ensures .1) (s .pre .roomy .whole .widths .low)
 
 mul-put-slot : tie.Need-mul-put-slot Inv-loop μ-loop
@@ -218,7 +237,8 @@ add-requires c κs =
     let turned = turn (other (chosen (shaped (wrote c .before)))) in
     let s = start (turned .before) in
     let whole = s .pre .roomy .whole in
-    countable (s .args .head) (lent s) (turned .before .loop .at) (bounds s) (whole .settled .low) (whole .widths .low) (omega (arith, below turned)) _
+    countable (s .args .head) (lent s) (turned .before .loop .at) (bounds s) (whole .settled .low) (whole .widths .low)
+    (omega (arith, below turned)) _
     (turned .before .loop .inv .totals)
 
 add-at : tie.Need-add-at Inv-loop μ-loop

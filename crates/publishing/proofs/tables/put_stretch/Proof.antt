@@ -103,10 +103,12 @@ returns c =
       inside = found .inside;
       known =
           whole-progress h b _ _ (found .begun) _ (found .pass)
-          (found .spans ∙ first .put-begun .ensures .0 ∙ spans-begun h (bounds s) b i (s .pre .inside) _ (before s) _ begins) (found .totals);
+          (found .spans ∙ first .put-begun .ensures .0 ∙ spans-begun h (bounds s) b i (s .pre .inside) _ (before s) _ begins)
+          (found .totals);
       bytes = λ x n e.
           found .bytes x (n ∙ sym (first .put-begun .kept .0))
-          (bytes-begun h (bounds s) b i (s .pre .inside) _ (before s) _ begins x _ _ _ (omega (arith, room, n)) e (s .pre .place) (first .put-begun .ensures .1))
+          (bytes-begun h (bounds s) b i (s .pre .inside) _ (before s) _ begins x _ _ _ (omega (arith, room, n)) e (s .pre .place)
+          (first .put-begun .ensures .1))
           ∙ whole-buffer h b _ _ (found .begun) x;
     }
 

@@ -31,6 +31,14 @@ abbrev μ-loop : tie.MeasureT-loop
 
 -- ---- Places
 
+abbrev after-slot-count : tie.In-loop Inv-loop μ-loop → tie.After-slot-count Inv-loop μ-loop
+after-slot-count c = c .before .before .before
+
+abbrev after-slot-count-result : tie.After-result Inv-loop μ-loop → tie.After-slot-count Inv-loop μ-loop
+after-slot-count-result c = c .before .before .before .before
+
+-- ---- Places
+
 abbrev entry : tie.After-slice-known Inv-loop μ-loop → tie.Start Inv-loop μ-loop
 entry c = c .before .before .before .before .before .before .before .before .before .before
 
@@ -78,7 +86,7 @@ put-stretch-requires c κs =
     record {
       roomy = record { whole = pre .0 .whole; room = omega (arith, pre .0 .room, at .loop .inv .long) };
       place = pre .1;
-      inside = omega (arith, place at, turned .loop-test .taken, at .before .before .slot-count .ensures);
+      inside = omega (arith, place at, turned .loop-test .taken, after-slot-count (c .before) .slot-count .ensures);
       known = progress-here (start at .args .head) (lent (start at)) (at .loop .i) (at .loop .here) (at .loop .inv .known);
     }
 
@@ -109,7 +117,8 @@ returns c =
     let at = c .before .before in
     let s = start at in
     let held = at .loop .inv in
-    let n : at .loop .i ≡ slotCount (s .args .head) = omega (arith, c .before .loop-test .left, held .inside, at .before .before .slot-count .ensures) in
+    let n : at .loop .i ≡ slotCount (s .args .head) =
+    omega (arith, c .before .loop-test .left, held .inside, after-slot-count-result c .slot-count .ensures) in
     (rw n at (ap (λ (p : Progress). p .totals) (held .known)), rw n at (held .bytes))
 
 pub put-tables-spec : {M : Type 1} → statement M
