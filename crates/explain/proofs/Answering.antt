@@ -35,7 +35,8 @@ module _ (h : Head) (b : Book) (slot : ℕ) where
         unfolding explainAnswer explainRefusal
         refused-11 p = rw (good, fit, lt-leb (slotCount h) slot inside, p)
 
-        pub told : bookOk h b ≡ true → (e : Explanation) → e ≡ explanationOf h (b .cells) slot → record { refused = 0; explanation = e } ≡ explainAnswer h b slot
+        pub told : bookOk h b ≡ true → (e : Explanation) → e ≡ explanationOf h (b .cells) slot
+            → record { refused = 0; explanation = e } ≡ explainAnswer h b slot
         unfolding explainAnswer explainRefusal
         told ok e q = rw (good, fit, lt-leb (slotCount h) slot inside, ok, q)
 

@@ -44,10 +44,12 @@ module _ (r : List ℕ) where
 pub between-inside : (h : Head) (i first last : ℕ) → Between h i first last → i < slotCount h
 unfolding slotCount
 between-inside h i first last p =
-    let l : last * slotsPerDay h ≤ slotsPerDay h * h .days = rw (mul-comm (slotsPerDay h) (h .days)) (mul-le-mul-right (slotsPerDay h) (p .within)) in
+    let l : last * slotsPerDay h ≤ slotsPerDay h * h .days =
+    rw (mul-comm (slotsPerDay h) (h .days)) (mul-le-mul-right (slotsPerDay h) (p .within)) in
     omega (arith, p .to)
 
-pub between-read : (h : Head) → Bounded h → (r : List ℕ) (i first last : ℕ) → lastRead r (i / slotsPerDay h) ≡ some first → nextRead r (i / slotsPerDay h + 1) (h .days - i / slotsPerDay h) ≡ some last
+pub between-read : (h : Head) → Bounded h → (r : List ℕ) (i first last : ℕ) → lastRead r (i / slotsPerDay h) ≡ some first
+    → nextRead r (i / slotsPerDay h + 1) (h .days - i / slotsPerDay h) ≡ some last
     → Between h i first last
 between-read h w r i first last p q =
     let f = last-tells r (i / slotsPerDay h) first p in
@@ -70,31 +72,42 @@ module _ (h : Head) (b : Cells) (first last : ℕ) where
     module _ (i : ℕ) (before : Summary) (q : before ≡ summary h b first last (i - start h b first last)) where
       scaling-before : scalingWith 1 m before (R h b first last) ≡ scalingAt h b first last i
       unfolding scalingWith T actualSum allZero E e P summaryOf
-      scaling-before = rw (p, q, weights h b first last (allZero h b first last) (slotsIn h b first last), weights h b first last (allZero h b first last) (i - start h b first last))
+      scaling-before =
+          rw (
+            p,
+            q,
+            weights h b first last (allZero h b first last) (slotsIn h b first last),
+            weights h b first last (allZero h b first last) (i - start h b first last),
+          )
 
-      pub held-scaling : (s : Spanned) → s ≡ spannedWith h (b .readings) (b .widths) first last m → scalingWith (s .state) m before (s .advance) ≡ spanStretch h b first last i .by
+      pub held-scaling : (s : Spanned) → s ≡ spannedWith h (b .readings) (b .widths) first last m
+          → scalingWith (s .state) m before (s .advance) ≡ spanStretch h b first last i .by
       unfolding spanStretch spannedBy scalingWith
       held-scaling s f =
           let state : s .state ≡ stateOf h b first last = ap (λ (x : Spanned). x .state) (f ∙ spanned-found) in
           let r : s .advance ≡ R h b first last = ap (λ (x : Spanned). x .advance) (f ∙ spanned-found) in
           rw (state, r) (go (eqb (stateOf h b first last) 1) refl)
         where
-          go : (t : Bool) → eqb (stateOf h b first last) 1 ≡ t → scalingWith (stateOf h b first last) m before (R h b first last) ≡ spanStretch h b first last i .by
+          go : (t : Bool) → eqb (stateOf h b first last) 1 ≡ t
+              → scalingWith (stateOf h b first last) m before (R h b first last) ≡ spanStretch h b first last i .by
           go true t = rw t scaling-before
           go false t = rw t
 
 -- a scaling with the P of a slot
 module _ (state : ℕ) (m before : Summary) (by : Scaling) (r : ℕ) (one : state ≡ 1) (e : by ≡ scalingOf m r) where
-  pub scaling-ones : m .shapes ≡ 0 → record { t = by .t; whole = by .whole; extra = by .extra; passed = before .count } ≡ scalingWith state m before r
+  pub scaling-ones : m .shapes ≡ 0
+      → record { t = by .t; whole = by .whole; extra = by .extra; passed = before .count } ≡ scalingWith state m before r
   unfolding scalingWith scalingOf
   scaling-ones z = rw (e, eq-eqb state 1 one, eq-eqb (m .shapes) 0 z)
 
-  pub scaling-shapes : (m .shapes ≡ 0 → ⊥) → record { t = by .t; whole = by .whole; extra = by .extra; passed = before .shapes } ≡ scalingWith state m before r
+  pub scaling-shapes : (m .shapes ≡ 0 → ⊥)
+      → record { t = by .t; whole = by .whole; extra = by .extra; passed = before .shapes } ≡ scalingWith state m before r
   unfolding scalingWith scalingOf
   scaling-shapes z = rw (e, eq-eqb state 1 one, ne-eqb (m .shapes) 0 z)
 
 -- state 1 is given only where R ≥ V
-pub spanned-advance : (h : Head) (readings widths : List ℕ) (first last : ℕ) (m : Summary) (s : Spanned) → s ≡ spannedWith h readings widths first last m → s .state ≡ 1 → m .actual ≤ s .advance
+pub spanned-advance : (h : Head) (readings widths : List ℕ) (first last : ℕ) (m : Summary) (s : Spanned)
+    → s ≡ spannedWith h readings widths first last m → s .state ≡ 1 → m .actual ≤ s .advance
 unfolding spannedWith
 spanned-advance h readings widths first last m s e z =
     let state = ap (λ (x : Spanned). x .state) e in
@@ -103,7 +116,8 @@ spanned-advance h readings widths first last m s e z =
 
 -- they rest on no register version
 module _ (h : Head) (s : Slots) (holidays readings v w : List ℕ) (agreed : Agreed) (widths : List ℕ) (first last : ℕ) where
-  pub spanned-versions : spannedBy h (cells s holidays readings v agreed widths) (some first) (some last) ≡ spannedBy h (cells s holidays readings w agreed widths) (some first) (some last)
+  pub spanned-versions : spannedBy h (cells s holidays readings v agreed widths) (some first) (some last)
+      ≡ spannedBy h (cells s holidays readings w agreed widths) (some first) (some last)
   unfolding spannedBy G range R stateOf actualSum start slotsIn
   spanned-versions = refl
 
@@ -112,7 +126,8 @@ module _ (h : Head) (b : Cells) (i : ℕ) where
   abbrev d : ℕ
   d = i / slotsPerDay h
 
-  pub outside-first : lastRead (b .reads) d ≡ none → (noneSpanned ≡ spannedBy h b (earlier b d) (later h b d)) × (unscaled ≡ stretchAt h b i .by)
+  pub outside-first : lastRead (b .reads) d ≡ none
+      → (noneSpanned ≡ spannedBy h b (earlier b d) (later h b d)) × (unscaled ≡ stretchAt h b i .by)
   unfolding spannedBy stretchAt stretchOn stretchOf
   outside-first e = rw e (refl, go (nextRead (b .reads) (d + 1) (h .days - d)))
     where
@@ -126,6 +141,7 @@ module _ (h : Head) (b : Cells) (i : ℕ) where
   outside-last first e f = rw (e, f) (refl, refl)
 
   pub inside-both : (first last : ℕ) → lastRead (b .reads) d ≡ some first → nextRead (b .reads) (d + 1) (h .days - d) ≡ some last
-      → (spannedBy h b (some first) (some last) ≡ spannedBy h b (earlier b d) (later h b d)) × (spanStretch h b first last i ≡ stretchAt h b i)
+      → (spannedBy h b (some first) (some last) ≡ spannedBy h b (earlier b d) (later h b d))
+      × (spanStretch h b first last i ≡ stretchAt h b i)
   unfolding stretchAt stretchOn stretchOf
   inside-both first last e f = rw (e, f) (refl, refl)

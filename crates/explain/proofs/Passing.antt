@@ -49,7 +49,8 @@ module _ (h : Head) (s : Slots) where
     unfolding lineBefore
     line-next k = rw add-one
 
-  pub walk-are : (v : List ℕ) (i : ℕ) (outage : Bool) (line : Line) → outage ≡ zeroBefore (s .versions) (s .statuses) (slotCount h) i → line ≡ lineBefore h s v i
+  pub walk-are : (v : List ℕ) (i : ℕ) (outage : Bool) (line : Line) → outage ≡ zeroBefore (s .versions) (s .statuses) (slotCount h) i
+      → line ≡ lineBefore h s v i
       → record { at = i; outage = outage; line = line } ≡ walkAt h s v i
   unfolding walkAt
   walk-are v i outage line p q = rw (p, q)

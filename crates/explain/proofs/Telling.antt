@@ -32,7 +32,8 @@ use Rattle.explain.specs.declared.Rule.{Rule}
 use Rattle.rules.specs.declared.filling.References.{References}
 use Rattle.explain.specs.declared.Shares.{Shares}
 use Rattle.explain.specs.declared.held.Held.{Held}
-use Rattle.explain.specs.Explain.{ruleAt, isLine, noLine, lineOf, foundOf, spannedBy, noShares, sharesBy, earlier, later, explanationOf}
+use Rattle.explain.specs.Explain.{ruleAt, isLine, noLine, lineOf, foundOf, spannedBy, noShares, sharesBy, earlier, later}
+use Rattle.explain.specs.Explain.{explanationOf}
 use Rattle.explain.specs.Inner.Holding.{sharesWith}
 use Rattle.explain.specs.Inner.Telling.{ruleOf, scaledTo, toldWith}
 use Rattle.explain.proofs.Holding.{between-read}
@@ -54,7 +55,8 @@ module _ (h : Head) (s : Slots) (a : Agreed) (holidays : List ℕ) (i : ℕ) whe
       (either (isAgreed (a .versions) i))))
       (either (goodAt h s i))
 
-  pub line-is : cond (isLine (ruleAt h s a holidays i)) (lineAt h s (a .versions) i) noLine ≡ lineOf (ruleAt h s a holidays i) h s (a .versions) i
+  pub line-is : cond (isLine (ruleAt h s a holidays i)) (lineAt h s (a .versions) i) noLine
+      ≡ lineOf (ruleAt h s a holidays i) h s (a .versions) i
   unfolding ruleAt lineOf lineAt lineThrough inRun
   line-is =
       ⊎-elim (λ x. rw x) (λ x. rw x (
@@ -81,7 +83,8 @@ module _ (h : Head) (w : Bounded h) (b : Cells) (i : ℕ) where
   pub outcome-is : fitOutcome o x (scaledTo (stretchAt h b i .by)) ≡ outcomeAt h b i
   unfolding fitOutcome
   outcome-is =
-      step-done h w b i (record { begins = beginsAt h b i; stretch = stretchAt h b i }) (record { outcome = o; shape = x; next = walkAt h (b .slots) (b .agreed .versions) (i + 1) }) refl refl refl refl refl .outcome
+      step-done h w b i (record { begins = beginsAt h b i; stretch = stretchAt h b i })
+      (record { outcome = o; shape = x; next = walkAt h (b .slots) (b .agreed .versions) (i + 1) }) refl refl refl refl refl .outcome
 
   pub fits-are : WidthsLow (b .widths) → Scalable o x (scaledTo (stretchAt h b i .by))
   fits-are wide =
@@ -89,7 +92,8 @@ module _ (h : Head) (w : Bounded h) (b : Cells) (i : ℕ) where
       record { method-low = f .method-low; scales = f .scales }
 
   -- in a scaled span
-  module _ (first last : ℕ) (l : start h b first last ≤ i) (m : i < start h b first last + slotsIn h b first last) (q : isS (o .quality) ≡ true) where
+  module _ (first last : ℕ) (l : start h b first last ≤ i) (m : i < start h b first last + slotsIn h b first last)
+      (q : isS (o .quality) ≡ true) where
     whole-some : E h b first last ≡ 0 → ⊥
     whole-some z = omega (arith, whole-low h w b i first last l m q)
 
@@ -109,7 +113,8 @@ module _ (h : Head) (w : Bounded h) (b : Cells) (i : ℕ) where
   unfolding sharesBy spanStretch sharesWith fitNext scaledBy
   shares-span first last l m = go (isS (o .quality)) (eqb (stateOf h b first last) 1) refl refl
     where
-      go : (q t : Bool) → isS (o .quality) ≡ q → eqb (stateOf h b first last) 1 ≡ t → told (spanStretch h b first last i .by) ≡ sharesBy h b (some first) (some last) i
+      go : (q t : Bool) → isS (o .quality) ≡ q → eqb (stateOf h b first last) 1 ≡ t
+          → told (spanStretch h b first last i .by) ≡ sharesBy h b (some first) (some last) i
       go true true q t = rw (q, t, ne-eqb _ _ (whole-some first last l m q), reached-is first last l m q)
       go true false q t = rw (q, t)
       go false t q u = rw q
@@ -129,7 +134,8 @@ module _ (h : Head) (w : Bounded h) (b : Cells) (i : ℕ) where
 
   -- the whole explanation
   module _ (cause : Cause) (new : Filled) (found : References) (held : Held)
-      (c : cause ≡ causeAt h (b .slots) i) (outcome : new .outcome ≡ o) (shaped : new .shape ≡ x) (next : new .next ≡ walkAt h (b .slots) (b .agreed .versions) (i + 1))
+      (c : cause ≡ causeAt h (b .slots) i) (outcome : new .outcome ≡ o) (shaped : new .shape ≡ x)
+      (next : new .next ≡ walkAt h (b .slots) (b .agreed .versions) (i + 1))
       (f : found ≡ foundOf (ruleOf (new .outcome)) h (b .slots) (b .holidays) i)
       (span : held .span ≡ spannedBy h b (earlier b d) (later h b d)) (by : held .by ≡ stretchAt h b i .by) where
     applied : ruleOf (new .outcome) ≡ ruleAt h (b .slots) (b .agreed) (b .holidays) i
@@ -138,7 +144,8 @@ module _ (h : Head) (w : Bounded h) (b : Cells) (i : ℕ) where
     lined : new .next .line ≡ lineAt h (b .slots) (b .agreed .versions) i
     lined = walk-line h (b .slots) (b .agreed .versions) (new .next) (i + 1) next ∙ sym (line-next h (b .slots) (b .agreed .versions) 0 i)
 
-    line-told : cond (isLine (ruleOf (new .outcome))) (new .next .line) noLine ≡ lineOf (ruleAt h (b .slots) (b .agreed) (b .holidays) i) h (b .slots) (b .agreed .versions) i
+    line-told : cond (isLine (ruleOf (new .outcome))) (new .next .line) noLine
+        ≡ lineOf (ruleAt h (b .slots) (b .agreed) (b .holidays) i) h (b .slots) (b .agreed .versions) i
     line-told = rw (applied, lined) (line-is h (b .slots) (b .agreed) (b .holidays) i)
 
     pub told-is : toldWith cause new found held ≡ explanationOf h b i
@@ -150,6 +157,7 @@ module _ (h : Head) (w : Bounded h) (b : Cells) (i : ℕ) where
       line = line-told t;
       found = (f ∙ ap (λ (r : Rule). foundOf r h (b .slots) (b .holidays) i) applied) t;
       span = span t;
-      shares = ((λ u. sharesWith (outcome u .quality) (by u) (fitNext (outcome u) (shaped u) (scaledTo (by u)) .by .passed)) ∙ shares-are) t;
+      shares =
+          ((λ u. sharesWith (outcome u .quality) (by u) (fitNext (outcome u) (shaped u) (scaledTo (by u)) .by .passed)) ∙ shares-are) t;
       outcome = ((λ u. fitOutcome (outcome u) (shaped u) (scaledTo (by u))) ∙ outcome-is) t;
     }

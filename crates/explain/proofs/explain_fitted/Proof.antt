@@ -10,7 +10,13 @@ use Rattle.explain.proofs.Answering.{refused-11, told}
 use borrow.Author.Needs.{needs}
 use Rattle.explain.proofs.explain_fitted.Statement.{statement}
 use Rattle.explain.proofs.explain_fitted.Tie as tie
-use Rattle.explain.proofs.explain_fitted.Reads as reads
+
+-- ---- Places
+
+abbrev start : tie.After-book-ok → tie.Start
+start c = c .before .before .before .before .before .before .before .before .before .before .before
+
+-- ---- Needs
 
 book-ok-requires : tie.Need-book-ok-requires
 book-ok-requires c κs = search needs
@@ -19,26 +25,38 @@ refused-by-requires : tie.Need-refused-by-requires
 refused-by-requires c κs = search needs
 
 returns : tie.Need-returns
-returns c = let a = (c .before .before .before .before .before .before .before .before .before .before .before .before .before) .args in
-    let b = lentBook (a .values) (a .versions) (a .statuses) (a .holidays) (a .readings) (a .reads) (a .agreed) (a .agreed-versions) (a .counts) (a .widths) in
-    c .refused-by .ensures ∙ refused-11 (a .head) b (a .slot) ((c .before .before .before .before .before .before .before .before .before .before .before .before .before) .pre .0) ((c .before .before .before .before .before .before .before .before .before .before .before .before .before) .pre .1) ((c .before .before .before .before .before .before .before .before .before .before .before .before .before) .pre .2) (sym (c .before .before .book-ok .ensures) ∙ not-true _ (c .before .if1 .taken))
+returns c =
+    let begun = start (c .before .before) in
+    let a = begun .args in
+    let b = lentBook (a .values) (a .versions) (a .statuses) (a .holidays) (a .readings) (a .reads) (a .agreed) (a .agreed-versions)
+    (a .counts) (a .widths) in
+    c .refused-by .ensures
+    ∙ refused-11 (a .head) b (a .slot) (begun .pre .0) (begun .pre .1) (begun .pre .2)
+    (sym (c .before .before .book-ok .ensures) ∙ not-true _ (c .before .if1 .taken))
 
 tell-requires : tie.Need-tell-requires
 unfolding bookOk
-tell-requires c κs = let a = (c .before .before .before .before .before .before .before .before .before .before .before .before) .args in
-    let b = lentBook (a .values) (a .versions) (a .statuses) (a .holidays) (a .readings) (a .reads) (a .agreed) (a .agreed-versions) (a .counts) (a .widths) in (
+tell-requires c κs =
+    let begun = start (c .before) in
+    let a = begun .args in
+    let b = lentBook (a .values) (a .versions) (a .statuses) (a .holidays) (a .readings) (a .reads) (a .agreed) (a .agreed-versions)
+    (a .counts) (a .widths) in (
       whole-of (a .head) (b .cells) (record {
-        head = (c .before .before .before .before .before .before .before .before .before .before .before .before) .pre .0;
-        fit = fits-of (a .head) b ((c .before .before .before .before .before .before .before .before .before .before .before .before) .pre .1) .0;
+        head = begun .pre .0;
+        fit = fits-of (a .head) b (begun .pre .1) .0;
         cells = and-parts _ _ (sym (c .before .book-ok .ensures) ∙ not-false _ (c .if1 .left)) .0;
       }),
-      (c .before .before .before .before .before .before .before .before .before .before .before .before) .pre .2,
+      begun .pre .2,
     )
 
 returns-2 : tie.Need-returns-2
-returns-2 c = let a = (c .before .before .before .before .before .before .before .before .before .before .before .before .before) .args in
-    let b = lentBook (a .values) (a .versions) (a .statuses) (a .holidays) (a .readings) (a .reads) (a .agreed) (a .agreed-versions) (a .counts) (a .widths) in
-    told (a .head) b (a .slot) ((c .before .before .before .before .before .before .before .before .before .before .before .before .before) .pre .0) ((c .before .before .before .before .before .before .before .before .before .before .before .before .before) .pre .1) ((c .before .before .before .before .before .before .before .before .before .before .before .before .before) .pre .2) (sym (c .before .before .book-ok .ensures) ∙ not-false _ (c .before .if1 .left)) _ (c .tell .ensures)
+returns-2 c =
+    let begun = start (c .before .before) in
+    let a = begun .args in
+    let b = lentBook (a .values) (a .versions) (a .statuses) (a .holidays) (a .readings) (a .reads) (a .agreed) (a .agreed-versions)
+    (a .counts) (a .widths) in
+    told (a .head) b (a .slot) (begun .pre .0) (begun .pre .1) (begun .pre .2)
+    (sym (c .before .before .book-ok .ensures) ∙ not-false _ (c .before .if1 .left)) _ (c .tell .ensures)
 
 pub explain-fitted-spec : {M : Type 1} → statement M
 explain-fitted-spec =

@@ -3,6 +3,13 @@ use borrow.Author.Needs.{needs}
 use Rattle.explain.proofs.refused_by.Statement.{statement}
 use Rattle.explain.proofs.refused_by.Tie as tie
 
+-- ---- Places
+
+abbrev after-bare : tie.After-nothing2 → tie.After-bare
+after-bare c = c .before .before .before .before
+
+-- ---- Needs
+
 nothing-requires : tie.Need-nothing-requires
 nothing-requires c κs = search needs
 
@@ -22,7 +29,15 @@ nothing-requires-2 : tie.Need-nothing-requires-2
 nothing-requires-2 c κs = search needs
 
 returns : tie.Need-returns
-returns c = rw (c .before .before .before .before .before .nothing .ensures, c .before .before .before .before .bare .ensures, c .before .before .before .none-found .ensures, c .before .before .no-span .ensures, c .before .no-shares .ensures, c .nothing2 .ensures)
+returns c =
+    rw (
+      after-bare c .before .nothing .ensures,
+      after-bare c .bare .ensures,
+      c .before .before .before .none-found .ensures,
+      c .before .before .no-span .ensures,
+      c .before .no-shares .ensures,
+      c .nothing2 .ensures,
+    )
 
 pub refused-by-spec : {M : Type 1} → statement M
 refused-by-spec =

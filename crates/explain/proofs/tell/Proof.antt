@@ -7,7 +7,16 @@ use Rattle.explain.proofs.Telling.{fits-are, told-is}
 use borrow.Author.Needs.{needs}
 use Rattle.explain.proofs.tell.Statement.{statement}
 use Rattle.explain.proofs.tell.Tie as tie
-use Rattle.explain.proofs.tell.Reads as reads
+
+-- ---- Places
+
+abbrev start : tie.After-fill-slot → tie.Start
+start c = c .before .before .before .before .before .before .before .before .before .before .before .before .before .before
+
+abbrev after-fill-slot : tie.After-hold → tie.After-fill-slot
+after-fill-slot c = c .before .before .before .before
+
+-- ---- Needs
 
 mul-cause-of : tie.Need-mul-cause-of
 mul-cause-of c = search needs
@@ -34,21 +43,34 @@ rule-of-requires : tie.Need-rule-of-requires
 rule-of-requires c κs = search needs
 
 found-by-requires : tie.Need-found-by-requires
-found-by-requires c κs = ((c .before .before .before .before .before .before .before .before .before .before .before .before .before .before .before .before) .pre .0 .lent, (c .before .before .before .before .before .before .before .before .before .before .before .before .before .before .before .before) .pre .1)
+found-by-requires c κs = ((start (c .before .before)) .pre .0 .lent, (start (c .before .before)) .pre .1)
 
 hold-requires : tie.Need-hold-requires
-hold-requires c κs = (c .before .before .before .before .before .before .before .before .before .before .before .before .before .before .before .before .before) .pre
+hold-requires c κs = (start (c .before .before .before)) .pre
 
 tell-with-requires : tie.Need-tell-with-requires
-tell-with-requires c κs = let a = (c .before .before .before .before .before .before .before .before .before .before .before .before .before .before .before .before .before .before) .args in
-    let b = cells (slots (a .values .now) (a .versions .now) (a .statuses .now)) (a .holidays .now) (a .readings .now) (a .reads .now) (agreedLists (a .agreed .now) (a .agreed-versions .now)) (a .widths .now) in
-    rw (c .before .before .before .before .fill-slot .ensures .0, c .before .before .before .before .fill-slot .ensures .1, c .hold .ensures .1) (fits-are (a .head) (bounded (a .head) ((c .before .before .before .before .before .before .before .before .before .before .before .before .before .before .before .before .before .before) .pre .0 .lent .fitted .head)) b (a .slot) ((c .before .before .before .before .before .before .before .before .before .before .before .before .before .before .before .before .before .before) .pre .0 .widths .low))
+tell-with-requires c κs =
+    let at-fill-slot = after-fill-slot c in
+    let begun = start at-fill-slot in
+    let a = begun .args in
+    let b = cells (slots (a .values .now) (a .versions .now) (a .statuses .now)) (a .holidays .now) (a .readings .now) (a .reads .now)
+    (agreedLists (a .agreed .now) (a .agreed-versions .now)) (a .widths .now) in
+    rw (at-fill-slot .fill-slot .ensures .0, at-fill-slot .fill-slot .ensures .1, c .hold .ensures .1)
+    (fits-are (a .head) (bounded (a .head) (begun .pre .0 .lent .fitted .head)) b (a .slot) (begun .pre .0 .widths .low))
 
 returns : tie.Need-returns
 unfolding causeAt
-returns c = let a = (c .before .before .before .before .before .before .before .before .before .before .before .before .before .before .before .before .before .before .before) .args in
-    let b = cells (slots (a .values .now) (a .versions .now) (a .statuses .now)) (a .holidays .now) (a .readings .now) (a .reads .now) (agreedLists (a .agreed .now) (a .agreed-versions .now)) (a .widths .now) in
-    c .tell-with .ensures ∙ told-is (a .head) (bounded (a .head) ((c .before .before .before .before .before .before .before .before .before .before .before .before .before .before .before .before .before .before .before) .pre .0 .lent .fitted .head)) b (a .slot) _ (c .before .before .before .before .before .fill-slot .result) (c .before .before .found-by .result) (c .before .hold .result) (c .before .before .before .before .before .before .cause-of .ensures) (c .before .before .before .before .before .fill-slot .ensures .0) (c .before .before .before .before .before .fill-slot .ensures .1) (c .before .before .before .before .before .fill-slot .ensures .2) (rw (c .before .before .before .rule-of .ensures) at (c .before .before .found-by .ensures)) (c .before .hold .ensures .0) (c .before .hold .ensures .1)
+returns c =
+    let at-fill-slot = after-fill-slot (c .before) in
+    let a = (start at-fill-slot) .args in
+    let b = cells (slots (a .values .now) (a .versions .now) (a .statuses .now)) (a .holidays .now) (a .readings .now) (a .reads .now)
+    (agreedLists (a .agreed .now) (a .agreed-versions .now)) (a .widths .now) in
+    c .tell-with .ensures
+    ∙ told-is (a .head) (bounded (a .head) ((start at-fill-slot) .pre .0 .lent .fitted .head)) b (a .slot) _
+    (at-fill-slot .fill-slot .result) (c .before .before .found-by .result) (c .before .hold .result)
+    (at-fill-slot .before .cause-of .ensures) (at-fill-slot .fill-slot .ensures .0) (at-fill-slot .fill-slot .ensures .1)
+    (at-fill-slot .fill-slot .ensures .2) (rw (c .before .before .before .rule-of .ensures) at (c .before .before .found-by .ensures))
+    (c .before .hold .ensures .0) (c .before .hold .ensures .1)
 
 pub tell-spec : {M : Type 1} → statement M
 tell-spec =

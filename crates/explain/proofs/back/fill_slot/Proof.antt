@@ -5,17 +5,30 @@ use borrow.Author.Needs.{needs}
 use Rattle.explain.proofs.back.fill_slot.Statement.{statement}
 use Rattle.explain.proofs.back.fill_slot.Tie as tie
 
+-- ---- Places
+
+abbrev start : tie.After-fills-before → tie.Start
+start c = c .before .before .before .before .before .before .before
+
+-- ---- Needs
+
 fills-before-requires : tie.Need-fills-before-requires
 fills-before-requires c κs = search needs
 
 fill-requires : tie.Need-fill-requires
-fill-requires c κs = let a = (c .before .before .before .before .before .before .before) .args in
+fill-requires c κs =
+    let begun = start c in
+    let a = begun .args in
     let s = slots (a .values .now) (a .versions .now) (a .statuses .now) in
-    let p = walk-place (a .head) s (a .agreed-versions .now) (c .fills-before .result) (a .at) (c .fills-before .ensures) in
-    ((c .before .before .before .before .before .before .before) .pre .0, (c .before .before .before .before .before .before .before) .pre .1, rw p ((c .before .before .before .before .before .before .before) .pre .2), walk-known (a .head) s (a .agreed-versions .now) (c .fills-before .result) (a .at) (c .fills-before .ensures))
+    let p = walk-place (a .head) s (a .agreed-versions .now) (c .fills-before .result) (a .at) (c .fills-before .ensures) in (
+      begun .pre .0,
+      begun .pre .1,
+      rw p (begun .pre .2),
+      walk-known (a .head) s (a .agreed-versions .now) (c .fills-before .result) (a .at) (c .fills-before .ensures),
+    )
 
 returns : tie.Need-returns
-returns c = let a = (c .before .before .before .before .before .before .before .before) .args in
+returns c = let a = (start (c .before)) .args in
     let s = slots (a .values .now) (a .versions .now) (a .statuses .now) in
     let p = walk-place (a .head) s (a .agreed-versions .now) (c .before .fills-before .result) (a .at) (c .before .fills-before .ensures) in
     rw p at (c .fill .ensures)

@@ -1,4 +1,6 @@
 -- `back::since_good`: the slots from `from` on have causes.
+use mathlib.Core.List.{List}
+use Rattle.rules.specs.declared.Head.{Head}
 use Prim.Native.Nat.{ℕ, _≤_, _<_}
 use mathlib.Core.Bool.{false}
 use mathlib.Core.Path.{_≡_, sym, _∙_}
@@ -9,33 +11,52 @@ use Rattle.explain.proofs.Passing.{since-on}
 use Rattle.explain.proofs.back.since_good.Statement.{statement}
 use Rattle.explain.proofs.back.since_good.Tie as tie
 
+record Held (head : Head) (values versions statuses : List ℕ) (at from : ℕ) : Type 0 where
+  inside : from ≤ at
+  none : (k : ℕ) → from ≤ k → k < at → goodAt head (slots values versions statuses) k ≡ false
+
 abbrev Inv-loop : tie.InvT-loop
-Inv-loop head values versions statuses at from₀ from =
-    (from ≤ at) × ((k : ℕ) → from ≤ k → k < at → goodAt head (slots values versions statuses) k ≡ false)
+Inv-loop head values versions statuses at from₀ from = Held head values versions statuses at from
 
 abbrev μ-loop : tie.MeasureT-loop
 μ-loop head values versions statuses at from₀ from = from
 
+-- ---- Places
+
+abbrev start : tie.In-loop Inv-loop μ-loop → tie.Start Inv-loop μ-loop
+start c = c .before .before .before .before .before
+
+-- ---- Needs
+
 loop-holds : tie.Need-loop-holds Inv-loop μ-loop
-loop-holds c = (omega arith, λ k l m. absurd (omega arith))
+loop-holds c = record { inside = omega arith; none = λ k l m. absurd (omega arith) }
 
 sub-last : tie.Need-sub-last Inv-loop μ-loop
 sub-last c = omega arith
 
 is-good-requires : tie.Need-is-good-requires Inv-loop μ-loop
-is-good-requires c κs = ((c .before .before .before .before .before) .pre .0, omega arith)
+is-good-requires c κs = ((start c) .pre .0, omega arith)
 
 returns : tie.Need-returns Inv-loop μ-loop
-returns c = record { low = c .before .before .before .loop .inv .0; good = λ _. sym (c .before .is-good .ensures) ∙ c .if1 .taken; causes = c .before .before .before .loop .inv .1 }
+returns c =
+    record {
+      low = c .before .before .before .loop .inv .inside;
+      good = λ _. sym (c .before .is-good .ensures) ∙ c .if1 .taken;
+      causes = c .before .before .before .loop .inv .none;
+    }
 
 loop-less : tie.Need-loop-less Inv-loop μ-loop
 loop-less c = omega arith
 
 loop-again : tie.Need-loop-again Inv-loop μ-loop
-loop-again c = (omega arith, since-on _ _ _ _ (c .before .before .before .loop .inv .1) (sym (c .before .is-good .ensures) ∙ c .if1 .left))
+loop-again c =
+    record {
+      inside = omega arith;
+      none = since-on _ _ _ _ (c .before .before .before .loop .inv .none) (sym (c .before .is-good .ensures) ∙ c .if1 .left);
+    }
 
 returns-2 : tie.Need-returns-2 Inv-loop μ-loop
-returns-2 c = record { low = c .before .loop .inv .0; good = λ z. absurd (z (omega arith)); causes = c .before .loop .inv .1 }
+returns-2 c = record { low = c .before .loop .inv .inside; good = λ z. absurd (z (omega arith)); causes = c .before .loop .inv .none }
 
 pub since-good-spec : {M : Type 1} → statement M
 since-good-spec =

@@ -1,6 +1,7 @@
 -- `held::last_read`. From boundary d back the answer is that from the day.
+use mathlib.Core.List.{List}
 use borrow.Author.Needs.{needs}
-use Prim.Native.Nat.{_≤_}
+use Prim.Native.Nat.{ℕ, _≤_}
 use mathlib.Core.Path.{_≡_, refl, sym, ap, _∙_}
 use native.Mathlib.Omega.{arith}
 use Rattle.rules.specs.Spans.{lastRead}
@@ -8,16 +9,29 @@ use Rattle.rules.proofs.Stretches.{is-read, unread}
 use Rattle.explain.proofs.Holding.{last-at, last-on, last-none}
 use Rattle.explain.proofs.held.last_read.Statement.{statement}
 use Rattle.explain.proofs.held.last_read.Tie as tie
-use Rattle.explain.proofs.held.last_read.Reads as reads
+
+record Held (reads : List ℕ) (day d : ℕ) : Type 0 where
+  inside : d ≤ day
+  known : lastRead reads day ≡ lastRead reads d
 
 abbrev Inv-loop : tie.InvT-loop
-Inv-loop reads day d₀ d = (d ≤ day) × (lastRead reads day ≡ lastRead reads d)
+Inv-loop reads day d₀ d = Held reads day d
 
 abbrev μ-loop : tie.MeasureT-loop
 μ-loop reads day d₀ d = d
 
+-- ---- Places
+
+abbrev start : tie.After-shared-slice-known2 Inv-loop μ-loop → tie.Start Inv-loop μ-loop
+start c = c .before .before .before
+
+abbrev start-known : tie.After-shared-slice-known Inv-loop μ-loop → tie.Start Inv-loop μ-loop
+start-known c = c .before .before .before
+
+-- ---- Needs
+
 loop-holds : tie.Need-loop-holds Inv-loop μ-loop
-loop-holds c = (omega arith, refl)
+loop-holds c = record { inside = omega arith; known = refl }
 
 mul-if1 : tie.Need-mul-if1 Inv-loop μ-loop
 mul-if1 c = search needs
@@ -26,8 +40,9 @@ shared-slice-read-if1 : tie.Need-shared-slice-read-if1 Inv-loop μ-loop
 shared-slice-read-if1 c = omega arith
 
 returns : tie.Need-returns Inv-loop μ-loop
-returns c = let r = (c .before .before .before .before) .args .reads .now in
-    sym (c .before .before .before .loop .inv .1 ∙ last-at r (c .before .before .before .loop .d) (is-read r (c .before .before .before .loop .d) (c .if1 .taken)))
+returns c = let r = (start-known (c .before)) .args .reads .now in
+    sym (c .before .before .before .loop .inv .known
+    ∙ last-at r (c .before .before .before .loop .d) (is-read r (c .before .before .before .loop .d) (c .if1 .taken)))
 
 sub-d : tie.Need-sub-d Inv-loop μ-loop
 sub-d c = omega arith
@@ -36,21 +51,27 @@ loop-less : tie.Need-loop-less Inv-loop μ-loop
 loop-less c = omega arith
 
 loop-again : tie.Need-loop-again Inv-loop μ-loop
-loop-again c = let r = (c .before .before .before .before) .args .reads .now in
-    (omega arith, c .before .before .before .loop .inv .1 ∙ last-on r (c .before .before .before .loop .d) (c .before .before .loop-test .taken) (unread r (c .before .before .before .loop .d) (c .if1 .left)))
+loop-again c = let r = (start-known (c .before)) .args .reads .now in
+    record {
+      inside = omega arith;
+      known =
+          c .before .before .before .loop .inv .known
+          ∙ last-on r (c .before .before .before .loop .d) (c .before .before .loop-test .taken)
+          (unread r (c .before .before .before .loop .d) (c .if1 .left));
+    }
 
 shared-slice-read-if2 : tie.Need-shared-slice-read-if2 Inv-loop μ-loop
 shared-slice-read-if2 c = omega arith
 
 returns-2 : tie.Need-returns-2 Inv-loop μ-loop
-returns-2 c = let r = (c .before .before .before .before) .args .reads .now in
+returns-2 c = let r = (start (c .before)) .args .reads .now in
     let z : c .before .before .before .loop .d ≡ 0 = omega arith in
-    sym (c .before .before .before .loop .inv .1 ∙ ap (lastRead r) z ∙ last-at r 0 (is-read r 0 (c .if2 .taken)))
+    sym (c .before .before .before .loop .inv .known ∙ ap (lastRead r) z ∙ last-at r 0 (is-read r 0 (c .if2 .taken)))
 
 returns-3 : tie.Need-returns-3 Inv-loop μ-loop
-returns-3 c = let r = (c .before .before .before .before) .args .reads .now in
+returns-3 c = let r = (start (c .before)) .args .reads .now in
     let z : c .before .before .before .loop .d ≡ 0 = omega arith in
-    sym (c .before .before .before .loop .inv .1 ∙ ap (lastRead r) z ∙ last-none r (unread r 0 (c .if2 .left)))
+    sym (c .before .before .before .loop .inv .known ∙ ap (lastRead r) z ∙ last-none r (unread r 0 (c .if2 .left)))
 
 pub last-read-spec : {M : Type 1} → statement M
 last-read-spec =

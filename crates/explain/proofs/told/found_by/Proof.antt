@@ -21,7 +21,9 @@ find-requires c κs = search needs
 
 returns-2 : tie.Need-returns-2
 unfolding foundOf
-returns-2 c = rw (sym (c .before .before .is-same-day .ensures) ∙ not-false _ (c .before .if1 .left)) (λ t. record { days = c .find .ensures .0 t; values = c .find .ensures .1 t; count = c .find .ensures .2 t })
+returns-2 c =
+    rw (sym (c .before .before .is-same-day .ensures) ∙ not-false _ (c .before .if1 .left))
+    (λ t. record { days = c .find .ensures .0 t; values = c .find .ensures .1 t; count = c .find .ensures .2 t })
 
 pub found-by-spec : {M : Type 1} → statement M
 found-by-spec =

@@ -6,6 +6,19 @@ use borrow.Author.Needs.{needs}
 use Rattle.explain.proofs.told.rule_of.Statement.{statement}
 use Rattle.explain.proofs.told.rule_of.Tie as tie
 
+-- ---- Places
+
+abbrev passed1 : tie.After-struct-known3 → tie.Else1
+passed1 c = c .before .before .before
+
+abbrev passed2 : tie.Then4 → tie.Else2
+passed2 c = c .before .before .before .before
+
+abbrev passed3 : tie.After-is-none → tie.Else3
+passed3 c = c .before .before .before
+
+-- ---- Needs
+
 returns : tie.Need-returns
 unfolding ruleOf
 returns c = rw (eq-eqb _ _ (c .if1 .taken))
@@ -16,22 +29,44 @@ returns-2 c = rw (ne-eqb _ _ (c .before .before .if1 .left), eq-eqb _ _ (c .if2 
 
 returns-3 : tie.Need-returns-3
 unfolding ruleOf
-returns-3 c = rw (ne-eqb _ _ (c .before .before .before .before .if1 .left), ne-eqb _ _ (c .before .before .if2 .left), eq-eqb _ _ (c .if3 .taken))
+returns-3 c = rw (ne-eqb _ _ (passed1 (c .before) .if1 .left), ne-eqb _ _ (c .before .before .if2 .left), eq-eqb _ _ (c .if3 .taken))
 
 returns-4 : tie.Need-returns-4
 unfolding ruleOf
-returns-4 c = rw (ne-eqb _ _ (c .before .before .before .before .before .before .if1 .left), ne-eqb _ _ (c .before .before .before .before .if2 .left), ne-eqb _ _ (c .before .before .if3 .left), eq-eqb _ _ (c .if4 .taken))
+returns-4 c =
+    rw (
+      ne-eqb _ _ (passed2 c .before .before .if1 .left),
+      ne-eqb _ _ (passed2 c .if2 .left),
+      ne-eqb _ _ (c .before .before .if3 .left),
+      eq-eqb _ _ (c .if4 .taken),
+    )
 
 is-none-requires : tie.Need-is-none-requires
 is-none-requires c κs = search needs
 
 returns-5 : tie.Need-returns-5
 unfolding ruleOf
-returns-5 c = rw (ne-eqb _ _ (c .before .before .before .before .before .before .before .before .if1 .left), ne-eqb _ _ (c .before .before .before .before .before .before .if2 .left), ne-eqb _ _ (c .before .before .before .before .if3 .left), ne-eqb _ _ (c .before .before .if4 .left), sym (c .before .is-none .ensures) ∙ c .if5 .taken)
+returns-5 c =
+    let past3 = passed3 (c .before) in
+    rw (
+      ne-eqb _ _ (passed1 (past3 .before) .if1 .left),
+      ne-eqb _ _ (past3 .before .before .if2 .left),
+      ne-eqb _ _ (past3 .if3 .left),
+      ne-eqb _ _ (c .before .before .if4 .left),
+      sym (c .before .is-none .ensures) ∙ c .if5 .taken,
+    )
 
 returns-6 : tie.Need-returns-6
 unfolding ruleOf
-returns-6 c = rw (ne-eqb _ _ (c .before .before .before .before .before .before .before .before .if1 .left), ne-eqb _ _ (c .before .before .before .before .before .before .if2 .left), ne-eqb _ _ (c .before .before .before .before .if3 .left), ne-eqb _ _ (c .before .before .if4 .left), sym (c .before .is-none .ensures) ∙ c .if5 .left)
+returns-6 c =
+    let past3 = passed3 (c .before) in
+    rw (
+      ne-eqb _ _ (passed1 (past3 .before) .if1 .left),
+      ne-eqb _ _ (past3 .before .before .if2 .left),
+      ne-eqb _ _ (past3 .if3 .left),
+      ne-eqb _ _ (c .before .before .if4 .left),
+      sym (c .before .is-none .ensures) ∙ c .if5 .left,
+    )
 
 pub rule-of-spec : {M : Type 1} → statement M
 rule-of-spec =

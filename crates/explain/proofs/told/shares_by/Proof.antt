@@ -6,6 +6,13 @@ use borrow.Author.Needs.{needs}
 use Rattle.explain.proofs.told.shares_by.Statement.{statement}
 use Rattle.explain.proofs.told.shares_by.Tie as tie
 
+-- ---- Places
+
+abbrev after-is-substituted : tie.After-no-shares2 → tie.After-is-substituted
+after-is-substituted c = c .before .before .before .before
+
+-- ---- Needs
+
 is-substituted-requires : tie.Need-is-substituted-requires
 is-substituted-requires c κs = search needs
 
@@ -21,11 +28,16 @@ no-shares-requires-2 c κs = search needs
 
 returns-2 : tie.Need-returns-2
 unfolding sharesWith
-returns-2 c = rw (sym (c .before .before .before .before .is-substituted .ensures) ∙ not-false _ (c .before .before .before .if1 .left), eq-eqb _ _ (c .before .if2 .taken)) (c .no-shares2 .ensures)
+returns-2 c =
+    rw (
+      sym (after-is-substituted c .is-substituted .ensures) ∙ not-false _ (c .before .before .before .if1 .left),
+      eq-eqb _ _ (c .before .if2 .taken),
+    ) (c .no-shares2 .ensures)
 
 returns-3 : tie.Need-returns-3
 unfolding sharesWith
-returns-3 c = rw (sym (c .before .before .before .is-substituted .ensures) ∙ not-false _ (c .before .before .if1 .left), ne-eqb _ _ (c .if2 .left))
+returns-3 c =
+    rw (sym (c .before .before .before .is-substituted .ensures) ∙ not-false _ (c .before .before .if1 .left), ne-eqb _ _ (c .if2 .left))
 
 pub shares-by-spec : {M : Type 1} → statement M
 shares-by-spec =

@@ -4,6 +4,16 @@ use borrow.Author.Needs.{needs}
 use Rattle.explain.proofs.told.tell_with.Statement.{statement}
 use Rattle.explain.proofs.told.tell_with.Tie as tie
 
+-- ---- Places
+
+abbrev after-rule-of : tie.After-fit → tie.After-rule-of
+after-rule-of c = c .before .before .before .before .before
+
+abbrev after-fit : tie.After-shares-by → tie.After-fit
+after-fit c = c .before .before .before .before .before
+
+-- ---- Needs
+
 rule-of-requires : tie.Need-rule-of-requires
 rule-of-requires c κs = search needs
 
@@ -18,7 +28,15 @@ shares-by-requires c κs = search needs
 
 returns : tie.Need-returns
 unfolding toldWith
-returns c = rw (c .before .line-by .ensures, c .before .before .before .before .before .before .before .before .before .before .rule-of .ensures, c .shares-by .ensures, c .before .before .before .before .before .fit .ensures .0, c .before .before .before .before .before .fit .ensures .1)
+returns c =
+    let at-fit = after-fit c in
+    rw (
+      c .before .line-by .ensures,
+      after-rule-of at-fit .rule-of .ensures,
+      c .shares-by .ensures,
+      at-fit .fit .ensures .0,
+      at-fit .fit .ensures .1,
+    )
 
 pub tell-with-spec : {M : Type 1} → statement M
 tell-with-spec =
