@@ -27,7 +27,7 @@ use Rattle.rules.proofs.Bounds.{Bounded}
 use Rattle.rules.proofs.Lines.{walk-line}
 use Rattle.rules.proofs.Places.{span-end}
 use Rattle.rules.proofs.Scaling.{running}
-use Rattle.rules.proofs.Steps.{weight, whole-low, step-fits, step-done}
+use Rattle.rules.proofs.Steps.{weight, whole-low, step-outcome, step-scalable}
 use Rattle.explain.specs.declared.Rule.{Rule}
 use Rattle.rules.specs.declared.filling.References.{References}
 use Rattle.explain.specs.declared.Shares.{Shares}
@@ -83,12 +83,11 @@ module _ (h : Head) (w : Bounded h) (b : Cells) (i : ℕ) where
   pub outcome-is : fitOutcome o x (scaledTo (stretchAt h b i .by)) ≡ outcomeAt h b i
   unfolding fitOutcome
   outcome-is =
-      step-done h w b i (record { begins = beginsAt h b i; stretch = stretchAt h b i })
-      (record { outcome = o; shape = x; next = walkAt h (b .slots) (b .agreed .versions) (i + 1) }) refl refl refl refl refl .outcome
+      step-outcome h w b i o x (stretchAt h b i) refl refl refl
 
   pub fits-are : WidthsLow (b .widths) → Scalable o x (scaledTo (stretchAt h b i .by))
   fits-are wide =
-      let f = step-fits h w b i wide in
+      let f = step-scalable h w b i o x (stretchAt h b i) refl refl refl wide in
       record { method-low = f .method-low; scales = f .scales }
 
   -- in a scaled span

@@ -55,7 +55,7 @@ tell-with-requires c κs =
     let a = begun .args in
     let b = cells (slots (a .values .now) (a .versions .now) (a .statuses .now)) (a .holidays .now) (a .readings .now) (a .reads .now)
     (agreedLists (a .agreed .now) (a .agreed-versions .now)) (a .widths .now) in
-    rw (at-fill-slot .fill-slot .ensures .0, at-fill-slot .fill-slot .ensures .1, c .hold .ensures .1)
+    simp (at-fill-slot .fill-slot .ensures .0, at-fill-slot .fill-slot .ensures .1, c .hold .ensures .1)
     (fits-are (a .head) (bounded (a .head) (begun .pre .0 .lent .fitted .head)) b (a .slot) (begun .pre .0 .widths .low))
 
 returns : tie.Need-returns

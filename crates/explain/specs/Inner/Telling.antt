@@ -11,7 +11,7 @@ use Rattle.rules.specs.Spans.{isN}
 use Rattle.rules.specs.Inner.Stretches.{fitOutcome, fitNext}
 use Rattle.explain.specs.declared.Rule.{Rule}
 use Rattle.explain.specs.declared.Rule.the-variants.{Delivered, Agreed, OutageZero, Linear, SameDay, Nothing}
-use Rattle.explain.specs.declared.Found.{Found}
+use Rattle.rules.specs.declared.filling.References.{References}
 use Rattle.explain.specs.declared.Explanation.{Explanation}
 use Rattle.explain.specs.declared.held.Held.{Held}
 use Rattle.explain.specs.declared.Explained.{Explained}
@@ -31,7 +31,7 @@ ruleOf o =
 abbrev pub scaledTo : Scaling → Stretch
 scaledTo by = record { until = 0; by = by }
 
-unfoldable pub toldWith : Cause → Filled → Found → Held → Explanation
+unfoldable pub toldWith : Cause → Filled → References → Held → Explanation
 toldWith cause filled found held = record {
   cause = cause;
   rule = ruleOf (filled .outcome);

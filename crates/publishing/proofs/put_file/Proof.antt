@@ -116,7 +116,8 @@ returns c =
     let l : fileLength (a .head) b ≤ length (a .out .now) =
     omega (arith, begun .pre .0 .room, length-upTo (outcomeAt (a .head) b) 0 (slotCount (a .head))) in
     let p : 6 * at-put-tables .before .before .slot-count .result + 14 * a .spans
-    ≡ 6 * slotCount (a .head) + 14 * length (spans (a .head) b) = simp (at-put-tables .before .before .slot-count .ensures, begun .pre .1) in
+    ≡ 6 * slotCount (a .head) + 14 * length (spans (a .head) b) =
+    simp (at-put-tables .before .before .slot-count .ensures, begun .pre .1) in
     file-put (a .head) b w (a .out .now) _ _ _ _ l (at-put-tables .put-tables .ensures .1) p f (c .before .before .put-trailer .ensures)
 
 pub put-file-spec : {M : Type 1} → statement M

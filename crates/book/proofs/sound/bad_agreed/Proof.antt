@@ -29,10 +29,10 @@ abbrev μ-loop : tie.MeasureT-loop
 abbrev At-loop : Type 0
 At-loop = tie.At-loop Inv-loop μ-loop
 
-abbrev start : At-loop → tie.Start Inv-loop μ-loop
+abbrev start : tie.At-loop Inv-loop μ-loop → tie.Start Inv-loop μ-loop
 start c = c .before .before .before
 
-abbrev turn : tie.After-agreed-fault Inv-loop μ-loop → At-loop
+abbrev turn : tie.After-agreed-fault Inv-loop μ-loop → tie.At-loop Inv-loop μ-loop
 turn c = c .before .before .before .before
 
 abbrev lent : At-loop → Agreed

@@ -16,15 +16,15 @@ returns : tie.Need-returns
 unfolding foundOf
 returns c = rw (sym (c .before .before .is-same-day .ensures) ∙ not-true _ (c .before .if1 .taken)) (c .none-found .ensures)
 
-find-requires : tie.Need-find-requires
-find-requires c κs = search needs
+find-references-requires : tie.Need-find-references-requires
+find-references-requires c κs = search needs
 
 returns-2 : tie.Need-returns-2
 unfolding foundOf
 returns-2 c =
     rw (sym (c .before .before .is-same-day .ensures) ∙ not-false _ (c .before .if1 .left))
-    (λ t. record { days = c .find .ensures .0 t; values = c .find .ensures .1 t; count = c .find .ensures .2 t })
+    (λ t. record { days = c .find-references .ensures .0 t; values = c .find-references .ensures .1 t; count = c .find-references .ensures .2 t })
 
 pub found-by-spec : {M : Type 1} → statement M
 found-by-spec =
-    tie.close (tie.spec is-same-day-requires none-found-requires returns find-requires returns-2)
+    tie.close (tie.spec is-same-day-requires none-found-requires returns find-references-requires returns-2)

@@ -30,7 +30,7 @@ returns : tie.Need-returns
 unfolding toldWith
 returns c =
     let at-fit = after-fit c in
-    rw (
+    simp (
       c .before .line-by .ensures,
       after-rule-of at-fit .rule-of .ensures,
       c .shares-by .ensures,
