@@ -4,4 +4,5 @@ pub mod Cutting
 pub mod Fields
 pub mod Tables
 pub mod Calls
+pub mod Keyword
 pub mod OnePass

@@ -6,7 +6,7 @@ use Prim.Native.Nat.{ℕ, zero, suc, _+_, _-_, _*_, _^_, _≤_, _<_}
 use native.Mathlib.Nat.{pow-suc, zero-add}
 use native.Mathlib.Numerals.{add-one}
 use native.Mathlib.Omega.{arith}
-use borrow.Author.Tests.{eq-eqb, ne-eqb, le-leb, le-ltb, leb-true, eqb-true}
+use borrow.Author.Tests.{eq-eqb, ne-eqb, le-leb, le-ltb, leb-true}
 use lib.Dec.{eqb, leb, ltb}
 use lib.ListN.{length, getD, take, drop, length-append, length-drop, take-append-drop}
 use lib.Seq.{split-at, getD-drop, drop-drop, length-take-le}
@@ -22,7 +22,7 @@ use Rattle.log.specs.Line.{entryOf}
 use Rattle.log.specs.Log.{withByte, lines, itemIn, itemOf, items}
 use Rattle.log.specs.Log.Item.{call}
 use Rattle.log.specs.Inner.Lines.{FoundAt}
-use Rattle.log.specs.Inner.Deliveries.{DigitsAt, FieldAt, NumbersAt, DeliveryAt}
+use Rattle.log.specs.Inner.Deliveries.{keyword, DigitsAt, FieldAt, NumbersAt, DeliveryAt}
 use Rattle.log.proofs.Splitting.{part-more}
 
 -- ---- Digits
@@ -179,17 +179,6 @@ split-last s begun (b ∷ w) p =
 
 -- ---- A delivery's line
 
-same-equal : (a b : List ℕ) → same a b ≡ true → a ≡ b
-unfolding same
-same-equal [] [] e = refl
-same-equal [] (c ∷ cs) e = absurd (false≢true e)
-same-equal (b ∷ bs) [] e = absurd (false≢true e)
-same-equal (b ∷ bs) (c ∷ cs) e =
-    let both = and-parts (eqb b c) (same bs cs) e in
-    let p = eqb-true b c (both .0) in
-    let q = same-equal bs cs (both .1) in
-    λ t. p t ∷ q t
-
 module _ (a b c d : List ℕ) where
   -- the keyword and four words
   abbrev text : List ℕ
@@ -257,17 +246,15 @@ field-number f =
     rw (ne-eqb _ _ (f .some), f .digits, le-leb _ _ low)
 
 module _ (bytes : List ℕ) (at : ℕ) (r : Delivery) (n : NumbersAt bytes (at + 9) r)
-    (word : same (take ((at + 9) - at) (drop at bytes)) (deliveryWord ++ (32 ∷ [])) ≡ true) where
+    (word : take 9 (drop at bytes) ≡ keyword) where
   -- the line's text
   abbrev found : List ℕ
   found = text (n .slot .word) (n .version .word) (n .value .word) (n .status .word)
 
   begins : drop at bytes ≡ found ++ (10 ∷ drop (r .next) bytes)
   begins =
-      let nine : (at + 9) - at ≡ 9 = omega arith in
-      let keyword = rw nine at (same-equal _ _ word) in
       sym (take-append-drop 9 (drop at bytes))
-      ∙ rw (keyword, drop-drop, n .slot .text, n .version .text, n .value .text, n .status .text)
+      ∙ rw (word, drop-drop, n .slot .text, n .version .text, n .value .text, n .status .text)
       (joins (n .slot .word) (n .version .word) (n .value .word) (n .status .word) (drop (r .next) bytes))
     where
       joins : (a b c d rest : List ℕ)

@@ -1,9 +1,9 @@
 // A delivery's line in one pass: nearly every line of a log is one.
-use crate::words;
 ghost use mathlib.Core.Bool.{true, false};
 ghost use mathlib.Core.Path.{_≡_};
-ghost use Prim.Native.Nat.{_+_, _≤_};
-ghost use lib.ListN.{length};
+ghost use Prim.Native.Nat.{_+_, _≤_, _<_};
+ghost use lib.ListN.{length, take, drop, getD};
+ghost use Rattle.log.specs.Inner.Deliveries.{Joined, keyword};
 ghost use Rattle.log.specs.Inner.Deliveries.{DigitsAt, FieldAt, NumbersAt, DeliveryAt, DigitsTo, FieldTo, NumbersTo, DeliveryTo};
 
 // A row of digits, up to `end`, and its value.
@@ -27,6 +27,43 @@ pub struct Delivery {
     pub value: u32,
     pub status: u32,
     pub next: usize,
+}
+
+fn wide(x: u8) -> u32
+    ensures { λ r. ⌜ (r ≡ x) × (r < 256) ⌝ }
+{
+    x as u32
+}
+
+// Four bytes as one number.
+fn joined(a: u8, b: u8, c: u8, d: u8) -> u32
+    ensures { λ r. ⌜ Joined a b c d r ⌝ }
+{
+    wide(a) + 256 * wide(b) + 65_536 * wide(c) + 16_777_216 * wide(d)
+}
+
+fn four_at(bytes: &[u8], at: usize) -> u32
+    requires { ⌜ at + 4 ≤ length (now bytes) ⌝ }
+    ensures { λ r. ⌜
+        (let text = now (bytes .entry) in
+        Joined (getD text at 0) (getD text (at + 1) 0) (getD text (at + 2) 0) (getD text (at + 3) 0) r)
+        ⌝ }
+{
+    joined(bytes[at], bytes[at + 1], bytes[at + 2], bytes[at + 3])
+}
+
+// The keyword stands at `at`: it is compared as two numbers and a space.
+fn is_delivery(bytes: &[u8], at: usize) -> bool
+    requires { ⌜ at + 9 ≤ length (now bytes) ⌝ }
+    ensures { λ r. ⌜ (r ≡ true → take 9 (drop at (now (bytes .entry))) ≡ keyword) ⌝ }
+{
+    if four_at(bytes, at) != joined(b'd', b'e', b'l', b'i') {
+        return false;
+    }
+    if four_at(bytes, at + 4) != joined(b'v', b'e', b'r', b'y') {
+        return false;
+    }
+    bytes[at + 8] == b' '
 }
 
 // The digits from `from` on, nine at most: they stay below 1,000,000,000.
@@ -170,7 +207,7 @@ pub fn delivery_at(bytes: &[u8], at: usize) -> Delivery
         return no_delivery();
     }
     let from = at + 9;
-    if !words::is_same(&bytes[at..from], b"delivery ") {
+    if !is_delivery(bytes, at) {
         return no_delivery();
     }
     numbers_at(bytes, from)
@@ -205,7 +242,7 @@ pub fn delivery_end(bytes: &[u8], at: usize) -> usize
         return 0;
     }
     let from = at + 9;
-    if !words::is_same(&bytes[at..from], b"delivery ") {
+    if !is_delivery(bytes, at) {
         return 0;
     }
     numbers_end(bytes, from)

@@ -2,13 +2,26 @@
 use mathlib.Core.Bool.{true}
 use mathlib.Core.List.{List, [], _∷_, _++_}
 use mathlib.Core.Path.{_≡_}
-use Prim.Native.Nat.{ℕ, _+_, _-_, _≤_}
+use Prim.Native.Nat.{ℕ, _+_, _*_, _-_, _≤_, _<_}
 use lib.ListN.{length, take, drop}
 use Rattle.book.specs.Arguments.Call.{delivery}
 use Rattle.log.specs.declared.deliveries.Delivery.{Delivery}
 use Rattle.log.specs.Numbers.{areDigits, valueOf}
+use Rattle.log.specs.Line.{deliveryWord}
 use Rattle.log.specs.Log.Item.{call}
 use Rattle.log.specs.Inner.Lines.{ItemAt}
+
+-- the keyword with its space
+abbrev pub keyword : List ℕ
+keyword = deliveryWord ++ (32 ∷ [])
+
+-- four bytes, and the number that they are with the lowest first
+pub record Joined (a b c d r : ℕ) : Type 0 where
+  pub first : a < 256
+  pub second : b < 256
+  pub third : c < 256
+  pub fourth : d < 256
+  pub number : r ≡ a + 256 * b + 65_536 * c + 16_777_216 * d
 
 -- nine digits at most stand from place `from` up to place `end`, with this value
 pub record DigitsAt (bytes : List ℕ) (from value end : ℕ) : Type 0 where

@@ -1,9 +1,9 @@
 -- `deliveries::delivery_at`: the keyword, and its four numbers.
 use mathlib.Core.Bool.{false≢true}
 use mathlib.Core.Path.{sym, _∙_}
+use borrow.Author.Needs.{needs}
 use borrow.Author.Tests.{not-false}
 use Rattle.log.proofs.OnePass.{delivery-of}
-use borrow.Author.Needs.{needs}
 use Rattle.log.proofs.deliveries.delivery_at.Statement.{statement}
 use Rattle.log.proofs.deliveries.delivery_at.Tie as tie
 
@@ -19,20 +19,8 @@ returns c = λ t. absurd (false≢true (sym (c .no-delivery .ensures) ∙ t))
 add-from : tie.Need-add-from
 add-from c = search needs
 
-sub-is-same : tie.Need-sub-is-same
-sub-is-same c = search needs
-
-part-is-same-start : tie.Need-part-is-same-start
-part-is-same-start c = search needs
-
-part-is-same-end : tie.Need-part-is-same-end
-part-is-same-end c = search needs
-
-slice-aggregate-is-same : tie.Need-slice-aggregate-is-same
-slice-aggregate-is-same c = search needs
-
-is-same-requires : tie.Need-is-same-requires
-is-same-requires c κs = search needs
+is-delivery-requires : tie.Need-is-delivery-requires
+is-delivery-requires c κs = search needs
 
 no-delivery-requires-2 : tie.Need-no-delivery-requires-2
 no-delivery-requires-2 c κs = search needs
@@ -44,8 +32,8 @@ numbers-at-requires : tie.Need-numbers-at-requires
 numbers-at-requires c κs = search needs
 
 returns-3 : tie.Need-returns-3
-returns-3 c =
-    λ t. delivery-of _ _ _ (c .numbers-at .ensures t) (sym (c .before .before .is-same .ensures) ∙ not-false _ (c .before .if2 .left))
+returns-3 c = λ t.
+    delivery-of _ _ _ (c .numbers-at .ensures t) (c .before .before .is-delivery .ensures (not-false _ (c .before .if2 .left)))
 
 pub delivery-at-spec : {M : Type 1} → statement M
 delivery-at-spec =
@@ -55,11 +43,7 @@ delivery-at-spec =
     no-delivery-requires
     returns
     add-from
-    sub-is-same
-    part-is-same-start
-    part-is-same-end
-    slice-aggregate-is-same
-    is-same-requires
+    is-delivery-requires
     no-delivery-requires-2
     returns-2
     numbers-at-requires

@@ -1,5 +1,5 @@
 -- `deliveries::delivery_end`: the keyword, and its four numbers.
-use mathlib.Core.Path.{refl, sym, _∙_}
+use mathlib.Core.Path.{refl}
 use borrow.Author.Needs.{needs}
 use borrow.Author.Tests.{not-false}
 use Rattle.log.proofs.OnePass.{delivery-of}
@@ -15,20 +15,8 @@ returns c = λ some. absurd (some refl)
 add-from : tie.Need-add-from
 add-from c = search needs
 
-sub-is-same : tie.Need-sub-is-same
-sub-is-same c = search needs
-
-part-is-same-start : tie.Need-part-is-same-start
-part-is-same-start c = search needs
-
-part-is-same-end : tie.Need-part-is-same-end
-part-is-same-end c = search needs
-
-slice-aggregate-is-same : tie.Need-slice-aggregate-is-same
-slice-aggregate-is-same c = search needs
-
-is-same-requires : tie.Need-is-same-requires
-is-same-requires c κs = search needs
+is-delivery-requires : tie.Need-is-delivery-requires
+is-delivery-requires c κs = search needs
 
 returns-2 : tie.Need-returns-2
 returns-2 c = λ some. absurd (some refl)
@@ -41,7 +29,7 @@ returns-3 c = λ some.
     let found = c .numbers-end .ensures some in
     record {
       delivery = found .delivery;
-      line = delivery-of _ _ _ (found .numbers) (sym (c .before .before .is-same .ensures) ∙ not-false _ (c .before .if2 .left));
+      line = delivery-of _ _ _ (found .numbers) (c .before .before .is-delivery .ensures (not-false _ (c .before .if2 .left)));
       ends = found .ends;
     }
 
@@ -52,11 +40,7 @@ delivery-end-spec =
     sub-if1
     returns
     add-from
-    sub-is-same
-    part-is-same-start
-    part-is-same-end
-    slice-aggregate-is-same
-    is-same-requires
+    is-delivery-requires
     returns-2
     numbers-end-requires
     returns-3)
