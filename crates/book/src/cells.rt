@@ -7,11 +7,8 @@ ghost use Rattle.book.specs.Cells.{slotFault, dayFault, numberFault, rea
 pub fn slot_fault(version: u32, value: u32, status: u8) -> bool
     ensures { λ r. ⌜ r ≡ slotFault version value status ⌝ }
 {
-    if 7 < status {
-        return true;
-    }
     if version != 0 {
-        return false;
+        return 7 < status;
     }
     if value != 0 {
         return true;
