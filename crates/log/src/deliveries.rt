@@ -85,7 +85,7 @@ fn digits_at(bytes: &[u8], from: usize) -> Digits
         value = 10 * value + (byte - b'0') as u32;
         i += 1;
     }
-    Digits { value, end: i }
+    Digits { value, end: stop }
 }
 
 // Where these digits end.
@@ -105,7 +105,7 @@ fn digits_end(bytes: &[u8], from: usize) -> usize
         }
         i += 1;
     }
-    i
+    stop
 }
 
 fn no_field() -> Field

@@ -1,4 +1,5 @@
 -- `deliveries::digits_end`: the digits so far; nine of them at most.
+use mathlib.Core.Path.{_≡_}
 use Prim.Native.Nat.{_+_, _-_, _≤_}
 use native.Mathlib.Omega.{arith}
 use borrow.Author.Needs.{needs}
@@ -55,7 +56,10 @@ loop-again c =
     few-to (few-next (room c) (turn c .before .loop .inv) (turn c .loop-test .taken) (c .before .if1 .left) (omega (arith, c .if2 .left)))
 
 returns-3 : tie.Need-returns-3 Inv-loop μ-loop
-returns-3 c = c .before .loop .inv .digits
+returns-3 c =
+    let at = c .before in
+    let full : at .loop .i ≡ at .before .args .from + 9 = omega arith in
+    rw full at (at .loop .inv .digits)
 
 pub digits-end-spec : {M : Type 1} → statement M
 digits-end-spec =
