@@ -22,8 +22,9 @@ find-references-requires c κs = search needs
 returns-2 : tie.Need-returns-2
 unfolding foundOf
 returns-2 c =
+    let found = c .find-references .ensures in
     rw (sym (c .before .before .is-same-day .ensures) ∙ not-false _ (c .before .if1 .left))
-    (λ t. record { days = c .find-references .ensures .0 t; values = c .find-references .ensures .1 t; count = c .find-references .ensures .2 t })
+    (λ t. record { days = found .0 t; values = found .1 t; count = found .2 t })
 
 pub found-by-spec : {M : Type 1} → statement M
 found-by-spec =
