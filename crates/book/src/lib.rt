@@ -3,6 +3,7 @@ pub mod calls;
 pub mod cells;
 mod deliveries;
 mod filing;
+mod heads;
 pub mod lengths;
 mod numbers;
 mod registers;
@@ -103,7 +104,7 @@ pub fn deliver(
         × (now (counts .exit) ≡ countsAfter head slots (now (counts .entry)) slot version value status))
         ⌝ }
 {
-    if !opening::head_ok(head) {
+    if !heads::head_ok(head) {
         return Received::Refused(1);
     }
     if !lengths::delivery_fits(
