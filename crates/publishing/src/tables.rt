@@ -232,7 +232,7 @@ fn put_inside(
             at = put.end;
         } else {
             outage = outage::outage_zero(versions, statuses, at, outage);
-            line = linear::line_on(
+            line = linear::line_unagreed(
                 head,
                 values,
                 versions,
@@ -248,8 +248,6 @@ fn put_inside(
                 versions,
                 statuses,
                 holidays,
-                agreed,
-                agreed_versions,
                 at,
                 outage,
                 line,

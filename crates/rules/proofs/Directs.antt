@@ -48,13 +48,13 @@ module _ (h : Head) (s : Slots) (a : Agreed) (i : ℕ) where
   unfolding directOf
   agreed-value g = rw g
 
-  has-cause : directAt h s a i ≡ false → goodAt h s i ≡ false
+  has-cause : directAt h s a i ≡ false → (goodAt h s i ≡ false) × (isAgreed (a .versions) i ≡ false)
   unfolding directAt
   has-cause e = go (goodAt h s i) (isAgreed (a .versions) i) e
     where
-      go : (g t : Bool) → (g || t) ≡ false → g ≡ false
-      go true t e = e
-      go false t e = refl
+      go : (g t : Bool) → (g || t) ≡ false → (g ≡ false) × (t ≡ false)
+      go true t e = absurd (false≢true (sym e))
+      go false t e = (refl, e)
 
 module _ (h : Head) (s : Slots) (a : Agreed) (i : ℕ) (d : directAt h s a i ≡ true) where
   -- good, or agreed with a cause
@@ -165,10 +165,10 @@ module _ (h : Head) (s : Slots) (a : Agreed) (from end : ℕ) (direct : (i : ℕ
         let z : k + (end - from) ≡ l = omega arith in
         rw z at (summary-direct (end - from) (omega arith))
 
--- where no slot is direct, the first has a cause
+-- where no slot is direct, the first has a cause and is not agreed
 pub none-direct : (h : Head) (s : Slots) (a : Agreed) (from to end : ℕ) (last : Bool) → DirectTo h s a from to end last → end ≤ from
     → from < to
-    → goodAt h s from ≡ false
+    → (goodAt h s from ≡ false) × (isAgreed (a .versions) from ≡ false)
 none-direct h s a from to end last run l m =
     let e : end ≡ from = omega (arith, run .further) in
     rw e at (has-cause h s a end (run .stops (omega arith)))

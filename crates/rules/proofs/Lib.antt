@@ -9,9 +9,11 @@ pub mod Forms
 pub mod Shapes
 pub mod Weekly
 pub mod References
-pub mod Searches
 pub mod Outages
+pub mod Gaps
+pub mod Searches
 pub mod Lines
+pub mod Ruled
 pub mod Boundaries
 pub mod Neighbours
 pub mod Places

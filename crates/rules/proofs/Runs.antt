@@ -22,12 +22,16 @@ pub record Linear (h : Head) (s : Slots) (start g : ℕ) : Type 0 where
   pub left-good : goodAt h s (start - 1) ≡ true
   pub right-good : goodAt h s (start + g) ≡ true
 
+pub not-agreed : (v : List ℕ) (i : ℕ) → getD v i 0 ≤ 0 → isAgreed v i ≡ false
+unfolding isAgreed
+not-agreed v i l = le-ltb _ _ l
+
 module _ (h : Head) (s : Slots) (v : List ℕ) where
   -- slot i has a cause and is neither agreed nor zeroed
   module _ (i : ℕ) where
-    pub run-holds : goodAt h s i ≡ false → getD v i 0 ≤ 0 → (o : Bool) → o ≡ isOutageZero h s i → o ≡ false → inRun h s v i ≡ true
-    unfolding inRun isAgreed
-    run-holds p q o r z = rw (p, le-ltb _ _ q, sym r ∙ z)
+    pub run-holds : goodAt h s i ≡ false → isAgreed v i ≡ false → (o : Bool) → o ≡ isOutageZero h s i → o ≡ false → inRun h s v i ≡ true
+    unfolding inRun
+    run-holds p q o r z = rw (p, q, sym r ∙ z)
 
     pub run-unzeroed : inRun h s v i ≡ true → isOutageZero h s i ≡ false
     unfolding inRun

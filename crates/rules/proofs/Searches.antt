@@ -4,7 +4,7 @@ use mathlib.Core.List.{List, [], _∷_, _++_, map, append-assoc, append-nil}
 use mathlib.Core.Logic.{⊎-elim}
 use mathlib.Core.Path.{_≡_, refl, sym, ap, _∙_}
 use Prim.Native.Nat.{ℕ, zero, suc, _+_, _-_, _*_, _/_, _≤_, _<_}
-use native.Mathlib.Nat.{add-mul, add-mul-div-right, le-div-iff-mul-le, div-lt-iff-lt-mul}
+use native.Mathlib.Nat.{sub-zero, add-mul, mul-assoc, mul-comm, add-mul-div-right, le-div-iff-mul-le, div-lt-iff-lt-mul}
 use native.Mathlib.Numerals.{add-one}
 use native.Mathlib.Omega.{arith}
 use borrow.Author.Tests.{lt-ltb, le-ltb, ltb-true, ltb-false}
@@ -16,8 +16,9 @@ use Rattle.rules.specs.declared.Head.{Head}
 use Rattle.rules.specs.Opening.{Slots, slotsPerDay}
 use Rattle.rules.specs.Weeks.{firstBack, farthestBack, weeksWithin}
 use Rattle.rules.specs.Filling.{isReference}
-use Rattle.rules.specs.Inner.Ways.{InBook}
+use Rattle.rules.specs.Inner.Ways.{InBook, GapsUpTo}
 use Rattle.rules.proofs.Bounds.{Bounded}
+use Rattle.rules.proofs.Gaps.{gap-passed}
 use Rattle.rules.proofs.Weekly.{each-none, each-out, each-found, each-passed}
 use Rattle.rules.specs.References.{eachWeek, eachReference, inFour}
 
@@ -220,6 +221,35 @@ module _ (h : Head) (w : Bounded h) (slot week : ℕ) (seven : week ≡ 7 * slot
                 rw (q, seven)
                 (sym (kept-more found _ count _ (i .room) p) ∙ (rw (each-found f h s holidays 7 at weeks more within e′) at (k .rest)));
           }
+
+  pub weeks-fit : (at weeks : ℕ) → Standing h slot week 0 at weeks → weeks * week ≤ at
+  weeks-fit at weeks i =
+      let e : weeks * week ≡ 7 * weeks * n h w = rw (seven, ← mul-assoc weeks 7 (n h w), mul-comm weeks 7) in
+      rw e (days-low h w (7 * weeks) at (i .reach))
+
+  -- the gaps that are passed over
+  module _ {f : ℕ → ℕ} {s : Slots} {holidays found : List ℕ} {begin weeks : ℕ} (i : Standing h slot week 0 begin weeks)
+      (k : Keeping f h s holidays slot found 0 begin weeks) where
+    abbrev Past : ℕ → ℕ → Type 0
+    Past at left = Standing h slot week 0 at left × Keeping f h s holidays slot found 0 at left
+
+    past-some : (p at : ℕ) → p ≤ weeks → GapsUpTo (s .versions) week begin at p → Past at (weeks - p)
+    unfolding GapsUpTo
+    past-some zero at l e = rw (e, sub-zero) (i, k)
+    past-some (suc p) at l g =
+        let behind = past-some p (at + week) (omega arith) (g .1) in
+        let more : weeks - p ≡ 0 → ⊥ = λ z. omega arith in
+        let back : at + week - week ≡ at = omega arith in
+        let fewer : weeks - p - 1 ≡ weeks - suc p = omega arith in
+        let none : isReference h s holidays (at + week - week) ≡ false = rw back (gap-passed h s holidays at (g .0)) in
+        let next : Past (at + week - week) (weeks - p - 1) =
+        (stands-on (behind .0) more 0 (lit< tt), keeps-passed (behind .0) more (behind .1) none) in
+        rw (back, fewer) at next
+
+    pub past-gaps : (at left : ℕ) → left ≤ weeks → GapsUpTo (s .versions) week begin at (weeks - left) → Past at left
+    past-gaps at left l g =
+        let e : weeks - (weeks - left) ≡ left = omega arith in
+        rw e at (past-some (weeks - left) at (omega arith) g)
 
 -- the search is over: four places, and their number
 module _ {f : ℕ → ℕ} {h : Head} {s : Slots} {holidays : List ℕ} {slot : ℕ} {found : List ℕ} {count at weeks : ℕ}

@@ -18,7 +18,7 @@ ghost use Rattle.rules.specs.Filling.{isReference, references, meanOf, f
 ghost use Rattle.rules.specs.References.{referenceDays, inFour};
 ghost use Rattle.rules.specs.Lent.{lentSlots, lentAgreed};
 ghost use Rattle.rules.specs.Inner.Lent.{Lent, Settled};
-ghost use Rattle.rules.specs.Inner.Walks.{actualOf, agreedOf, lineAt, lineBefore};
+ghost use Rattle.rules.specs.Inner.Walks.{actualOf, agreedOf, lineAt, lineBefore, ruledBy, Drawn};
 
 // Up to four values of the same position on earlier weeks, nearest first, and their days.
 pub struct References {
@@ -84,14 +84,16 @@ pub fn find_references(
         (r .days ≡ inFour (referenceDays head s (now (holidays .entry)) slot)) × (r .values ≡ inFour xs) × (r .count ≡ length xs))
         ⌝ }
 {
-    let n = opening::slots_per_day(head);
-    let week = 7 * n;
+    let day = opening::day_with(head, slot);
+    let week = 7 * day.slots;
     let mut found = [0u32; 4];
     let mut days = [0u32; 4];
     let mut count: usize = 0;
-    let way = weeks::way_back(head, holidays, opening::day_of(head, slot));
-    let mut left = way.weeks;
-    let mut at = slot + week - way.first * n;
+    let way = weeks::way_back(head, holidays, day.number);
+    let begin = slot + week - way.first * day.slots;
+    let passed = weeks::pass_gaps(versions, begin, week, way.weeks);
+    let mut at = passed.at;
+    let mut left = passed.left;
     'weeks: loop {
         if left == 0 {
             break 'weeks;
@@ -220,39 +222,28 @@ pub fn by_agreement(value: u32) -> Outcome
     }
 }
 
-// The outcome before scaling of slot `at`, which has a cause, and its shape; `outage` says whether outage zero applies, `line`
-// which line it lies on.
+// The outcome before scaling of slot `at`, which has a cause and is not agreed, and its shape; `outage` says whether outage zero
+// applies, `line` which line it lies on.
 pub fn unscaled(
     head: Head,
     values: &[u32],
     versions: &[u32],
     statuses: &[u8],
     holidays: &[u8],
-    agreed: &[u32],
-    agreed_versions: &[u32],
     at: usize,
     outage: bool,
     line: Line,
 ) -> Shaped
     requires { ⌜
-        (let s = lentSlots values versions statuses in
-        Lent head s (now holidays)
-        × Settled head (lentAgreed agreed «agreed_versions»)
+        Lent head (lentSlots values versions statuses) (now holidays)
         × (at < slotCount head)
-        × (goodAt head s at ≡ false)
-        × (outage ≡ isOutageZero head s at)
-        × (line ≡ lineAt head s (now «agreed_versions») at))
+        × (0 < line .length → Drawn line)
         ⌝ }
     ensures { λ r. ⌜
-        (let s = lentSlots (values .entry) (versions .entry) (statuses .entry) in
-        let a = lentAgreed (agreed .entry) («agreed_versions» .entry) in
-        (r .outcome ≡ filledAt head s a (now (holidays .entry)) at)
-        × (r .shape ≡ shapeAt head s a (now (holidays .entry)) at))
+        (let xs = references head (lentSlots (values .entry) (versions .entry) (statuses .entry)) (now (holidays .entry)) at in
+        (r .outcome ≡ ruledBy outage line xs) × (r .shape ≡ shapeOf (r .outcome) xs))
         ⌝ }
 {
-    if 0 < agreed_versions[at] {
-        return unshaped(by_agreement(agreed[at]));
-    }
     if outage {
         let zero = Outcome {
             value: 0,
@@ -316,18 +307,14 @@ pub fn fill_cause(
         outage,
         before,
     );
-    let shaped = unscaled(
-        head,
-        values,
-        versions,
-        statuses,
-        holidays,
-        agreed,
-        agreed_versions,
-        at,
-        outage,
-        line,
-    );
+    if 0 < agreed_versions[at] {
+        return Lined {
+            outcome: by_agreement(agreed[at]),
+            shape: 0,
+            line: line,
+        };
+    }
+    let shaped = unscaled(head, values, versions, statuses, holidays, at, outage, line);
     let outcome = shaped.outcome;
     Lined {
         outcome: outcome,

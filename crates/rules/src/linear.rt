@@ -9,7 +9,7 @@ ghost use Prim.Native.Nat.{_+_, _<_};
 ghost use lib.ListN.{length};
 ghost use Rattle.rules.specs.Opening.{slotCount};
 ghost use Rattle.rules.specs.Tests.{goodAt};
-ghost use Rattle.rules.specs.Filling.{isOutageZero, inRun, runBefore, floorOver, lineValue};
+ghost use Rattle.rules.specs.Filling.{isOutageZero, isAgreed, inRun, runBefore, floorOver, lineValue};
 ghost use Rattle.rules.specs.Lent.{lentSlots};
 ghost use Rattle.rules.specs.Inner.Lent.{Fitted};
 ghost use Rattle.rules.specs.Inner.Walks.{bareLine, lineAt, lineBefore, lengthWithin, Drawn};
@@ -144,7 +144,49 @@ fn begin(
     }
 }
 
-// The line at slot `at`, which has a cause. `before` is that of the slot before, and `outage` says whether outage zero applies.
+// The line at slot `at`, which has a cause and is not agreed. `before` is that of the slot before; `outage` says whether outage zero
+// applies.
+pub fn line_unagreed(
+    head: Head,
+    values: &[u32],
+    versions: &[u32],
+    statuses: &[u8],
+    agreed_versions: &[u32],
+    at: usize,
+    outage: bool,
+    before: Line,
+) -> Line
+    requires { ⌜
+        (let s = lentSlots values versions statuses in
+        Fitted head s
+        × (length (now «agreed_versions») ≡ slotCount head)
+        × (at < slotCount head)
+        × (goodAt head s at ≡ false)
+        × (isAgreed (now «agreed_versions») at ≡ false)
+        × (outage ≡ isOutageZero head s at)
+        × (before ≡ lineBefore head s (now «agreed_versions») at))
+        ⌝ }
+    ensures { λ r. ⌜
+        (let s = lentSlots (values .entry) (versions .entry) (statuses .entry) in
+        r ≡ lineAt head s (now («agreed_versions» .entry)) at)
+        ⌝ }
+{
+    if outage {
+        return bare(0);
+    }
+    if before.place == 0 {
+        return begin(head, values, versions, statuses, agreed_versions, at);
+    }
+    let place = before.place + 1;
+    Line {
+        place: place,
+        length: before.length,
+        left: before.left,
+        right: before.right,
+    }
+}
+
+// The line at slot `at`, which has a cause.
 pub fn line_on(
     head: Head,
     values: &[u32],
@@ -172,17 +214,14 @@ pub fn line_on(
     if 0 < agreed_versions[at] {
         return bare(0);
     }
-    if outage {
-        return bare(0);
-    }
-    if before.place == 0 {
-        return begin(head, values, versions, statuses, agreed_versions, at);
-    }
-    let place = before.place + 1;
-    Line {
-        place: place,
-        length: before.length,
-        left: before.left,
-        right: before.right,
-    }
+    line_unagreed(
+        head,
+        values,
+        versions,
+        statuses,
+        agreed_versions,
+        at,
+        outage,
+        before,
+    )
 }

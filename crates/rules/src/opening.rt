@@ -14,6 +14,12 @@ ghost use Rattle.rules.specs.Numbers.{mostDays};
 ghost use Rattle.base.specs.Lists.{every};
 ghost use Rattle.rules.specs.Opening.{intervalOk, dayTests, headOk, firstDay, slotsPerDay, slotCount};
 
+// A day of the book, counted from 0, and how many slots it has.
+pub struct Day {
+    pub number: usize,
+    pub slots: usize,
+}
+
 pub fn is_interval(interval: u32) -> bool
     ensures { λ r. ⌜ r ≡ intervalOk interval ⌝ }
 {
@@ -88,18 +94,35 @@ pub fn slots_per_day(head: Head) -> usize
     (DAY_MINUTES / head.interval) as usize
 }
 
-// The day of a slot: a division by each of the three numbers of slots a day is a multiplication.
+// The day of a slot, and the slots a day: a division by each of the three numbers of them is a multiplication.
+pub fn day_with(head: Head, slot: usize) -> Day
+    requires { ⌜ headOk head ≡ true ⌝ }
+    ensures { λ r. ⌜ (r .number ≡ slot / slotsPerDay head) × (r .slots ≡ slotsPerDay head) ⌝ }
+{
+    if head.interval == 30 {
+        return Day {
+            number: slot / 48,
+            slots: 48,
+        };
+    }
+    if head.interval == 15 {
+        return Day {
+            number: slot / 96,
+            slots: 96,
+        };
+    }
+    Day {
+        number: slot / 288,
+        slots: 288,
+    }
+}
+
+// The day of a slot.
 pub fn day_of(head: Head, slot: usize) -> usize
     requires { ⌜ headOk head ≡ true ⌝ }
     ensures { λ r. ⌜ r ≡ slot / slotsPerDay head ⌝ }
 {
-    if head.interval == 30 {
-        return slot / 48;
-    }
-    if head.interval == 15 {
-        return slot / 96;
-    }
-    slot / 288
+    day_with(head, slot).number
 }
 
 // Slots of the book.

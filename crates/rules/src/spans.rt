@@ -149,7 +149,7 @@ pub fn summarise(
             k = run.end - start;
         } else {
             outage = outage::outage_zero(versions, statuses, at, outage);
-            line = linear::line_on(
+            line = linear::line_unagreed(
                 head,
                 values,
                 versions,
@@ -165,8 +165,6 @@ pub fn summarise(
                 versions,
                 statuses,
                 holidays,
-                agreed,
-                agreed_versions,
                 at,
                 outage,
                 line,

@@ -8,12 +8,13 @@ use lib.ListN.{getD}
 use Rattle.base.specs.Lists.{every}
 use Rattle.rules.specs.declared.Head.{Head}
 use Rattle.rules.specs.declared.Outcome.{Outcome}
-use Rattle.rules.specs.declared.Quality.the-variants.{A, F}
+use Rattle.rules.specs.declared.Quality.the-variants.{A, S, F}
 use Rattle.rules.specs.declared.walk.Walk.{Walk}
 use Rattle.rules.specs.declared.linear.Line.{Line}
 use Rattle.rules.specs.Opening.{Slots, Agreed, slotCount}
 use Rattle.rules.specs.Tests.{isGap, goodAt}
 use Rattle.rules.specs.Filling.{outageBefore, outageAfter, isAgreed, inRun, runBefore, runFrom, runStart, runLength, isLinear}
+use Rattle.rules.specs.Filling.{lineValue, fromReferences}
 use Rattle.rules.specs.Numbers.{mostMinutes}
 use Rattle.rules.specs.Inner.Lent.{Fitted, Settled}
 
@@ -102,6 +103,13 @@ pub record Drawn (l : Line) : Type 0 where
   pub length : l .length ≤ 24
   pub left : l .left ≤ 500_000
   pub right : l .right ≤ 500_000
+
+-- the outcome before scaling of a slot that has a cause and is not agreed, from its line and its references
+unfoldable pub ruledBy : Bool → Line → List ℕ → Outcome
+ruledBy zeroed l xs =
+    cond zeroed (record { value = 0; quality = A; method = 1 })
+    (cond (ltb 0 (l .length)) (record { value = lineValue (l .left) (l .right) (l .place) (l .length); quality = S; method = 2 })
+    (fromReferences xs))
 
 unfoldable pub walkAt : Head → Slots → List ℕ → ℕ → Walk
 walkAt h s agreed i =

@@ -1,27 +1,20 @@
 -- `sound::bad_count`. No day passed has a count that differs from the number of its delivered slots.
 use mathlib.Core.Bool.{false, true}
-use mathlib.Core.List.{List}
 use mathlib.Core.Path.{_≡_, sym, ap}
-use Prim.Native.Nat.{ℕ, _*_, _-_, _≤_, _<_, zero-le}
+use Prim.Native.Nat.{ℕ, _*_, _-_, _<_}
 use native.Mathlib.Omega.{arith}
 use borrow.Author.Needs.{needs}
 use borrow.Author.Tests.{eq-eqb, ne-eqb}
 use lib.ListN.{length}
-use Rattle.base.specs.Lists.{any}
-use Rattle.base.proofs.Sums.{any-empty, none-on, one-found}
-use Rattle.rules.specs.declared.Head.{Head}
 use Rattle.rules.proofs.Bounds.{Bounded, bounded, count-high}
 use Rattle.book.specs.Cells.{deliveredIn, countFaultAt}
 use Rattle.book.proofs.Counting.{day-within}
+use Rattle.book.proofs.Passed.{Passed, none-yet, one-more, at-fault, all-passed}
 use Rattle.book.proofs.sound.bad_count.Statement.{statement}
 use Rattle.book.proofs.sound.bad_count.Tie as tie
 
-record Held (h : Head) (versions counts : List ℕ) (day : ℕ) : Type 0 where
-  inside : day ≤ length counts
-  none : any (countFaultAt h versions counts) 0 day ≡ false
-
 abbrev Inv-loop : tie.InvT-loop
-Inv-loop head versions counts day₀ day = Held head versions counts day
+Inv-loop head versions counts day₀ day = Passed (countFaultAt head versions counts) (length counts) day
 
 abbrev μ-loop : tie.MeasureT-loop
 μ-loop head versions counts day₀ day = length counts - day
@@ -57,7 +50,7 @@ found c = sym (rw (c .before .before .slots-per-day .ensures) at (c .delivered .
 -- ---- Needs
 
 loop-holds : tie.Need-loop-holds Inv-loop μ-loop
-loop-holds c = record { inside = zero-le; none = any-empty _ _ }
+loop-holds c = none-yet _ _
 
 slots-per-day-requires : tie.Need-slots-per-day-requires Inv-loop μ-loop
 slots-per-day-requires c κs = start (c .before) .pre .0
@@ -93,8 +86,7 @@ returns c =
     let d = at .loop .day in
     let fault : countFaultAt (a .head) (a .versions .now) (a .counts .now) d ≡ true =
     rw (found (c .before), ne-eqb _ _ (c .if1 .taken)) in
-    sym (one-found (countFaultAt (a .head) (a .versions .now) (a .counts .now)) d (length (a .counts .now))
-    (counted (c .before) .loop-test .taken) fault)
+    at-fault _ _ _ (counted (c .before) .loop-test .taken) fault
 
 add-day : tie.Need-add-day Inv-loop μ-loop
 add-day c = omega arith
@@ -109,16 +101,10 @@ loop-again c =
     let d = at .loop .day in
     let right : countFaultAt (a .head) (a .versions .now) (a .counts .now) d ≡ false =
     rw (found (c .before), eq-eqb _ _ (c .if1 .left)) in
-    record {
-      inside = omega arith;
-      none = none-on (countFaultAt (a .head) (a .versions .now) (a .counts .now)) d (at .loop .inv .none) right;
-    }
+    one-more _ _ _ (at .loop .inv) (counted (c .before) .loop-test .taken) right
 
 returns-2 : tie.Need-returns-2 Inv-loop μ-loop
-returns-2 c =
-    let at = c .before in
-    let e : at .loop .day ≡ length (start at .args .counts .now) = omega arith in
-    sym (rw e at (at .loop .inv .none))
+returns-2 c = all-passed _ _ _ (c .before .loop .inv) (c .loop-test .left)
 
 pub bad-count-spec : {M : Type 1} → statement M
 bad-count-spec =

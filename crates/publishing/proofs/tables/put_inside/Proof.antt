@@ -11,12 +11,13 @@ use Rattle.rules.specs.Opening.{Cells, slotCount}
 use Rattle.rules.specs.Lent.{slots, agreedLists, cells}
 use Rattle.rules.specs.Tests.{goodAt}
 use Rattle.rules.specs.Spans.{spans}
-use Rattle.rules.specs.Filling.{filledAt, shapeAt}
+use Rattle.rules.specs.Filling.{isOutageZero, isAgreed, filledAt, shapeAt}
 use Rattle.rules.specs.Inner.Stretches.{stretchAt}
 use Rattle.rules.proofs.Bounds.{Bounded, bounded, count-high}
 use Rattle.rules.proofs.Directs.{run-line, none-direct}
 use Rattle.rules.proofs.Lines.{walk-outage, walk-line}
 use Rattle.rules.proofs.Outages.{zero-applies}
+use Rattle.rules.proofs.Ruled.{line-drawn, ruled}
 use Rattle.rules.proofs.Steps.{step-scalable}
 use Rattle.rules.proofs.Stretches.{stretch-ahead}
 use Rattle.file.specs.Layout.{row, slotRow}
@@ -104,15 +105,34 @@ below c = omega (arith, c .loop-test .taken, ahead (start (c .before)) .1)
 most : (c : At-loop) → slotCount (start c .args .head) ≤ 115_200
 most c = count-high (start c .args .head) (bounds (start c))
 
--- another slot than a direct one has a cause, and nothing is written yet
-cause : (c : tie.Else1 Inv-loop μ-loop) → let at = turn (other c) .before in
-    goodAt (start at .args .head) (lent (start at) .slots) (at .loop .at) ≡ false
+-- another slot than a direct one has a cause and is not agreed
+cause : (c : tie.Else1 Inv-loop μ-loop) → let at = turn (other c) .before in let b = lent (start at) in
+    (goodAt (start at .args .head) (b .slots) (at .loop .at) ≡ false) × (isAgreed (b .agreed .versions) (at .loop .at) ≡ false)
 cause c =
     let run = other c in
     let at = turn run .before in
     none-direct (start at .args .head) (lent (start at) .slots) (lent (start at) .agreed) _ _ _ _ (run .put-direct .ensures .direct)
     (c .if1 .left)
     (turn run .loop-test .taken)
+
+zeroed : (c : tie.After-outage-zero Inv-loop μ-loop) → let at = turn (other (c .before)) .before in
+    c .outage-zero .result ≡ isOutageZero (start at .args .head) (lent (start at) .slots) (at .loop .at)
+zeroed c =
+    let s = start (turn (other (c .before)) .before) in
+    c .outage-zero .ensures ∙ zero-applies (s .args .head) (lent s .slots) _ (s .pre .roomy .whole .lent .fitted .versions) _
+
+-- what the rules give it
+ruled-here : (c : tie.After-unscaled Inv-loop μ-loop) → let at = turn (other (chosen c)) .before in let s = start at in let b = lent s in
+    let r = c .unscaled .result in
+    (r .outcome ≡ filledAt (s .args .head) (b .slots) (b .agreed) (b .holidays) (at .loop .at))
+    × (r .shape ≡ shapeAt (s .args .head) (b .slots) (b .agreed) (b .holidays) (at .loop .at))
+ruled-here c =
+    let pick = chosen c in
+    let turned = turn (other pick) in
+    let s = start (turned .before) in
+    let b = lent s in
+    ruled (s .args .head) (bounds s) (b .slots) (b .agreed) _ (below turned) (cause pick .0) (cause pick .1) _ (zeroed (c .before .before))
+    _ (c .before .line-unagreed .ensures) (b .holidays) _ _ (c .unscaled .ensures .0) (c .unscaled .ensures .1)
 
 -- ---- Needs
 
@@ -188,30 +208,29 @@ outage-zero-requires c κs =
       rw (fitted .versions) (turned .before .loop .inv .outage),
     )
 
-line-on-requires : tie.Need-line-on-requires Inv-loop μ-loop
-line-on-requires c κs =
+line-unagreed-requires : tie.Need-line-unagreed-requires Inv-loop μ-loop
+line-unagreed-requires c κs =
     let turned = turn (other (c .before)) in
     let s = start (turned .before) in
     let whole = s .pre .roomy .whole in (
       whole .lent .fitted,
       whole .settled .versions,
       below turned,
-      cause (c .before),
-      c .outage-zero .ensures ∙ zero-applies (s .args .head) (lent s .slots) _ (whole .lent .fitted .versions) _,
+      cause (c .before) .0,
+      cause (c .before) .1,
+      zeroed c,
       turned .before .loop .inv .line,
     )
 
 unscaled-requires : tie.Need-unscaled-requires Inv-loop μ-loop
 unscaled-requires c κs =
-    let turned = turn (other (c .before .before)) in
-    let s = start (turned .before) in
-    let whole = s .pre .roomy .whole in (
-      whole .lent,
-      whole .settled,
+    let pick = c .before .before in
+    let turned = turn (other pick) in
+    let s = start (turned .before) in (
+      s .pre .roomy .whole .lent,
       below turned,
-      cause (c .before .before),
-      c .before .outage-zero .ensures ∙ zero-applies (s .args .head) (lent s .slots) _ (whole .lent .fitted .versions) _,
-      c .line-on .ensures,
+      line-drawn (s .args .head) (bounds s) (lent s .slots) (lent s .agreed) _ (below turned) (cause pick .0) (cause pick .1) _
+          (zeroed (c .before)) _ (c .line-unagreed .ensures),
     )
 
 fit-requires : tie.Need-fit-requires Inv-loop μ-loop
@@ -221,7 +240,7 @@ fit-requires c κs =
     let s = start (turned .before) in
     step-scalable (s .args .head) (bounds s) (lent s) (turned .before .loop .at) _ _ _
     (turned .before .loop .inv .stretch (turned .loop-test .taken))
-    (found .unscaled .ensures .0) (found .unscaled .ensures .1) (s .pre .roomy .whole .widths .low)
+    (ruled-here found .0) (ruled-here found .1) (s .pre .roomy .whole .widths .low)
 
 mul-put-slot : tie.Need-mul-put-slot Inv-loop μ-loop
 mul-put-slot c = let turned = turn (other (chosen (shaped c))) in omega (arith, below turned, most (turned .before))
@@ -262,8 +281,8 @@ loop-again-2 c =
     let none = none-put h (b .slots) (b .agreed) _ _ _ _ _ _ (run .put-direct .ensures) (pick .if1 .left) in
     let fit = placed .before .before .before .fit .ensures in
     let zero = rw (s .pre .roomy .whole .lent .fitted .versions) at (found .before .before .outage-zero .ensures) in
-    inside-next h (bounds s) b _ _ _ (ahead s .1) _ _ _ _ _ i (at .loop .inv) (turned .loop-test .taken) _ _ (found .unscaled .ensures .0)
-    (found .unscaled .ensures .1) _ _ _ _ _ _ zero (found .before .line-on .ensures) (room s) (fit .0) (fit .1) (c .add .ensures)
+    inside-next h (bounds s) b _ _ _ (ahead s .1) _ _ _ _ _ i (at .loop .inv) (turned .loop-test .taken) _ _ (ruled-here found .0)
+    (ruled-here found .1) _ _ _ _ _ _ zero (found .before .line-unagreed .ensures) (room s) (fit .0) (fit .1) (c .add .ensures)
     (placed .put-slot .ensures ∙ (λ t. written (none t) (6 * i) (row (slotRow (placed .before .before .before .fit .result .outcome)))))
 
 same-length : tie.Need-same-length Inv-loop μ-loop
@@ -298,7 +317,7 @@ put-inside-spec =
     loop-less
     loop-again
     outage-zero-requires
-    line-on-requires
+    line-unagreed-requires
     unscaled-requires
     fit-requires
     mul-put-slot

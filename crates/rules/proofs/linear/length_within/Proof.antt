@@ -14,7 +14,8 @@ use Rattle.rules.specs.Filling.{runFrom}
 use Rattle.rules.specs.Lent.{slots}
 use Rattle.rules.specs.Inner.Walks.{zeroBefore}
 use Rattle.rules.proofs.Bounds.{bounded}
-use Rattle.rules.proofs.Runs.{run-agreed, run-zeroed, run-holds, from-on, run-on, within-last, within-good, within-broken}
+use Rattle.rules.proofs.Runs.{not-agreed, run-agreed, run-zeroed, run-holds, from-on, run-on}
+use Rattle.rules.proofs.Runs.{within-last, within-good, within-broken}
 use Rattle.rules.proofs.Runs.{within-long}
 use Rattle.rules.proofs.Outages.{zero-applies, run-not-zeroed}
 use Rattle.rules.proofs.linear.length_within.Statement.{statement}
@@ -132,7 +133,8 @@ loop-again c =
     let i = a .at in
     let k = at-loop (past2 .before) .loop .k in
     let l : i + k < slotCount (a .head) = omega arith in
-    let r = run-holds (a .head) s v (i + k) (sym (past2 .before .is-good .ensures) ∙ past2 .if2 .left) (c .before .before .if3 .left) _
+    let r = run-holds (a .head) s v (i + k) (sym (past2 .before .is-good .ensures) ∙ past2 .if2 .left)
+    (not-agreed v (i + k) (c .before .before .if3 .left)) _
     (c .before .outage-zero .ensures ∙ zero-applies (a .head) s _ (start-outage-zero (c .before) .pre .0 .versions) (i + k))
     (c .if4 .left) in
     let n : i + (k + 1) ≡ suc (i + k) = omega arith in

@@ -14,12 +14,13 @@ use Rattle.rules.specs.Opening.{Slots, Agreed, slotCount}
 use Rattle.rules.specs.Tests.{goodAt}
 use Rattle.rules.specs.Lent.{slots, agreedLists}
 use Rattle.rules.specs.Inner.Walks.{zeroBefore, lineBefore}
-use Rattle.rules.specs.Filling.{shapeAt}
+use Rattle.rules.specs.Filling.{isOutageZero, isAgreed, filledAt, shapeAt}
 use Rattle.rules.specs.Inner.Summaries.{summaryOf, actualAdded}
 use Rattle.rules.proofs.Bounds.{Bounded, bounded, count-high}
 use Rattle.rules.proofs.Directs.{none-direct, run-line, summary-run}
 use Rattle.rules.proofs.Outages.{zero-on, zero-applies}
 use Rattle.rules.proofs.Lines.{line-on, walk-outage, walk-line}
+use Rattle.rules.proofs.Ruled.{line-drawn, ruled}
 use Rattle.rules.proofs.Summaries.{summary-on, summary-fits}
 use Rattle.rules.proofs.spans.summarise.Statement.{statement}
 use Rattle.rules.proofs.spans.summarise.Tie as tie
@@ -91,15 +92,34 @@ room c x e =
     summary-fits (a .head) (lent c) (settled c) (a .holidays .now) (a .first .at) (c .loop .k) (bounds c) (start c .pre .1 .low)
     (omega (arith, c .loop .inv .inside, start c .pre .2)) _ x (c .loop .inv .known) e
 
--- another slot than a direct one has a cause
-cause : (c : tie.Else1 Inv-loop μ-loop) → let at = turn (added (c .before)) .before in
-    goodAt (start at .args .head) (lent at) (start at .args .first .at + at .loop .k) ≡ false
+-- another slot than a direct one has a cause and is not agreed
+cause : (c : tie.Else1 Inv-loop μ-loop) → let at = turn (added (c .before)) .before in let i = start at .args .first .at + at .loop .k in
+    (goodAt (start at .args .head) (lent at) i ≡ false) × (isAgreed (settled at .versions) i ≡ false)
 cause c =
     let run = added (c .before) in
     let at = turn run .before in
     let a = start at .args in
     none-direct (a .head) (lent at) (settled at) _ _ _ _ (run .add-up .ensures .0) (c .if1 .left)
     (omega (arith, turn run .loop-test .taken))
+
+zeroed : (c : tie.After-outage-zero Inv-loop μ-loop) → let at = turn (added (c .before .before)) .before in
+    c .outage-zero .result ≡ isOutageZero (start at .args .head) (lent at) (start at .args .first .at + at .loop .k)
+zeroed c =
+    let at = turn (added (c .before .before)) .before in
+    c .outage-zero .ensures ∙ zero-applies (start at .args .head) (lent at) _ (start at .pre .0 .fitted .versions) _
+
+-- what the rules give it
+ruled-here : (c : tie.After-unscaled Inv-loop μ-loop) → let at = turn (added (other c .before)) .before in let a = start at .args in
+    let i = a .first .at + at .loop .k in let r = c .unscaled .result in
+    (r .outcome ≡ filledAt (a .head) (lent at) (settled at) (a .holidays .now) i)
+    × (r .shape ≡ shapeAt (a .head) (lent at) (settled at) (a .holidays .now) i)
+ruled-here c =
+    let turned = turn (added (other c .before)) in
+    let at = turned .before in
+    let a = start at .args in
+    ruled (a .head) (bounds at) (lent at) (settled at) _ (below turned) (cause (other c) .0) (cause (other c) .1) _
+    (zeroed (c .before .before)) _ (c .before .line-unagreed .ensures) (a .holidays .now) _ _ (c .unscaled .ensures .0)
+    (c .unscaled .ensures .1)
 
 -- ---- Needs
 
@@ -180,34 +200,33 @@ outage-zero-requires c κs =
       rw (fitted .versions) (at .loop .inv .outage),
     )
 
-line-on-requires : tie.Need-line-on-requires Inv-loop μ-loop
-line-on-requires c κs =
+line-unagreed-requires : tie.Need-line-unagreed-requires Inv-loop μ-loop
+line-unagreed-requires c κs =
     let run = added (c .before .before) in
     let at = turn run .before in
     let fitted = start at .pre .0 .fitted in (
       fitted,
       start at .pre .1 .versions,
       below (turn run),
-      cause (c .before),
-      c .outage-zero .ensures ∙ zero-applies (start at .args .head) (lent at) _ (fitted .versions) _,
+      cause (c .before) .0,
+      cause (c .before) .1,
+      zeroed c,
       at .loop .inv .line,
     )
 
 unscaled-requires : tie.Need-unscaled-requires Inv-loop μ-loop
 unscaled-requires c κs =
-    let run = added (c .before .before .before) in
-    let at = turn run .before in
-    let fitted = start at .pre .0 .fitted in (
+    let turned = turn (added (c .before .before .before)) in
+    let at = turned .before in
+    let slot = cause (c .before .before) in (
       start at .pre .0,
-      start at .pre .1,
-      below (turn run),
-      cause (c .before .before),
-      c .before .outage-zero .ensures ∙ zero-applies (start at .args .head) (lent at) _ (fitted .versions) _,
-      c .line-on .ensures,
+      below turned,
+      line-drawn (start at .args .head) (bounds at) (lent at) (settled at) _ (below turned) (slot .0) (slot .1) _ (zeroed (c .before)) _
+          (c .line-unagreed .ensures),
     )
 
 add-requires : tie.Need-add-requires Inv-loop μ-loop
-add-requires c κs = room (turn (added (other c .before)) .before) _ (c .unscaled .ensures .1)
+add-requires c κs = room (turn (added (other c .before)) .before) _ (ruled-here c .1)
 
 add-k : tie.Need-add-k Inv-loop μ-loop
 add-k c =
@@ -224,11 +243,11 @@ loop-again-2 c =
     let s = lent at in
     let x = settled at in
     let zero = rw (start at .pre .0 .fitted .versions) at (c .before .before .before .outage-zero .ensures) in
-    let found = c .before .unscaled .ensures in
+    let found = ruled-here (c .before) in
     record {
       inside = omega (arith, turn (added (other (c .before) .before)) .loop-test .taken);
       outage = zero ∙ zero-on (s .versions) (s .statuses) (slotCount (a .head)) (a .first .at) (at .loop .k);
-      line = c .before .before .line-on .ensures ∙ line-on (a .head) s (x .versions) (a .first .at) (at .loop .k);
+      line = c .before .before .line-unagreed .ensures ∙ line-on (a .head) s (x .versions) (a .first .at) (at .loop .k);
       known =
           summary-on (a .head) s x (a .holidays .now) (a .first .at) (at .loop .k) _ _ _ _ (at .loop .inv .known) (c .add .ensures)
           (found .0) (found .1);
@@ -257,7 +276,7 @@ summarise-spec =
     loop-less
     loop-again
     outage-zero-requires
-    line-on-requires
+    line-unagreed-requires
     unscaled-requires
     add-requires
     add-k

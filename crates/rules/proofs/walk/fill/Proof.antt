@@ -1,4 +1,3 @@
-use Rattle.rules.proofs.Shapes.{shape-good}
 -- `walk::fill`: a good slot has its value, another is filled.
 use mathlib.Core.Path.{_∙_, sym, refl}
 use native.Mathlib.Omega.{arith}
@@ -6,6 +5,7 @@ use Rattle.rules.specs.Lent.{slots, agreedLists}
 use Rattle.rules.proofs.Runs.{run-good}
 use Rattle.rules.proofs.Outages.{zero-none, zero-applies, good-delivered, filled-good}
 use Rattle.rules.proofs.Lines.{line-none, walk-outage, walk-line, walk-next}
+use Rattle.rules.proofs.Shapes.{shape-good}
 use borrow.Author.Needs.{needs}
 use Rattle.rules.proofs.walk.fill.Statement.{statement}
 use Rattle.rules.proofs.walk.fill.Tie as tie

@@ -1,15 +1,15 @@
--- `opening::day_of`: an interval is 30, 15 or 5.
+-- `opening::day_with`: an interval is 30, 15 or 5.
 use mathlib.Core.Bool.{true}
 use mathlib.Core.Logic.{⊎-elim}
-use mathlib.Core.Path.{_≡_}
+use mathlib.Core.Path.{_≡_, refl}
 use Prim.Native.Nat.{ℕ}
 use borrow.Author.Tests.{eqb-true}
 use lib.Dec.{eqb}
 use Rattle.base.proofs.Logic.{or-parts}
 use Rattle.rules.specs.Opening.{intervalOk, slotsPerDay}
 use Rattle.rules.proofs.Bounds.{bounded}
-use Rattle.rules.proofs.opening.day_of.Statement.{statement}
-use Rattle.rules.proofs.opening.day_of.Tie as tie
+use Rattle.rules.proofs.opening.day_with.Statement.{statement}
+use Rattle.rules.proofs.opening.day_with.Tie as tie
 
 -- ---- Places
 
@@ -25,17 +25,17 @@ five-left l e n m =
 
 returns : tie.Need-returns
 unfolding slotsPerDay
-returns c = rw (c .if1 .taken)
+returns c = rw (c .if1 .taken) (refl, refl)
 
 returns-2 : tie.Need-returns-2
 unfolding slotsPerDay
-returns-2 c = rw (c .if2 .taken)
+returns-2 c = rw (c .if2 .taken) (refl, refl)
 
 returns-3 : tie.Need-returns-3
 unfolding slotsPerDay
 returns-3 c =
     let start = entry c in
-    rw (five-left _ (bounded _ (start .pre) .interval-good) (c .if2 .left) (c .before .before .if1 .left))
+    rw (five-left _ (bounded _ (start .pre) .interval-good) (c .if2 .left) (c .before .before .if1 .left)) (refl, refl)
 
-pub day-of-spec : {M : Type 1} → statement M
-day-of-spec = tie.close (tie.spec returns returns-2 returns-3)
+pub day-with-spec : {M : Type 1} → statement M
+day-with-spec = tie.close (tie.spec returns returns-2 returns-3)
