@@ -14,21 +14,29 @@ pub fn timed<T>(work: impl FnOnce() -> T) -> Duration {
     start.elapsed()
 }
 
+/// What the clock itself takes, which a book of a few items would show.
+fn clock() -> Duration {
+    let mut runs: Vec<Duration> = (0..1001).map(|_| timed(|| ())).collect();
+    runs.sort();
+    runs[runs.len() / 2]
+}
+
 pub type Sides<S> = [(&'static str, S); 2];
 
-/// Median time per item in ns for each side; the sides take turns, so that a busy
-/// moment of the machine meets both.
+/// Median time per item in ns for each side, without the clock's own; the sides take
+/// turns, so that a busy moment of the machine meets both.
 pub fn medians<S: Copy, const N: usize>(
     sides: &[(&'static str, S); N],
     items: usize,
     repeats: usize,
     mut measure: impl FnMut(S) -> Duration,
 ) -> [Option<f64>; N] {
+    let clock = clock() * repeats as u32;
     let mut runs = [const { Vec::new() }; N];
     for _ in 0..RUNS {
         for (&(_, side), runs) in sides.iter().zip(&mut runs) {
             let run: Duration = (0..repeats).map(|_| measure(side)).sum();
-            runs.push(run);
+            runs.push(run.saturating_sub(clock));
         }
     }
     let median = |mut runs: Vec<Duration>| {
