@@ -94,7 +94,7 @@ pub fn slots_per_day(head: Head) -> usize
     (DAY_MINUTES / head.interval) as usize
 }
 
-// The day of a slot, and the slots a day: a division by each of the three numbers of them is a multiplication.
+// The day of a slot, and the slots a day: the compiler divides by a constant with a multiplication.
 pub fn day_with(head: Head, slot: usize) -> Day
     requires { ⌜ headOk head ≡ true ⌝ }
     ensures { λ r. ⌜ (r .number ≡ slot / slotsPerDay head) × (r .slots ≡ slotsPerDay head) ⌝ }
