@@ -232,6 +232,20 @@ impl Census<'_> {
         }
     }
 
+    /// The gaps before the nearest reference of a slot, whose earlier weeks are given.
+    fn passed(&mut self, earlier: impl Fn(usize) -> Option<usize>) {
+        let gap = |week: &usize| earlier(*week).map(|at| self.causes[at]) == Some(Some(Cause::Gap));
+        let gaps = (1..).take_while(gap).count();
+        let name = match gaps {
+            3 => "behind three gaps",
+            4 => "behind four gaps",
+            8 => "behind eight gaps",
+            _ => return,
+        };
+        let referring = earlier(gaps + 1).is_some_and(|nearest| self.refers(nearest));
+        self.counts.add_if(referring, "references", name);
+    }
+
     /// An ordinary day's slot, with so many references.
     fn weeks(&mut self, slot: usize, found: usize) {
         let earlier = |week: usize| slot.checked_sub(week * 7 * self.shape.slots_a_day);
@@ -243,6 +257,7 @@ impl Census<'_> {
             let none = found == 0 && self.refers(oldest);
             self.counts.add_if(none, "references", "only 53 weeks back");
         }
+        self.passed(earlier);
         if let Some(week) = earlier(1) {
             self.skipped(week);
             let agreed = self.is_agreed(week);
