@@ -1,5 +1,4 @@
 // The bounds of a head and the figures that follow from it (01, Opening).
-use crate::DAY_MINUTES;
 use crate::Head;
 use crate::MOST_DAYS;
 use crate::MOST_LIMIT;
@@ -86,15 +85,7 @@ pub fn first_day(head: Head) -> u32
     calendar::day_number(head.year, head.month, head.day)
 }
 
-// Slots a day.
-pub fn slots_per_day(head: Head) -> usize
-    requires { ⌜ headOk head ≡ true ⌝ }
-    ensures { λ r. ⌜ r ≡ slotsPerDay head ⌝ }
-{
-    (DAY_MINUTES / head.interval) as usize
-}
-
-// The day of a slot, and the slots a day: the compiler divides by a constant with a multiplication.
+// The day of a slot, and the slots a day: a division by a constant costs a multiplication.
 pub fn day_with(head: Head, slot: usize) -> Day
     requires { ⌜ headOk head ≡ true ⌝ }
     ensures { λ r. ⌜ (r .number ≡ slot / slotsPerDay head) × (r .slots ≡ slotsPerDay head) ⌝ }
@@ -115,6 +106,14 @@ pub fn day_with(head: Head, slot: usize) -> Day
         number: slot / 288,
         slots: 288,
     }
+}
+
+// Slots a day.
+pub fn slots_per_day(head: Head) -> usize
+    requires { ⌜ headOk head ≡ true ⌝ }
+    ensures { λ r. ⌜ r ≡ slotsPerDay head ⌝ }
+{
+    day_with(head, 0).slots
 }
 
 // The day of a slot.
