@@ -33,12 +33,6 @@ after-publish c = c .before .before .before .before
 
 -- ---- Needs
 
-fill-requires : tie.Need-fill-requires
-fill-requires c κs = search needs
-
-publish-requires : tie.Need-publish-requires
-publish-requires c κs = search needs
-
 report-requires : tie.Need-report-requires
 report-requires c κs =
     let at-widths = after-widths (c .before .before .before) in
@@ -88,9 +82,6 @@ same-length-9 c = after-widths (after-publish c) .before .before .counts .given
 same-length-10 : tie.Need-same-length-10
 same-length-10 c = after-widths (after-publish c) .widths .given
 
-same-length-11 : tie.Need-same-length-11
-same-length-11 c = search needs
-
 returns : tie.Need-returns
 returns c =
     let at-publish = after-publish c in
@@ -112,8 +103,8 @@ pub run-spec : {M : Type 1} → statement M
 run-spec =
     tie.close
     (tie.spec
-    fill-requires
-    publish-requires
+    (λ c κs. search needs)
+    (λ c κs. search needs)
     report-requires
     same-length
     same-length-2
@@ -125,5 +116,5 @@ run-spec =
     same-length-8
     same-length-9
     same-length-10
-    same-length-11
+    (λ c. search needs)
     returns)

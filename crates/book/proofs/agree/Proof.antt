@@ -44,9 +44,6 @@ lists-broken c = refused-2 _ _ _ _ (head-passed (c .before .before)) (fails (fit
 
 -- ---- Needs
 
-head-ok-requires : tie.Need-head-ok-requires
-head-ok-requires c κs = search needs
-
 returns : tie.Need-returns
 unfolding agreeAnswer agreeAfter
 returns c = rw (fails (c .before .head-ok .ensures) (c .if1 .taken)) (refl, refl)
@@ -63,12 +60,6 @@ file-number-requires c κs =
     let fits = long _ _ (passes (c .before .before .before .agreed-fit .ensures) (c .before .before .if2 .left)) in
     fits 1 ∙ sym (fits 0)
 
-same-length : tie.Need-same-length
-same-length c = search needs
-
-same-length-2 : tie.Need-same-length-2
-same-length-2 c = search needs
-
 returns-3 : tie.Need-returns-3
 unfolding agreeAfter numberAfter agreedFits
 returns-3 c =
@@ -83,11 +74,11 @@ pub agree-spec : {M : Type 1} → statement M
 agree-spec =
     tie.close
     (tie.spec
-    head-ok-requires
+    (λ c κs. search needs)
     returns
     agreed-fit-requires
     returns-2
     file-number-requires
-    same-length
-    same-length-2
+    (λ c. search needs)
+    (λ c. search needs)
     returns-3)

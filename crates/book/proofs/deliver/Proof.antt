@@ -112,9 +112,6 @@ deliverable c =
 
 -- ---- The needs
 
-head-ok-requires : tie.Need-head-ok-requires
-head-ok-requires c κs = search needs
-
 returns : tie.Need-returns
 unfolding deliverAnswer deliverAfter countsAfter
 returns c = rw (fails (c .before .head-ok .ensures) (c .if1 .taken)) (refl, refl, refl)
@@ -146,23 +143,8 @@ returns-5 c =
     let over : 7 < from3 (c .before .before) .args .status = omega (arith, c .if5 .taken) in
     rw (past-4 (c .before), lt-ltb _ _ over) (refl, refl, refl)
 
-cast-file-delivery : tie.Need-cast-file-delivery
-cast-file-delivery c = search needs
-
 file-delivery-requires : tie.Need-file-delivery-requires
 file-delivery-requires c κs = deliverable (passed5 c .before .before)
-
-same-length : tie.Need-same-length
-same-length c = search needs
-
-same-length-2 : tie.Need-same-length-2
-same-length-2 c = search needs
-
-same-length-3 : tie.Need-same-length-3
-same-length-3 c = search needs
-
-same-length-4 : tie.Need-same-length-4
-same-length-4 c = search needs
 
 returns-6 : tie.Need-returns-6
 unfolding deliverAfter countsAfter
@@ -175,7 +157,7 @@ pub deliver-spec : {M : Type 1} → statement M
 deliver-spec =
     tie.close
     (tie.spec
-    head-ok-requires
+    (λ c κs. search needs)
     returns
     delivery-fits-requires
     returns-2
@@ -183,10 +165,10 @@ deliver-spec =
     returns-3
     returns-4
     returns-5
-    cast-file-delivery
+    (λ c. search needs)
     file-delivery-requires
-    same-length
-    same-length-2
-    same-length-3
-    same-length-4
+    (λ c. search needs)
+    (λ c. search needs)
+    (λ c. search needs)
+    (λ c. search needs)
     returns-6)

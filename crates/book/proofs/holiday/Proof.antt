@@ -78,15 +78,9 @@ inside c =
 
 -- ---- The needs
 
-head-ok-requires : tie.Need-head-ok-requires
-head-ok-requires c κs = search needs
-
 returns : tie.Need-returns
 unfolding holidayAnswer holidayAfter
 returns c = rw (fails (c .before .head-ok .ensures) (c .if1 .taken)) (refl, refl)
-
-days-fit-requires : tie.Need-days-fit-requires
-days-fit-requires c κs = search needs
 
 returns-2 : tie.Need-returns-2
 unfolding holidayAfter
@@ -101,17 +95,8 @@ returns-3 c =
 slice-read-against-day : tie.Need-slice-read-against-day
 slice-read-against-day c = omega (arith, inside (c .before))
 
-against-day-requires : tie.Need-against-day-requires
-against-day-requires c κs = search needs
-
-is-stored-requires : tie.Need-is-stored-requires
-is-stored-requires c κs = search needs
-
 slice-write-holidays : tie.Need-slice-write-holidays
 slice-write-holidays c = omega (arith, inside (passed3 c))
-
-same-length : tie.Need-same-length
-same-length c = search needs
 
 -- what `against_day` found is the answer
 found : (c : tie.After-against-day) → whole (from3 (c .before .before)) ≡ receivedMeant (c .against-day .result)
@@ -130,15 +115,15 @@ pub holiday-spec : {M : Type 1} → statement M
 holiday-spec =
     tie.close
     (tie.spec
-    head-ok-requires
+    (λ c κs. search needs)
     returns
-    days-fit-requires
+    (λ c κs. search needs)
     returns-2
     returns-3
     slice-read-against-day
-    against-day-requires
-    is-stored-requires
+    (λ c κs. search needs)
+    (λ c κs. search needs)
     slice-write-holidays
-    same-length
+    (λ c. search needs)
     returns-4
     returns-5)

@@ -53,9 +53,6 @@ after-book-fits c =
 
 -- ---- Needs
 
-head-ok-requires : tie.Need-head-ok-requires
-head-ok-requires c κs = search needs
-
 returns : tie.Need-returns
 unfolding openAnswer openAfter
 returns c = rw (sym (c .before .head-ok .ensures) ∙ not-true _ (c .if1 .taken)) (refl, refl)
@@ -72,66 +69,6 @@ returns-2 c = let a = start (c .before) .args in
     sym (c .before .book-fits .ensures) ∙ not-true _ (c .if2 .taken) in
     rw (sym (c .before .before .before .head-ok .ensures) ∙ not-false _ (c .before .before .if1 .left), broken)
     (refl, refl)
-
-clear-words-requires : tie.Need-clear-words-requires
-clear-words-requires c κs = search needs
-
-clear-words-requires-2 : tie.Need-clear-words-requires-2
-clear-words-requires-2 c κs = search needs
-
-clear-bytes-requires : tie.Need-clear-bytes-requires
-clear-bytes-requires c κs = search needs
-
-clear-bytes-requires-2 : tie.Need-clear-bytes-requires-2
-clear-bytes-requires-2 c κs = search needs
-
-clear-words-requires-3 : tie.Need-clear-words-requires-3
-clear-words-requires-3 c κs = search needs
-
-clear-words-requires-4 : tie.Need-clear-words-requires-4
-clear-words-requires-4 c κs = search needs
-
-clear-words-requires-5 : tie.Need-clear-words-requires-5
-clear-words-requires-5 c κs = search needs
-
-clear-words-requires-6 : tie.Need-clear-words-requires-6
-clear-words-requires-6 c κs = search needs
-
-clear-counts-requires : tie.Need-clear-counts-requires
-clear-counts-requires c κs = search needs
-
-clear-counts-requires-2 : tie.Need-clear-counts-requires-2
-clear-counts-requires-2 c κs = search needs
-
-same-length : tie.Need-same-length
-same-length c = search needs
-
-same-length-2 : tie.Need-same-length-2
-same-length-2 c = search needs
-
-same-length-3 : tie.Need-same-length-3
-same-length-3 c = search needs
-
-same-length-4 : tie.Need-same-length-4
-same-length-4 c = search needs
-
-same-length-5 : tie.Need-same-length-5
-same-length-5 c = search needs
-
-same-length-6 : tie.Need-same-length-6
-same-length-6 c = search needs
-
-same-length-7 : tie.Need-same-length-7
-same-length-7 c = search needs
-
-same-length-8 : tie.Need-same-length-8
-same-length-8 c = search needs
-
-same-length-9 : tie.Need-same-length-9
-same-length-9 c = search needs
-
-same-length-10 : tie.Need-same-length-10
-same-length-10 c = search needs
 
 returns-3 : tie.Need-returns-3
 unfolding openAnswer openAfter cellsFit slotsFit daysFit readsFit agreedFits countsFit bookFits opened
@@ -173,28 +110,28 @@ pub open-spec : {M : Type 1} → statement M
 open-spec =
     tie.close
     (tie.spec
-    head-ok-requires
+    (λ c κs. search needs)
     returns
     book-fits-requires
     returns-2
-    clear-words-requires
-    clear-words-requires-2
-    clear-bytes-requires
-    clear-bytes-requires-2
-    clear-words-requires-3
-    clear-words-requires-4
-    clear-words-requires-5
-    clear-words-requires-6
-    clear-counts-requires
-    clear-counts-requires-2
-    same-length
-    same-length-2
-    same-length-3
-    same-length-4
-    same-length-5
-    same-length-6
-    same-length-7
-    same-length-8
-    same-length-9
-    same-length-10
+    (λ c κs. search needs)
+    (λ c κs. search needs)
+    (λ c κs. search needs)
+    (λ c κs. search needs)
+    (λ c κs. search needs)
+    (λ c κs. search needs)
+    (λ c κs. search needs)
+    (λ c κs. search needs)
+    (λ c κs. search needs)
+    (λ c κs. search needs)
+    (λ c. search needs)
+    (λ c. search needs)
+    (λ c. search needs)
+    (λ c. search needs)
+    (λ c. search needs)
+    (λ c. search needs)
+    (λ c. search needs)
+    (λ c. search needs)
+    (λ c. search needs)
+    (λ c. search needs)
     returns-3)

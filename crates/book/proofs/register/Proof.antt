@@ -50,15 +50,9 @@ lists-broken c = refused-2 _ _ _ _ (head-passed (c .before .before)) (fails (fit
 
 -- ---- Needs
 
-head-ok-requires : tie.Need-head-ok-requires
-head-ok-requires c κs = search needs
-
 returns : tie.Need-returns
 unfolding registerAnswer registerAfter
 returns c = rw (fails (c .before .head-ok .ensures) (c .if1 .taken)) (refl, refl)
-
-reads-fit-requires : tie.Need-reads-fit-requires
-reads-fit-requires c κs = search needs
 
 returns-2 : tie.Need-returns-2
 unfolding registerAfter
@@ -68,15 +62,6 @@ file-register-requires : tie.Need-file-register-requires
 file-register-requires c κs =
     let fits = long _ _ (passes (passed2 c .before .reads-fit .ensures) (c .before .before .before .if2 .left)) in
     (fits 1 ∙ sym (fits 0), fits 2 ∙ sym (fits 0))
-
-same-length : tie.Need-same-length
-same-length c = search needs
-
-same-length-2 : tie.Need-same-length-2
-same-length-2 c = search needs
-
-same-length-3 : tie.Need-same-length-3
-same-length-3 c = search needs
 
 returns-3 : tie.Need-returns-3
 unfolding registerAfter readAfter readsFit
@@ -94,12 +79,12 @@ pub register-spec : {M : Type 1} → statement M
 register-spec =
     tie.close
     (tie.spec
-    head-ok-requires
+    (λ c κs. search needs)
     returns
-    reads-fit-requires
+    (λ c κs. search needs)
     returns-2
     file-register-requires
-    same-length
-    same-length-2
-    same-length-3
+    (λ c. search needs)
+    (λ c. search needs)
+    (λ c. search needs)
     returns-3)

@@ -7,12 +7,6 @@ use Rattle.calendar.proofs.Places.{left-small}
 use Rattle.calendar.proofs.date_of.Statement.{statement}
 use Rattle.calendar.proofs.date_of.Tie as tie
 
-year-at-requires : tie.Need-year-at-requires
-year-at-requires c κs = search needs
-
-month-at-requires : tie.Need-month-at-requires
-month-at-requires c κs = search needs
-
 add-t4 : tie.Need-add-t4
 add-t4 c =
     let y = c .before .before .year-at .result in
@@ -27,4 +21,4 @@ unfolding dateOf
 returns c = rw (c .before .month-at .ensures, c .before .before .year-at .ensures)
 
 pub date-of-spec : {M : Type 1} → statement M
-date-of-spec = tie.close (tie.spec year-at-requires month-at-requires add-t4 returns)
+date-of-spec = tie.close (tie.spec (λ c κs. search needs) (λ c κs. search needs) add-t4 returns)

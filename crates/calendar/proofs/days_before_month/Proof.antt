@@ -13,29 +13,11 @@ row-high : (b : Bool) → boolByte b < 2
 row-high true = lit< tt
 row-high false = lit< tt
 
-is-leap-requires : tie.Need-is-leap-requires
-is-leap-requires c κs = search needs
-
-cast-row : tie.Need-cast-row
-cast-row c = search needs
-
-sub-column : tie.Need-sub-column
-sub-column c = search needs
-
-cast-column : tie.Need-cast-column
-cast-column c = search needs
-
 mul-result : tie.Need-mul-result
 mul-result c = record { fits = omega (arith, row-high (c .is-leap .result)) }
 
-mul-result-2 : tie.Need-mul-result-2
-mul-result-2 c = search needs
-
 index-1-result : tie.Need-index-1-result
 index-1-result c = row-high (c .is-leap .result)
-
-index-2-result : tie.Need-index-2-result
-index-2-result c = search needs
 
 returns : tie.Need-returns
 returns c =
@@ -47,12 +29,12 @@ pub days-before-month-spec : {M : Type 1} → statement M
 days-before-month-spec =
     tie.close
     (tie.spec
-    is-leap-requires
-    cast-row
-    sub-column
-    cast-column
+    (λ c κs. search needs)
+    (λ c. search needs)
+    (λ c. search needs)
+    (λ c. search needs)
     mul-result
-    mul-result-2
+    (λ c. search needs)
     index-1-result
-    index-2-result
+    (λ c. search needs)
     returns)

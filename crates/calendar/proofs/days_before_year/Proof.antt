@@ -7,20 +7,8 @@ use Rattle.calendar.proofs.Closed.{years-before}
 use Rattle.calendar.proofs.days_before_year.Statement.{statement}
 use Rattle.calendar.proofs.days_before_year.Tie as tie
 
-sub-years : tie.Need-sub-years
-sub-years c = search needs
-
-mul-result : tie.Need-mul-result
-mul-result c = search needs
-
-add-result : tie.Need-add-result
-add-result c = search needs
-
-add-result-2 : tie.Need-add-result-2
-add-result-2 c = search needs
-
 returns : tie.Need-returns
 returns c = sym (years-before (c .args .year - 2000) (omega arith))
 
 pub days-before-year-spec : {M : Type 1} → statement M
-days-before-year-spec = tie.close (tie.spec sub-years mul-result add-result add-result-2 returns)
+days-before-year-spec = tie.close (tie.spec (λ c. search needs) (λ c. search needs) (λ c. search needs) (λ c. search needs) returns)

@@ -74,13 +74,10 @@ returns-6 c =
     let short : a .day ≤ monthLength (a .year) (a .month) = omega (arith, long, c .if6 .taken) in
     rw (before-last (c .before), le-leb _ _ short)
 
-month-length-requires : tie.Need-month-length-requires
-month-length-requires c κs = search needs
-
 returns-7 : tie.Need-returns-7
 returns-7 c = rw (before-last (c .before .before), c .month-length .ensures)
 
 pub is-date-spec : {M : Type 1} → statement M
 is-date-spec =
     tie.close
-    (tie.spec returns returns-2 returns-3 returns-4 returns-5 returns-6 month-length-requires returns-7)
+    (tie.spec returns returns-2 returns-3 returns-4 returns-5 returns-6 (λ c κs. search needs) returns-7)

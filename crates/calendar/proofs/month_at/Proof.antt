@@ -36,27 +36,12 @@ loop-holds : tie.Need-loop-holds Inv-loop μ-loop
 unfolding daysBeforeMonth sum
 loop-holds c = record { low = omega arith; inside = omega arith; sum = refl; passed = omega arith; known = rw sub-zero }
 
-add-days-before-month : tie.Need-add-days-before-month Inv-loop μ-loop
-add-days-before-month c = search needs
-
-days-before-month-requires : tie.Need-days-before-month-requires Inv-loop μ-loop
-days-before-month-requires c κs = search needs
-
-sub-t7 : tie.Need-sub-t7 Inv-loop μ-loop
-sub-t7 c = search needs
-
 returns : tie.Need-returns Inv-loop μ-loop
 returns c =
     let l = at-loop (c .before .before) .loop in
     let y = at-loop (c .before .before) .before .args .year in
     let h : y .left - l .start < monthLength (y .at) (l .at) = omega (arith, next-start (y .at) (l .at) (l .inv .low)) in
     sym (l .inv .known ∙ place-here (monthLength (y .at)) _ _ _ h)
-
-add-at : tie.Need-add-at Inv-loop μ-loop
-add-at c = search needs
-
-loop-less : tie.Need-loop-less Inv-loop μ-loop
-loop-less c = search needs
 
 loop-again : tie.Need-loop-again Inv-loop μ-loop
 loop-again c =
@@ -74,9 +59,6 @@ loop-again c =
       known = l .inv .known ∙ place-next (monthLength (y .at)) 12 (l .at) (y .left - l .start) (omega arith) h ∙ rw e;
     }
 
-sub-t8 : tie.Need-sub-t8 Inv-loop μ-loop
-sub-t8 c = search needs
-
 returns-2 : tie.Need-returns-2 Inv-loop μ-loop
 unfolding place
 returns-2 c =
@@ -91,12 +73,12 @@ month-at-spec =
     Inv-loop
     μ-loop
     loop-holds
-    add-days-before-month
-    days-before-month-requires
-    sub-t7
+    (λ c. search needs)
+    (λ c κs. search needs)
+    (λ c. search needs)
     returns
-    add-at
-    loop-less
+    (λ c. search needs)
+    (λ c. search needs)
     loop-again
-    sub-t8
+    (λ c. search needs)
     returns-2)

@@ -17,9 +17,6 @@ returns c =
     let h : 12 ≤ c .before .args .month - 1 = omega arith in
     sym (List·getD-eq-default (monthLengths (leap (c .before .args .year))) 0 h)
 
-is-leap-requires : tie.Need-is-leap-requires
-is-leap-requires c κs = search needs
-
 returns-2 : tie.Need-returns-2
 unfolding monthLength monthLengths
 returns-2 c = rw (c .before .before .match .keys1, sym (c .before .is-leap .ensures) ∙ c .if2 .taken)
@@ -48,4 +45,4 @@ returns-5 c =
 
 pub month-length-spec : {M : Type 1} → statement M
 month-length-spec =
-    tie.close (tie.spec returns is-leap-requires returns-2 returns-3 returns-4 returns-5)
+    tie.close (tie.spec returns (λ c κs. search needs) returns-2 returns-3 returns-4 returns-5)

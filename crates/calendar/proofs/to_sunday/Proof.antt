@@ -5,9 +5,6 @@ use Rattle.calendar.specs.Calendar.{toSunday}
 use Rattle.calendar.proofs.to_sunday.Statement.{statement}
 use Rattle.calendar.proofs.to_sunday.Tie as tie
 
-weekday-requires : tie.Need-weekday-requires
-weekday-requires c κs = search needs
-
 returns : tie.Need-returns
 unfolding toSunday
 returns c = rw (← c .before .weekday .ensures, eq-eqb _ _ (c .if1 .taken))
@@ -17,4 +14,4 @@ unfolding toSunday
 returns-2 c = rw (← c .before .weekday .ensures, ne-eqb _ _ (c .if1 .left))
 
 pub to-sunday-spec : {M : Type 1} → statement M
-to-sunday-spec = tie.close (tie.spec weekday-requires returns returns-2)
+to-sunday-spec = tie.close (tie.spec (λ c κs. search needs) returns returns-2)

@@ -4,11 +4,8 @@ use borrow.Author.Needs.{needs}
 use Rattle.calendar.proofs.weekday.Statement.{statement}
 use Rattle.calendar.proofs.weekday.Tie as tie
 
-add-result : tie.Need-add-result
-add-result c = search needs
-
 returns : tie.Need-returns
 returns c = refl
 
 pub weekday-spec : {M : Type 1} → statement M
-weekday-spec = tie.close (tie.spec add-result returns)
+weekday-spec = tie.close (tie.spec (λ c. search needs) returns)

@@ -18,23 +18,11 @@ Inv-loop number at₀ left₀ at left = Held number at left
 abbrev μ-loop : tie.MeasureT-loop
 μ-loop number at₀ left₀ at left = 2099 - at
 
-loop-holds : tie.Need-loop-holds Inv-loop μ-loop
-loop-holds c = search needs
-
-year-length-requires : tie.Need-year-length-requires Inv-loop μ-loop
-year-length-requires c κs = search needs
-
 returns : tie.Need-returns Inv-loop μ-loop
 returns c =
     let l = c .before .before .before .loop in
     let h : l .left < yearLength (l .at) = omega arith in
     sym (l .inv .known ∙ place-here yearLength _ _ _ h)
-
-add-at : tie.Need-add-at Inv-loop μ-loop
-add-at c = search needs
-
-loop-less : tie.Need-loop-less Inv-loop μ-loop
-loop-less c = search needs
 
 loop-again : tie.Need-loop-again Inv-loop μ-loop
 loop-again c =
@@ -58,10 +46,10 @@ year-at-spec =
     (tie.spec
     Inv-loop
     μ-loop
-    loop-holds
-    year-length-requires
+    (λ c. search needs)
+    (λ c κs. search needs)
     returns
-    add-at
-    loop-less
+    (λ c. search needs)
+    (λ c. search needs)
     loop-again
     returns-2)

@@ -5,9 +5,6 @@ use Rattle.calendar.specs.Calendar.{yearLength}
 use Rattle.calendar.proofs.year_length.Statement.{statement}
 use Rattle.calendar.proofs.year_length.Tie as tie
 
-is-leap-requires : tie.Need-is-leap-requires
-is-leap-requires c κs = search needs
-
 returns : tie.Need-returns
 unfolding yearLength
 returns c = simp (sym (c .before .is-leap .ensures) ∙ c .if1 .taken)
@@ -17,4 +14,4 @@ unfolding yearLength
 returns-2 c = simp (sym (c .before .is-leap .ensures) ∙ c .if1 .left)
 
 pub year-length-spec : {M : Type 1} → statement M
-year-length-spec = tie.close (tie.spec is-leap-requires returns returns-2)
+year-length-spec = tie.close (tie.spec (λ c κs. search needs) returns returns-2)

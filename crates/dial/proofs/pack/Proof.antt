@@ -31,33 +31,6 @@ returns-2 c =
     let over : 99_999_999 < a .reading = omega arith in
     rw (eq-eqb _ _ four, lt-ltb _ _ over) (refl, refl)
 
-two-digits-requires : tie.Need-two-digits-requires
-two-digits-requires c κs = search needs
-
-slice-write-bytes : tie.Need-slice-write-bytes
-slice-write-bytes c = search needs
-
-two-digits-requires-2 : tie.Need-two-digits-requires-2
-two-digits-requires-2 c κs = search needs
-
-slice-write-bytes-2 : tie.Need-slice-write-bytes-2
-slice-write-bytes-2 c = search needs
-
-two-digits-requires-3 : tie.Need-two-digits-requires-3
-two-digits-requires-3 c κs = search needs
-
-slice-write-bytes-3 : tie.Need-slice-write-bytes-3
-slice-write-bytes-3 c = search needs
-
-two-digits-requires-4 : tie.Need-two-digits-requires-4
-two-digits-requires-4 c κs = search needs
-
-slice-write-bytes-4 : tie.Need-slice-write-bytes-4
-slice-write-bytes-4 c = search needs
-
-same-length : tie.Need-same-length
-same-length c = search needs
-
 returns-3 : tie.Need-returns-3
 unfolding packAnswer packAfter
 returns-3 c =
@@ -77,13 +50,13 @@ pack-spec =
     (tie.spec
     returns
     returns-2
-    two-digits-requires
-    slice-write-bytes
-    two-digits-requires-2
-    slice-write-bytes-2
-    two-digits-requires-3
-    slice-write-bytes-3
-    two-digits-requires-4
-    slice-write-bytes-4
-    same-length
+    (λ c κs. search needs)
+    (λ c. search needs)
+    (λ c κs. search needs)
+    (λ c. search needs)
+    (λ c κs. search needs)
+    (λ c. search needs)
+    (λ c κs. search needs)
+    (λ c. search needs)
+    (λ c. search needs)
     returns-3)

@@ -5,18 +5,9 @@ use borrow.Author.Needs.{needs}
 use Rattle.dial.proofs.two_digits.Statement.{statement}
 use Rattle.dial.proofs.two_digits.Tie as tie
 
-mul-result : tie.Need-mul-result
-mul-result c = search needs
-
-add-result : tie.Need-add-result
-add-result c = search needs
-
-cast-result : tie.Need-cast-result
-cast-result c = search needs
-
 returns : tie.Need-returns
 unfolding byteAt digit
 returns c = omega arith
 
 pub two-digits-spec : {M : Type 1} → statement M
-two-digits-spec = tie.close (tie.spec mul-result add-result cast-result returns)
+two-digits-spec = tie.close (tie.spec (λ c. search needs) (λ c. search needs) (λ c. search needs) returns)

@@ -41,15 +41,6 @@ returns c =
     let other : length (c .before .before .args .bytes .now) ≡ 4 → ⊥ = λ e. omega arith in
     rw (ne-eqb _ _ other)
 
-loop-holds : tie.Need-loop-holds Inv-loop μ-loop
-loop-holds c = search needs
-
-shared-slice-read-above-nine : tie.Need-shared-slice-read-above-nine Inv-loop μ-loop
-shared-slice-read-above-nine c = search needs
-
-above-nine-requires : tie.Need-above-nine-requires Inv-loop μ-loop
-above-nine-requires c κs = search needs
-
 returns-2 : tie.Need-returns-2 Inv-loop μ-loop
 unfolding unpackAnswer
 returns-2 c =
@@ -60,60 +51,12 @@ returns-2 c =
     let above : aboveNine bs ≡ true = o .loop .inv .known ∙ above-next bs (o .loop .i) (search needs) ∙ rw found in
     rw (eq-eqb _ _ four, above)
 
-add-i : tie.Need-add-i Inv-loop μ-loop
-add-i c = search needs
-
-loop-less : tie.Need-loop-less Inv-loop μ-loop
-loop-less c = search needs
-
 loop-again : tie.Need-loop-again Inv-loop μ-loop
 loop-again c =
     let o = at-loop (c .before) in
     let bs = o .before .before .before .args .bytes .now in
     let low : aboveNine (getD bs (o .loop .i) 0 ∷ []) ≡ false = sym (c .before .above-nine .ensures) ∙ c .if2 .left in
     record { inside = search needs; known = o .loop .inv .known ∙ above-next bs (o .loop .i) (search needs) ∙ rw low }
-
-shared-slice-read-value : tie.Need-shared-slice-read-value Inv-loop μ-loop
-shared-slice-read-value c = search needs
-
-value-requires : tie.Need-value-requires Inv-loop μ-loop
-value-requires c κs = search needs
-
-shared-slice-read-value-2 : tie.Need-shared-slice-read-value-2 Inv-loop μ-loop
-shared-slice-read-value-2 c = search needs
-
-value-requires-2 : tie.Need-value-requires-2 Inv-loop μ-loop
-value-requires-2 c κs = search needs
-
-mul-low : tie.Need-mul-low Inv-loop μ-loop
-mul-low c = search needs
-
-add-low : tie.Need-add-low Inv-loop μ-loop
-add-low c = search needs
-
-shared-slice-read-value-3 : tie.Need-shared-slice-read-value-3 Inv-loop μ-loop
-shared-slice-read-value-3 c = search needs
-
-value-requires-3 : tie.Need-value-requires-3 Inv-loop μ-loop
-value-requires-3 c κs = search needs
-
-shared-slice-read-value-4 : tie.Need-shared-slice-read-value-4 Inv-loop μ-loop
-shared-slice-read-value-4 c = search needs
-
-value-requires-4 : tie.Need-value-requires-4 Inv-loop μ-loop
-value-requires-4 c κs = search needs
-
-mul-high : tie.Need-mul-high Inv-loop μ-loop
-mul-high c = search needs
-
-add-high : tie.Need-add-high Inv-loop μ-loop
-add-high c = search needs
-
-mul-reading : tie.Need-mul-reading Inv-loop μ-loop
-mul-reading c = search needs
-
-add-reading : tie.Need-add-reading Inv-loop μ-loop
-add-reading c = search needs
 
 returns-3 : tie.Need-returns-3 Inv-loop μ-loop
 unfolding unpackAnswer aboveNine
@@ -139,25 +82,25 @@ unpack-spec =
     Inv-loop
     μ-loop
     returns
-    loop-holds
-    shared-slice-read-above-nine
-    above-nine-requires
+    (λ c. search needs)
+    (λ c. search needs)
+    (λ c κs. search needs)
     returns-2
-    add-i
-    loop-less
+    (λ c. search needs)
+    (λ c. search needs)
     loop-again
-    shared-slice-read-value
-    value-requires
-    shared-slice-read-value-2
-    value-requires-2
-    mul-low
-    add-low
-    shared-slice-read-value-3
-    value-requires-3
-    shared-slice-read-value-4
-    value-requires-4
-    mul-high
-    add-high
-    mul-reading
-    add-reading
+    (λ c. search needs)
+    (λ c κs. search needs)
+    (λ c. search needs)
+    (λ c κs. search needs)
+    (λ c. search needs)
+    (λ c. search needs)
+    (λ c. search needs)
+    (λ c κs. search needs)
+    (λ c. search needs)
+    (λ c κs. search needs)
+    (λ c. search needs)
+    (λ c. search needs)
+    (λ c. search needs)
+    (λ c. search needs)
     returns-3)

@@ -26,12 +26,6 @@ after-lists-fit-refused-by3 c = c .before .before .before .before
 
 -- ---- Needs
 
-head-ok-requires : tie.Need-head-ok-requires
-head-ok-requires c κs = search needs
-
-refused-by-requires : tie.Need-refused-by-requires
-refused-by-requires c κs = search needs
-
 returns : tie.Need-returns
 returns c = let a = (start (c .before .before)) .args in
     let b = lentBook (a .values) (a .versions) (a .statuses) (a .holidays) (a .readings) (a .reads) (a .agreed) (a .agreed-versions)
@@ -41,9 +35,6 @@ returns c = let a = (start (c .before .before)) .args in
 
 lists-fit-requires : tie.Need-lists-fit-requires
 lists-fit-requires c κs = sym (c .before .head-ok .ensures) ∙ not-false _ (c .if1 .left)
-
-refused-by-requires-2 : tie.Need-refused-by-requires-2
-refused-by-requires-2 c κs = search needs
 
 returns-2 : tie.Need-returns-2
 returns-2 c = let a = (start-refused-by2 c) .args in
@@ -55,9 +46,6 @@ returns-2 c = let a = (start-refused-by2 c) .args in
 
 slot-count-requires : tie.Need-slot-count-requires
 slot-count-requires c κs = sym (c .before .before .before .head-ok .ensures) ∙ not-false _ (c .before .before .if1 .left)
-
-refused-by-requires-3 : tie.Need-refused-by-requires-3
-refused-by-requires-3 c κs = search needs
 
 returns-3 : tie.Need-returns-3
 returns-3 c =
@@ -77,21 +65,18 @@ explain-fitted-requires c κs = (
   rw (c .before .slot-count .ensures) at (c .if3 .left),
 )
 
-returns-4 : tie.Need-returns-4
-returns-4 c = search needs
-
 pub explain-spec : {M : Type 1} → statement M
 explain-spec =
     tie.close
     (tie.spec
-    head-ok-requires
-    refused-by-requires
+    (λ c κs. search needs)
+    (λ c κs. search needs)
     returns
     lists-fit-requires
-    refused-by-requires-2
+    (λ c κs. search needs)
     returns-2
     slot-count-requires
-    refused-by-requires-3
+    (λ c κs. search needs)
     returns-3
     explain-fitted-requires
-    returns-4)
+    (λ c. search needs))

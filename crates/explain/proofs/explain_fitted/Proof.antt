@@ -18,12 +18,6 @@ start c = c .before .before .before .before .before .before .before .before .bef
 
 -- ---- Needs
 
-book-ok-requires : tie.Need-book-ok-requires
-book-ok-requires c κs = search needs
-
-refused-by-requires : tie.Need-refused-by-requires
-refused-by-requires c κs = search needs
-
 returns : tie.Need-returns
 returns c =
     let begun = start (c .before .before) in
@@ -60,4 +54,4 @@ returns-2 c =
 
 pub explain-fitted-spec : {M : Type 1} → statement M
 explain-fitted-spec =
-    tie.close (tie.spec book-ok-requires refused-by-requires returns tell-requires returns-2)
+    tie.close (tie.spec (λ c κs. search needs) (λ c κs. search needs) returns tell-requires returns-2)

@@ -10,24 +10,6 @@ after-bare c = c .before .before .before .before
 
 -- ---- Needs
 
-nothing-requires : tie.Need-nothing-requires
-nothing-requires c κs = search needs
-
-bare-requires : tie.Need-bare-requires
-bare-requires c κs = search needs
-
-none-found-requires : tie.Need-none-found-requires
-none-found-requires c κs = search needs
-
-no-span-requires : tie.Need-no-span-requires
-no-span-requires c κs = search needs
-
-no-shares-requires : tie.Need-no-shares-requires
-no-shares-requires c κs = search needs
-
-nothing-requires-2 : tie.Need-nothing-requires-2
-nothing-requires-2 c κs = search needs
-
 returns : tie.Need-returns
 returns c =
     rw (
@@ -43,10 +25,10 @@ pub refused-by-spec : {M : Type 1} → statement M
 refused-by-spec =
     tie.close
     (tie.spec
-    nothing-requires
-    bare-requires
-    none-found-requires
-    no-span-requires
-    no-shares-requires
-    nothing-requires-2
+    (λ c κs. search needs)
+    (λ c κs. search needs)
+    (λ c κs. search needs)
+    (λ c κs. search needs)
+    (λ c κs. search needs)
+    (λ c κs. search needs)
     returns)

@@ -18,30 +18,6 @@ after-fill-slot c = c .before .before .before .before
 
 -- ---- Needs
 
-mul-cause-of : tie.Need-mul-cause-of
-mul-cause-of c = search needs
-
-shared-slice-read-cause-of : tie.Need-shared-slice-read-cause-of
-shared-slice-read-cause-of c = search needs
-
-mul-cause-of-2 : tie.Need-mul-cause-of-2
-mul-cause-of-2 c = search needs
-
-shared-slice-read-cause-of-2 : tie.Need-shared-slice-read-cause-of-2
-shared-slice-read-cause-of-2 c = search needs
-
-shared-slice-read-cause-of-3 : tie.Need-shared-slice-read-cause-of-3
-shared-slice-read-cause-of-3 c = search needs
-
-cause-of-requires : tie.Need-cause-of-requires
-cause-of-requires c κs = search needs
-
-fill-slot-requires : tie.Need-fill-slot-requires
-fill-slot-requires c κs = search needs
-
-rule-of-requires : tie.Need-rule-of-requires
-rule-of-requires c κs = search needs
-
 found-by-requires : tie.Need-found-by-requires
 found-by-requires c κs = ((start (c .before .before)) .pre .0 .lent, (start (c .before .before)) .pre .1)
 
@@ -76,14 +52,14 @@ pub tell-spec : {M : Type 1} → statement M
 tell-spec =
     tie.close
     (tie.spec
-    mul-cause-of
-    shared-slice-read-cause-of
-    mul-cause-of-2
-    shared-slice-read-cause-of-2
-    shared-slice-read-cause-of-3
-    cause-of-requires
-    fill-slot-requires
-    rule-of-requires
+    (λ c. search needs)
+    (λ c. search needs)
+    (λ c. search needs)
+    (λ c. search needs)
+    (λ c. search needs)
+    (λ c κs. search needs)
+    (λ c κs. search needs)
+    (λ c κs. search needs)
     found-by-requires
     hold-requires
     tell-with-requires

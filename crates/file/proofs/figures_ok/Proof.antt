@@ -38,26 +38,14 @@ layout c = sym (c .before .layout-fits .ensures) ∙ not-false _ (c .if4 .left)
 
 -- ---- Needs
 
-cast-actual : tie.Need-cast-actual
-cast-actual c = search needs
-
 returns : tie.Need-returns
 returns c = rw (ne-eqb _ _ (c .if1 .taken))
-
-cast-substituted : tie.Need-cast-substituted
-cast-substituted c = search needs
 
 returns-2 : tie.Need-returns-2
 returns-2 c = rw (actual (c .before .before .before), ne-eqb _ _ (c .if2 .taken))
 
-cast-none : tie.Need-cast-none
-cast-none c = search needs
-
 returns-3 : tie.Need-returns-3
 returns-3 c = let two = c .before .before .before in rw (actual (first two), substituted two, ne-eqb _ _ (c .if3 .taken))
-
-layout-fits-requires : tie.Need-layout-fits-requires
-layout-fits-requires c κs = search needs
 
 returns-4 : tie.Need-returns-4
 returns-4 c =
@@ -75,12 +63,12 @@ pub figures-ok-spec : {M : Type 1} → statement M
 figures-ok-spec =
     tie.close
     (tie.spec
-    cast-actual
+    (λ c. search needs)
     returns
-    cast-substituted
+    (λ c. search needs)
     returns-2
-    cast-none
+    (λ c. search needs)
     returns-3
-    layout-fits-requires
+    (λ c κs. search needs)
     returns-4
     returns-5)

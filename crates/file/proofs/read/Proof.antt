@@ -58,12 +58,6 @@ figures-told c =
 returns : tie.Need-returns
 returns c = sym (refused-short (c .before .before .args .file .now) (c .if1 .taken))
 
-figures-at-requires : tie.Need-figures-at-requires
-figures-at-requires c κs = search needs
-
-trailer-ok-requires : tie.Need-trailer-ok-requires
-trailer-ok-requires c κs = search needs
-
 returns-2 : tie.Need-returns-2
 returns-2 c =
     let t = c .before in
@@ -84,9 +78,6 @@ returns-3 c =
     let t = passed .before in
     sym (refused-tables (bytes t) (figures t) (t .before .figures-at .ensures) (trailer-passed passed)
     (sym (c .before .tables-ok .ensures) ∙ not-true _ (c .if3 .taken)))
-
-figures-ok-requires : tie.Need-figures-ok-requires
-figures-ok-requires c κs = search needs
 
 returns-4 : tie.Need-returns-4
 returns-4 c =
@@ -109,13 +100,13 @@ read-spec =
     tie.close
     (tie.spec
     returns
-    figures-at-requires
-    trailer-ok-requires
+    (λ c κs. search needs)
+    (λ c κs. search needs)
     returns-2
     slot-count-requires
     totals-requires
     tables-ok-requires
     returns-3
-    figures-ok-requires
+    (λ c κs. search needs)
     returns-4
     returns-5)

@@ -18,20 +18,11 @@ start-result2 c = c .before .before .before .before .before
 
 -- ---- Needs
 
-read-requires : tie.Need-read-requires
-read-requires c κs = search needs
-
-enum-told : tie.Need-enum-told
-enum-told c = search needs
-
 sub-end : tie.Need-sub-end
 sub-end c = omega (arith, long-enough (start c .args .file .now) _ (sym (c .before .before .read .ensures) ∙ c .enum-told .given .1))
 
 slice-aggregate-result : tie.Need-slice-aggregate-result
 slice-aggregate-result c = sym (length-take-le _ (start (c .before) .args .file .now) (search needs))
-
-enum-told-2 : tie.Need-enum-told-2
-enum-told-2 c = search needs
 
 slice-aggregate-result-2 : tie.Need-slice-aggregate-result-2
 slice-aggregate-result-2 c = sym (length-take-le _ (start-result2 c .args .file .now) (search needs))
@@ -54,11 +45,11 @@ pub tables-spec : {M : Type 1} → statement M
 tables-spec =
     tie.close
     (tie.spec
-    read-requires
-    enum-told
+    (λ c κs. search needs)
+    (λ c. search needs)
     sub-end
     slice-aggregate-result
-    enum-told-2
+    (λ c. search needs)
     slice-aggregate-result-2
     returns
     returns-2)

@@ -40,9 +40,6 @@ states c = sym (c .before .states-ok .ensures) ∙ not-false _ (c .if3 .left)
 
 -- ---- Needs
 
-forms-ok-requires : tie.Need-forms-ok-requires
-forms-ok-requires c κs = search needs
-
 returns : tie.Need-returns
 unfolding tablesOk
 returns c = rw (sym (counted (start (c .before))) ∙ sym (c .before .forms-ok .ensures) ∙ not-true _ (c .if1 .taken))
@@ -76,7 +73,7 @@ pub tables-ok-spec : {M : Type 1} → statement M
 tables-ok-spec =
     tie.close
     (tie.spec
-    forms-ok-requires
+    (λ c κs. search needs)
     returns
     spans-ok-requires
     returns-2

@@ -12,21 +12,6 @@ after-agree c = c .before .before .before .before .before
 
 -- ---- Needs
 
-head-of-requires : tie.Need-head-of-requires
-head-of-requires c κs = search needs
-
-agree-requires : tie.Need-agree-requires
-agree-requires c κs = search needs
-
-filed-code-requires : tie.Need-filed-code-requires
-filed-code-requires c κs = search needs
-
-same-length : tie.Need-same-length
-same-length c = search needs
-
-same-length-2 : tie.Need-same-length-2
-same-length-2 c = search needs
-
 returns : tie.Need-returns
 returns c =
     let o = after-agree c in
@@ -37,9 +22,9 @@ pub sawmauve-agree-spec : {M : Type 1} → statement M
 sawmauve-agree-spec =
     tie.close
     (tie.spec
-    head-of-requires
-    agree-requires
-    filed-code-requires
-    same-length
-    same-length-2
+    (λ c κs. search needs)
+    (λ c κs. search needs)
+    (λ c κs. search needs)
+    (λ c. search needs)
+    (λ c. search needs)
     returns)

@@ -15,27 +15,6 @@ after-deliver c = c .before .before .before .before .before .before .before .bef
 
 -- ---- Needs
 
-head-of-requires : tie.Need-head-of-requires
-head-of-requires c κs = search needs
-
-deliver-requires : tie.Need-deliver-requires
-deliver-requires c κs = search needs
-
-filed-code-requires : tie.Need-filed-code-requires
-filed-code-requires c κs = search needs
-
-same-length : tie.Need-same-length
-same-length c = search needs
-
-same-length-2 : tie.Need-same-length-2
-same-length-2 c = search needs
-
-same-length-3 : tie.Need-same-length-3
-same-length-3 c = search needs
-
-same-length-4 : tie.Need-same-length-4
-same-length-4 c = search needs
-
 returns : tie.Need-returns
 returns c =
     let o = after-deliver c in
@@ -46,11 +25,11 @@ pub sawmauve-deliver-spec : {M : Type 1} → statement M
 sawmauve-deliver-spec =
     tie.close
     (tie.spec
-    head-of-requires
-    deliver-requires
-    filed-code-requires
-    same-length
-    same-length-2
-    same-length-3
-    same-length-4
+    (λ c κs. search needs)
+    (λ c κs. search needs)
+    (λ c κs. search needs)
+    (λ c. search needs)
+    (λ c. search needs)
+    (λ c. search needs)
+    (λ c. search needs)
     returns)

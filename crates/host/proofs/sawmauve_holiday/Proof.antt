@@ -12,18 +12,6 @@ after-head-of c = c .before .before .before .before .before
 
 -- ---- Needs
 
-head-of-requires : tie.Need-head-of-requires
-head-of-requires c κs = search needs
-
-holiday-requires : tie.Need-holiday-requires
-holiday-requires c κs = search needs
-
-filed-code-requires : tie.Need-filed-code-requires
-filed-code-requires c κs = search needs
-
-same-length : tie.Need-same-length
-same-length c = search needs
-
 returns : tie.Need-returns
 returns c =
     let o = c .before .before .before in
@@ -32,4 +20,4 @@ returns c =
 
 pub sawmauve-holiday-spec : {M : Type 1} → statement M
 sawmauve-holiday-spec =
-    tie.close (tie.spec head-of-requires holiday-requires filed-code-requires same-length returns)
+    tie.close (tie.spec (λ c κs. search needs) (λ c κs. search needs) (λ c κs. search needs) (λ c. search needs) returns)

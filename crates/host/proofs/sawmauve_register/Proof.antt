@@ -15,24 +15,6 @@ after-register c = c .before .before .before .before .before .before .before
 
 -- ---- Needs
 
-head-of-requires : tie.Need-head-of-requires
-head-of-requires c κs = search needs
-
-register-requires : tie.Need-register-requires
-register-requires c κs = search needs
-
-filed-code-requires : tie.Need-filed-code-requires
-filed-code-requires c κs = search needs
-
-same-length : tie.Need-same-length
-same-length c = search needs
-
-same-length-2 : tie.Need-same-length-2
-same-length-2 c = search needs
-
-same-length-3 : tie.Need-same-length-3
-same-length-3 c = search needs
-
 returns : tie.Need-returns
 returns c =
     let o = after-register c in
@@ -43,10 +25,10 @@ pub sawmauve-register-spec : {M : Type 1} → statement M
 sawmauve-register-spec =
     tie.close
     (tie.spec
-    head-of-requires
-    register-requires
-    filed-code-requires
-    same-length
-    same-length-2
-    same-length-3
+    (λ c κs. search needs)
+    (λ c κs. search needs)
+    (λ c κs. search needs)
+    (λ c. search needs)
+    (λ c. search needs)
+    (λ c. search needs)
     returns)

@@ -19,21 +19,9 @@ after-verdict c = c .before .before .before .before
 
 -- ---- Needs
 
-read-requires : tie.Need-read-requires
-read-requires c κs = search needs
-
-enum-known-verdict : tie.Need-enum-known-verdict
-enum-known-verdict c = search needs
-
 fit-line-requires : tie.Need-fit-line-requires
 fit-line-requires c κs =
     first-lt (start (c .before .before) .args .bytes .now) _ (sym (after-read c .read .ensures) ∙ c .before .before .verdict .given .1)
-
-enum-known-verdict-2 : tie.Need-enum-known-verdict-2
-enum-known-verdict-2 c = search needs
-
-same-length : tie.Need-same-length
-same-length c = search needs
 
 returns : tie.Need-returns
 unfolding lineAnswer lineAfter
@@ -50,10 +38,10 @@ pub file-line-spec : {M : Type 1} → statement M
 file-line-spec =
     tie.close
     (tie.spec
-    read-requires
-    enum-known-verdict
+    (λ c κs. search needs)
+    (λ c. search needs)
     fit-line-requires
-    enum-known-verdict-2
-    same-length
+    (λ c. search needs)
+    (λ c. search needs)
     returns
     returns-2)

@@ -12,20 +12,8 @@ passed1 c = c .before .before .before
 
 -- ---- Needs
 
-slice-aggregate-put-line : tie.Need-slice-aggregate-put-line
-slice-aggregate-put-line c = search needs
-
-put-line-requires : tie.Need-put-line-requires
-put-line-requires c κs = search needs
-
 returns : tie.Need-returns
 returns c = line-refused _ _ (c .before .before .put-line .ensures) (c .if1 .taken)
-
-put-line-requires-2 : tie.Need-put-line-requires-2
-put-line-requires-2 c κs = search needs
-
-same-length : tie.Need-same-length
-same-length c = search needs
 
 returns-2 : tie.Need-returns-2
 returns-2 c =
@@ -36,9 +24,9 @@ pub fit-line-spec : {M : Type 1} → statement M
 fit-line-spec =
     tie.close
     (tie.spec
-    slice-aggregate-put-line
-    put-line-requires
+    (λ c. search needs)
+    (λ c κs. search needs)
     returns
-    put-line-requires-2
-    same-length
+    (λ c κs. search needs)
+    (λ c. search needs)
     returns-2)

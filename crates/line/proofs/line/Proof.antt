@@ -24,33 +24,15 @@ after-read-put-refusal c = c .before .before .before .before .before
 
 -- ---- Needs
 
-slice-aggregate-put-text : tie.Need-slice-aggregate-put-text
-slice-aggregate-put-text c = search needs
-
-put-text-requires : tie.Need-put-text-requires
-put-text-requires c κs = search needs
-
 returns : tie.Need-returns
 unfolding line
 returns c =
     let long : 65_536 < length (start c .args .bytes .now) = omega (arith, c .before .before .before .if1 .taken) in
     rw (lt-leb _ _ long) (at-start (c .put-text .ensures) too-long-room (search needs))
 
-read-requires : tie.Need-read-requires
-read-requires c κs = search needs
-
-enum-known-g : tie.Need-enum-known-g
-enum-known-g c = search needs
-
 put-figures-requires : tie.Need-put-figures-requires
 put-figures-requires c κs =
     first-lt (after-read c .before .before .before .args .bytes .now) _ (sym (after-read c .read .ensures) ∙ c .before .before .g .given .1)
-
-enum-known-number : tie.Need-enum-known-number
-enum-known-number c = search needs
-
-put-refusal-requires : tie.Need-put-refusal-requires
-put-refusal-requires c κs = search needs
 
 returns-2 : tie.Need-returns-2
 unfolding line answerText
@@ -72,13 +54,13 @@ pub line-spec : {M : Type 1} → statement M
 line-spec =
     tie.close
     (tie.spec
-    slice-aggregate-put-text
-    put-text-requires
+    (λ c. search needs)
+    (λ c κs. search needs)
     returns
-    read-requires
-    enum-known-g
+    (λ c κs. search needs)
+    (λ c. search needs)
     put-figures-requires
-    enum-known-number
-    put-refusal-requires
+    (λ c. search needs)
+    (λ c κs. search needs)
     returns-2
     returns-3)

@@ -4,11 +4,8 @@ use Rattle.line.proofs.Lengths.{field-short, at-start}
 use Rattle.line.proofs.number.Statement.{statement}
 use Rattle.line.proofs.number.Tie as tie
 
-put-field-requires : tie.Need-put-field-requires
-put-field-requires c κs = search needs
-
 returns : tie.Need-returns
 returns c = at-start (c .put-field .ensures) (field-short _) (search needs)
 
 pub number-spec : {M : Type 1} → statement M
-number-spec = tie.close (tie.spec put-field-requires returns)
+number-spec = tie.close (tie.spec (λ c κs. search needs) returns)

@@ -21,39 +21,6 @@ after-put-text2 c = c .before .before .before .before .before .before
 
 -- ---- Needs
 
-cast-put-digits : tie.Need-cast-put-digits
-cast-put-digits c = search needs
-
-put-digits-requires : tie.Need-put-digits-requires
-put-digits-requires c κs = search needs
-
-slice-aggregate-put-text : tie.Need-slice-aggregate-put-text
-slice-aggregate-put-text c = search needs
-
-put-text-requires : tie.Need-put-text-requires
-put-text-requires c κs = search needs
-
-cast-put-digits-2 : tie.Need-cast-put-digits-2
-cast-put-digits-2 c = search needs
-
-put-digits-requires-2 : tie.Need-put-digits-requires-2
-put-digits-requires-2 c κs = search needs
-
-slice-aggregate-put-text-2 : tie.Need-slice-aggregate-put-text-2
-slice-aggregate-put-text-2 c = search needs
-
-put-text-requires-2 : tie.Need-put-text-requires-2
-put-text-requires-2 c κs = search needs
-
-cast-put-digits-3 : tie.Need-cast-put-digits-3
-cast-put-digits-3 c = search needs
-
-put-digits-requires-3 : tie.Need-put-digits-requires-3
-put-digits-requires-3 c κs = search needs
-
-same-length : tie.Need-same-length
-same-length c = search needs
-
 returns : tie.Need-returns
 unfolding dateText
 returns c =
@@ -70,15 +37,15 @@ pub put-date-spec : {M : Type 1} → statement M
 put-date-spec =
     tie.close
     (tie.spec
-    cast-put-digits
-    put-digits-requires
-    slice-aggregate-put-text
-    put-text-requires
-    cast-put-digits-2
-    put-digits-requires-2
-    slice-aggregate-put-text-2
-    put-text-requires-2
-    cast-put-digits-3
-    put-digits-requires-3
-    same-length
+    (λ c. search needs)
+    (λ c κs. search needs)
+    (λ c. search needs)
+    (λ c κs. search needs)
+    (λ c. search needs)
+    (λ c κs. search needs)
+    (λ c. search needs)
+    (λ c κs. search needs)
+    (λ c. search needs)
+    (λ c κs. search needs)
+    (λ c. search needs)
     returns)

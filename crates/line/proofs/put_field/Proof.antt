@@ -12,18 +12,6 @@ after-put-text c = c .before .before .before .before .before
 
 -- ---- Needs
 
-slice-aggregate-put-text : tie.Need-slice-aggregate-put-text
-slice-aggregate-put-text c = search needs
-
-put-text-requires : tie.Need-put-text-requires
-put-text-requires c κs = search needs
-
-put-decimal-requires : tie.Need-put-decimal-requires
-put-decimal-requires c κs = search needs
-
-same-length : tie.Need-same-length
-same-length c = search needs
-
 returns : tie.Need-returns
 unfolding field
 returns c = then (after-put-text (c .before) .put-text .ensures) (c .before .before .put-decimal .ensures)
@@ -31,4 +19,4 @@ returns c = then (after-put-text (c .before) .put-text .ensures) (c .before .bef
 pub put-field-spec : {M : Type 1} → statement M
 put-field-spec =
     tie.close
-    (tie.spec slice-aggregate-put-text put-text-requires put-decimal-requires same-length returns)
+    (tie.spec (λ c. search needs) (λ c κs. search needs) (λ c κs. search needs) (λ c. search needs) returns)

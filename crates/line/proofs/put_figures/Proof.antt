@@ -11,18 +11,6 @@ after-put-line c = c .before .before .before .before .before .before
 
 -- ---- Needs
 
-put-line-requires : tie.Need-put-line-requires
-put-line-requires c κs = search needs
-
-slice-aggregate-put-text : tie.Need-slice-aggregate-put-text
-slice-aggregate-put-text c = search needs
-
-put-text-requires : tie.Need-put-text-requires
-put-text-requires c κs = search needs
-
-same-length : tie.Need-same-length
-same-length c = search needs
-
 returns : tie.Need-returns
 returns c =
     let end-put = c .before .before in
@@ -30,4 +18,4 @@ returns c =
     then (line-put .ensures) (end-put .put-text .ensures)
 
 pub put-figures-spec : {M : Type 1} → statement M
-put-figures-spec = tie.close (tie.spec put-line-requires slice-aggregate-put-text put-text-requires same-length returns)
+put-figures-spec = tie.close (tie.spec (λ c κs. search needs) (λ c. search needs) (λ c κs. search needs) (λ c. search needs) returns)

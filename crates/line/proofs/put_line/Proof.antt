@@ -15,18 +15,6 @@ after-put-counts c = c .before .before .before .before .before
 
 -- ---- Needs
 
-put-head-requires : tie.Need-put-head-requires
-put-head-requires c κs = search needs
-
-put-counts-requires : tie.Need-put-counts-requires
-put-counts-requires c κs = search needs
-
-put-field-requires : tie.Need-put-field-requires
-put-field-requires c κs = search needs
-
-same-length : tie.Need-same-length
-same-length c = search needs
-
 returns : tie.Need-returns
 unfolding figuresText
 returns c =
@@ -39,8 +27,8 @@ pub put-line-spec : {M : Type 1} → statement M
 put-line-spec =
     tie.close
     (tie.spec
-    put-head-requires
-    put-counts-requires
-    put-field-requires
-    same-length
+    (λ c κs. search needs)
+    (λ c κs. search needs)
+    (λ c κs. search needs)
+    (λ c. search needs)
     returns)

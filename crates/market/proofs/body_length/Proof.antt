@@ -6,14 +6,8 @@ use borrow.Author.Needs.{needs}
 use Rattle.market.proofs.body_length.Statement.{statement}
 use Rattle.market.proofs.body_length.Tie as tie
 
-slice-aggregate-put-body : tie.Need-slice-aggregate-put-body
-slice-aggregate-put-body c = search needs
-
-put-body-requires : tie.Need-put-body-requires
-put-body-requires c κs = search needs
-
 returns : tie.Need-returns
 returns c = c .before .put-body .ensures .next ∙ ap capped (zero-add _)
 
 pub body-length-spec : {M : Type 1} → statement M
-body-length-spec = tie.close (tie.spec slice-aggregate-put-body put-body-requires returns)
+body-length-spec = tie.close (tie.spec (λ c. search needs) (λ c κs. search needs) returns)

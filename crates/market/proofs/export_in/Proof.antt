@@ -39,9 +39,6 @@ body-length-requires c κs =
           (a .serial .now) (a .next-read .now) (a .reason .now) (a .created .now)) (a .codes) (begun .pre .2),
     )
 
-is-room-requires : tie.Need-is-room-requires
-is-room-requires c κs = search needs
-
 returns : tie.Need-returns
 returns c =
     let begun = start (c .before .before .before) in
@@ -65,15 +62,6 @@ put-body-requires c κs =
           (a .serial .now) (a .next-read .now) (a .reason .now) (a .created .now)) (a .codes) (begun .pre .2),
     )
 
-slice-aggregate-put-text : tie.Need-slice-aggregate-put-text
-slice-aggregate-put-text c = search needs
-
-put-text-requires : tie.Need-put-text-requires
-put-text-requires c κs = search needs
-
-same-length : tie.Need-same-length
-same-length c = search needs
-
 returns-2 : tie.Need-returns-2
 unfolding exportOf
 returns-2 c =
@@ -94,10 +82,10 @@ export-in-spec =
     tie.close
     (tie.spec
     body-length-requires
-    is-room-requires
+    (λ c κs. search needs)
     returns
     put-body-requires
-    slice-aggregate-put-text
-    put-text-requires
-    same-length
+    (λ c. search needs)
+    (λ c κs. search needs)
+    (λ c. search needs)
     returns-2)

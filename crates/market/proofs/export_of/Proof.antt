@@ -18,18 +18,12 @@ after-is-meter c = c .before .before .before
 
 -- ---- Needs
 
-is-meter-requires : tie.Need-is-meter-requires
-is-meter-requires c κs = search needs
-
 returns : tie.Need-returns
 returns c = let a = start (c .before) .args in
     refused-14 (a .file .now) (a .g) (start (c .before) .pre)
     (texts (a .identifier .now) (a .from .now) (a .to .now) (a .configuration .now) (a .register .now) (a .suffix .now) (a .stream .now)
     (a .serial .now) (a .next-read .now) (a .reason .now) (a .created .now)) (a .codes) (a .out .now) (sym (c .before .is-meter .ensures)
     ∙ not-true _ (c .if1 .taken))
-
-are-supplied-requires : tie.Need-are-supplied-requires
-are-supplied-requires c κs = search needs
 
 returns-2 : tie.Need-returns-2
 unfolding suppliedOk
@@ -50,20 +44,14 @@ export-in-requires c κs = (
   sym (c .before .before .are-supplied .ensures) ∙ not-false _ (c .before .if2 .left),
 )
 
-same-length : tie.Need-same-length
-same-length c = search needs
-
-returns-3 : tie.Need-returns-3
-returns-3 c = search needs
-
 pub export-of-spec : {M : Type 1} → statement M
 export-of-spec =
     tie.close
     (tie.spec
-    is-meter-requires
+    (λ c κs. search needs)
     returns
-    are-supplied-requires
+    (λ c κs. search needs)
     returns-2
     export-in-requires
-    same-length
-    returns-3)
+    (λ c. search needs)
+    (λ c. search needs))

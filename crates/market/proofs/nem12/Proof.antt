@@ -16,23 +16,8 @@ after-read c = c .before .before .before .before
 
 -- ---- Needs
 
-read-requires : tie.Need-read-requires
-read-requires c κs = search needs
-
-enum-known-g : tie.Need-enum-known-g
-enum-known-g c = search needs
-
 export-of-requires : tie.Need-export-of-requires
 export-of-requires c κs = sym (after-read c .read .ensures) ∙ c .before .before .g .given .1
-
-enum-known-number : tie.Need-enum-known-number
-enum-known-number c = search needs
-
-same-length : tie.Need-same-length
-same-length c = search needs
-
-returns : tie.Need-returns
-returns c = search needs
 
 returns-2 : tie.Need-returns-2
 returns-2 c = let a = start (c .before .before .before) .args in
@@ -44,10 +29,10 @@ pub nem12-spec : {M : Type 1} → statement M
 nem12-spec =
     tie.close
     (tie.spec
-    read-requires
-    enum-known-g
+    (λ c κs. search needs)
+    (λ c. search needs)
     export-of-requires
-    enum-known-number
-    same-length
-    returns
+    (λ c. search needs)
+    (λ c. search needs)
+    (λ c. search needs)
     returns-2)

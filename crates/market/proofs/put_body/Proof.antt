@@ -30,15 +30,6 @@ start-put-days-arg c = start (c .before .before .before .before .before .before 
 
 -- ---- Needs
 
-put-100-requires : tie.Need-put-100-requires
-put-100-requires c κs = search needs
-
-put-200-requires : tie.Need-put-200-requires
-put-200-requires c κs = search needs
-
-cast-n : tie.Need-cast-n
-cast-n c = search needs
-
 div-n : tie.Need-div-n
 div-n c = omega (arith, some-interval _ _ (start (after-put-100 (c .before .before .before)) .pre .0))
 
@@ -46,9 +37,6 @@ put-days-requires : tie.Need-put-days-requires
 put-days-requires c κs =
     let accepted = start-put-days-arg c .pre .0 in
     (tabled _ _ accepted, dates-le _ _ accepted)
-
-same-length : tie.Need-same-length
-same-length c = search needs
 
 returns : tie.Need-returns
 unfolding contentOf bodyOf
@@ -68,4 +56,4 @@ returns c =
 pub put-body-spec : {M : Type 1} → statement M
 put-body-spec =
     tie.close
-    (tie.spec put-100-requires put-200-requires cast-n div-n put-days-requires same-length returns)
+    (tie.spec (λ c κs. search needs) (λ c κs. search needs) (λ c. search needs) div-n put-days-requires (λ c. search needs) returns)

@@ -12,17 +12,8 @@ after-leading c = c .before .before .before .before
 
 -- ---- Needs
 
-leading-requires : tie.Need-leading-requires
-leading-requires c κs = search needs
-
-enum-known-lead : tie.Need-enum-known-lead
-enum-known-lead c = search needs
-
 following-requires : tie.Need-following-requires
 following-requires c κs = (rw (c .before .lead .given .1) at (c .before .before .before .leading .ensures)) .0
-
-enum-known-lead-2 : tie.Need-enum-known-lead-2
-enum-known-lead-2 c = search needs
 
 returns : tie.Need-returns
 unfolding checked
@@ -36,9 +27,9 @@ pub check-spec : {M : Type 1} → statement M
 check-spec =
     tie.close
     (tie.spec
-    leading-requires
-    enum-known-lead
+    (λ c κs. search needs)
+    (λ c. search needs)
     following-requires
-    enum-known-lead-2
+    (λ c. search needs)
     returns
     returns-2)

@@ -57,51 +57,9 @@ after-widths c =
 
 -- ---- Needs
 
-check-requires : tie.Need-check-requires
-check-requires c κs = search needs
-
-enum-known-found : tie.Need-enum-known-found
-enum-known-found c = search needs
-
 returns : tie.Need-returns
 returns c =
     each _ _ _ (few-answers _ (after-check (c .before) .check .ensures) _ _ _ (c .before .before .found .given .1) _ _ (c .if1 .taken))
-
-open-requires : tie.Need-open-requires
-open-requires c κs = search needs
-
-is-done-requires : tie.Need-is-done-requires
-is-done-requires c κs = search needs
-
-same-length : tie.Need-same-length
-same-length c = search needs
-
-same-length-2 : tie.Need-same-length-2
-same-length-2 c = search needs
-
-same-length-3 : tie.Need-same-length-3
-same-length-3 c = search needs
-
-same-length-4 : tie.Need-same-length-4
-same-length-4 c = search needs
-
-same-length-5 : tie.Need-same-length-5
-same-length-5 c = search needs
-
-same-length-6 : tie.Need-same-length-6
-same-length-6 c = search needs
-
-same-length-7 : tie.Need-same-length-7
-same-length-7 c = search needs
-
-same-length-8 : tie.Need-same-length-8
-same-length-8 c = search needs
-
-same-length-9 : tie.Need-same-length-9
-same-length-9 c = search needs
-
-same-length-10 : tie.Need-same-length-10
-same-length-10 c = search needs
 
 returns-2 : tie.Need-returns-2
 returns-2 c =
@@ -129,15 +87,6 @@ fill-all-requires c κs =
           (at-versions .before .before .before .«open» .ensures .1),
       past1 .if1 .left ∙ found-lines _ (at-check .check .ensures) _ _ _ (past1 .before .before .found .given .1),
     )
-
-enum-told : tie.Need-enum-told
-enum-told c = search needs
-
-enum-told-2 : tie.Need-enum-told-2
-enum-told-2 c = search needs
-
-enum-told-3 : tie.Need-enum-told-3
-enum-told-3 c = search needs
 
 same-length-11 : tie.Need-same-length-11
 same-length-11 c =
@@ -210,9 +159,6 @@ same-length-19 c = omega (arith, after-widths (c .before) .before .before .count
 same-length-20 : tie.Need-same-length-20
 same-length-20 c = omega (arith, after-widths (c .before) .widths .given, c .before .before .before .widths2 .given)
 
-same-length-21 : tie.Need-same-length-21
-same-length-21 c = search needs
-
 returns-3 : tie.Need-returns-3
 returns-3 c =
     let at-widths = after-widths (c .before) in
@@ -246,26 +192,26 @@ pub play-spec : {M : Type 1} → statement M
 play-spec =
     tie.close
     (tie.spec
-    check-requires
-    enum-known-found
+    (λ c κs. search needs)
+    (λ c. search needs)
     returns
-    open-requires
-    is-done-requires
-    same-length
-    same-length-2
-    same-length-3
-    same-length-4
-    same-length-5
-    same-length-6
-    same-length-7
-    same-length-8
-    same-length-9
-    same-length-10
+    (λ c κs. search needs)
+    (λ c κs. search needs)
+    (λ c. search needs)
+    (λ c. search needs)
+    (λ c. search needs)
+    (λ c. search needs)
+    (λ c. search needs)
+    (λ c. search needs)
+    (λ c. search needs)
+    (λ c. search needs)
+    (λ c. search needs)
+    (λ c. search needs)
     returns-2
     fill-all-requires
-    enum-told
-    enum-told-2
-    enum-told-3
+    (λ c. search needs)
+    (λ c. search needs)
+    (λ c. search needs)
     same-length-11
     same-length-12
     same-length-13
@@ -276,7 +222,7 @@ play-spec =
     same-length-18
     same-length-19
     same-length-20
-    same-length-21
+    (λ c. search needs)
     returns-3
     returns-4
     returns-5

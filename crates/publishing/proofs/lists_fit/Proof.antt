@@ -4,12 +4,9 @@ use borrow.Author.Needs.{needs}
 use Rattle.publishing.proofs.lists_fit.Statement.{statement}
 use Rattle.publishing.proofs.lists_fit.Tie as tie
 
-book-fits-requires : tie.Need-book-fits-requires
-book-fits-requires c κs = search needs
-
 returns : tie.Need-returns
 unfolding cellsFit slotsFit daysFit readsFit agreedFits countsFit bookFits
 returns c = c .book-fits .ensures
 
 pub lists-fit-spec : {M : Type 1} → statement M
-lists-fit-spec = tie.close (tie.spec book-fits-requires returns)
+lists-fit-spec = tie.close (tie.spec (λ c κs. search needs) returns)

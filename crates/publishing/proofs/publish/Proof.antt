@@ -36,9 +36,6 @@ lists-passed c = sym (c .before .lists-fit .ensures) ∙ not-false _ (c .if2 .le
 
 -- ---- The needs
 
-head-ok-requires : tie.Need-head-ok-requires
-head-ok-requires c κs = search needs
-
 returns : tie.Need-returns
 returns c =
     let start = entry-taken1 c in
@@ -56,9 +53,6 @@ returns-2 c =
 put-fitted-requires : tie.Need-put-fitted-requires
 put-fitted-requires c κs = (head-passed (c .before .before .before), lists-passed (c .before))
 
-same-length : tie.Need-same-length
-same-length c = search needs
-
 returns-3 : tie.Need-returns-3
 returns-3 c = c .before .before .put-fitted .ensures
 
@@ -66,10 +60,10 @@ pub publish-spec : {M : Type 1} → statement M
 publish-spec =
     tie.close
     (tie.spec
-    head-ok-requires
+    (λ c κs. search needs)
     returns
     lists-fit-requires
     returns-2
     put-fitted-requires
-    same-length
+    (λ c. search needs)
     returns-3)

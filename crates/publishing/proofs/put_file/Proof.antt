@@ -98,9 +98,6 @@ put-trailer-requires c κs =
     let begun = start-known2 (c .before .before .before) in
     omega (arith, begun .pre .0 .room, begun .pre .1, after-put-tables (c .before .before) .before .before .slot-count .ensures)
 
-same-length : tie.Need-same-length
-same-length c = search needs
-
 returns : tie.Need-returns
 unfolding fileLength outcomes
 returns c =
@@ -133,5 +130,5 @@ put-file-spec =
     mul-put-trailer
     add-put-trailer
     put-trailer-requires
-    same-length
+    (λ c. search needs)
     returns)

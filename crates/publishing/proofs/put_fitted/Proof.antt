@@ -42,9 +42,6 @@ put-sound-requires c κs = let start = entry (c .before .before .before) in
       cells = and-parts _ _ (sym (c .before .before .book-ok .ensures) ∙ not-false _ (c .before .if1 .left)) .0;
     }
 
-same-length : tie.Need-same-length
-same-length c = search needs
-
 returns-2 : tie.Need-returns-2
 returns-2 c = let at-else = passed1 (c .before) in
     let start = entry (at-else .before .before) in
@@ -62,5 +59,5 @@ put-fitted-spec =
     book-ok-requires
     returns
     put-sound-requires
-    same-length
+    (λ c. search needs)
     returns-2)

@@ -20,9 +20,6 @@ passed1 c = c .before .before .before
 
 -- ---- Needs
 
-span-count-requires : tie.Need-span-count-requires
-span-count-requires c κs = search needs
-
 length-of-requires : tie.Need-length-of-requires
 length-of-requires c κs =
     let begun = start c in
@@ -50,9 +47,6 @@ put-file-requires c κs =
     omega (arith, m, c .before .if1 .left, c .before .before .length-of .ensures) in
     (record { whole = whole-of (a .head) b (begun .pre); room = room }, m)
 
-same-length : tie.Need-same-length
-same-length c = search needs
-
 returns-2 : tie.Need-returns-2
 returns-2 c =
     let past1 = passed1 (c .before) in
@@ -67,9 +61,9 @@ pub put-sound-spec : {M : Type 1} → statement M
 put-sound-spec =
     tie.close
     (tie.spec
-    span-count-requires
+    (λ c κs. search needs)
     length-of-requires
     returns
     put-file-requires
-    same-length
+    (λ c. search needs)
     returns-2)

@@ -22,9 +22,6 @@ passed2 c = c .before .before .before
 
 -- ---- Needs
 
-is-interval-requires : tie.Need-is-interval-requires
-is-interval-requires c κs = search needs
-
 returns : tie.Need-returns
 returns c =
     let a = start (c .before) .args in
@@ -53,9 +50,6 @@ write-requires c κs =
     (passes (after-is-interval (c .before) .is-interval .ensures) (c .before .before .before .if1 .left))
     (passes (c .before .before .fit .ensures) (c .before .if2 .left))
 
-same-length : tie.Need-same-length
-same-length c = search needs
-
 returns-3 : tie.Need-returns-3
 returns-3 c =
     let past2 = passed2 (c .before) in
@@ -68,12 +62,12 @@ pub convert-spec : {M : Type 1} → statement M
 convert-spec =
     tie.close
     (tie.spec
-    is-interval-requires
+    (λ c κs. search needs)
     returns
     div-n
     cast-n
     fit-requires
     returns-2
     write-requires
-    same-length
+    (λ c. search needs)
     returns-3)

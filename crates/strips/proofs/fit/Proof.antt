@@ -6,12 +6,6 @@ use Rattle.strips.proofs.Lengths.{part-of-a-day, under-a-day, over-400-
 use Rattle.strips.proofs.fit.Statement.{statement}
 use Rattle.strips.proofs.fit.Tie as tie
 
-mul-day : tie.Need-mul-day
-mul-day c = search needs
-
-rem-if1 : tie.Need-rem-if1
-rem-if1 c = search needs
-
 returns : tie.Need-returns
 unfolding lengthsOk
 returns c = rw (part-of-a-day (c .before .args .n) (c .before .args .table) (c .if1 .taken))
@@ -19,9 +13,6 @@ returns c = rw (part-of-a-day (c .before .args .n) (c .before .args .table) (c .
 returns-2 : tie.Need-returns-2
 unfolding lengthsOk
 returns-2 c = rw (under-a-day (c .before .before .args .n) (c .before .before .args .table) (c .if2 .taken))
-
-mul-if3 : tie.Need-mul-if3
-mul-if3 c = search needs
 
 returns-3 : tie.Need-returns-3
 unfolding lengthsOk
@@ -37,4 +28,4 @@ returns-4 c =
     )
 
 pub fit-spec : {M : Type 1} → statement M
-fit-spec = tie.close (tie.spec mul-day rem-if1 returns returns-2 mul-if3 returns-3 returns-4)
+fit-spec = tie.close (tie.spec (λ c. search needs) (λ c. search needs) returns returns-2 (λ c. search needs) returns-3 returns-4)

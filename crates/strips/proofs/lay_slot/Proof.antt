@@ -17,39 +17,6 @@ after-day-earlier c = c .before .before .before .before .before
 
 -- ---- Needs
 
-mul-at : tie.Need-mul-at
-mul-at c = search needs
-
-value-requires : tie.Need-value-requires
-value-requires c κs = search needs
-
-day-earlier-requires : tie.Need-day-earlier-requires
-day-earlier-requires c κs = search needs
-
-add-difference : tie.Need-add-difference
-add-difference c = search needs
-
-sub-difference : tie.Need-sub-difference
-sub-difference c = search needs
-
-add-put : tie.Need-add-put
-add-put c = search needs
-
-shared-slice-read-put : tie.Need-shared-slice-read-put
-shared-slice-read-put c = search needs
-
-add-put-2 : tie.Need-add-put-2
-add-put-2 c = search needs
-
-shared-slice-read-put-2 : tie.Need-shared-slice-read-put-2
-shared-slice-read-put-2 c = search needs
-
-put-requires : tie.Need-put-requires
-put-requires c κs = search needs
-
-same-length : tie.Need-same-length
-same-length c = search needs
-
 returns : tie.Need-returns
 unfolding storedIn differenceAt
 returns c =
@@ -62,15 +29,15 @@ pub lay-slot-spec : {M : Type 1} → statement M
 lay-slot-spec =
     tie.close
     (tie.spec
-    mul-at
-    value-requires
-    day-earlier-requires
-    add-difference
-    sub-difference
-    add-put
-    shared-slice-read-put
-    add-put-2
-    shared-slice-read-put-2
-    put-requires
-    same-length
+    (λ c. search needs)
+    (λ c κs. search needs)
+    (λ c κs. search needs)
+    (λ c. search needs)
+    (λ c. search needs)
+    (λ c. search needs)
+    (λ c. search needs)
+    (λ c. search needs)
+    (λ c. search needs)
+    (λ c κs. search needs)
+    (λ c. search needs)
     returns)

@@ -41,12 +41,6 @@ write-slot-requires c κs =
     let p = start (c .before .before) .pre in
     record { sized = record { positive = p .positive; whole = p .whole; room = search needs }; inside = search needs }
 
-add-i : tie.Need-add-i Inv-loop μ-loop
-add-i c = search needs
-
-loop-less : tie.Need-loop-less Inv-loop μ-loop
-loop-less c = search needs
-
 loop-again : tie.Need-loop-again Inv-loop μ-loop
 loop-again c =
     let turned = turn (c .before) in
@@ -57,9 +51,6 @@ loop-again c =
     ∙ ap (λ (x : List ℕ). slotIn (a .way) (a .n) (a .given .now) x (l .i)) (l .inv .known)
     ∙ laid-next (a .n) (a .given .now) d (start (turned .before) .pre) (a .way) (l .i) (turned .loop-test .taken) in
     record { inside = search needs; long = ap length cells ∙ length-laid (a .way) _ _ d _; known = cells }
-
-same-length : tie.Need-same-length Inv-loop μ-loop
-same-length c = search needs
 
 returns : tie.Need-returns Inv-loop μ-loop
 returns c =
@@ -76,8 +67,8 @@ write-spec =
     μ-loop
     loop-holds
     write-slot-requires
-    add-i
-    loop-less
+    (λ c. search needs)
+    (λ c. search needs)
     loop-again
-    same-length
+    (λ c. search needs)
     returns)

@@ -13,26 +13,8 @@ after-enum-told2 c = c .before .before .before
 
 -- ---- Needs
 
-enum-told : tie.Need-enum-told
-enum-told c = search needs
-
-lay-slot-requires : tie.Need-lay-slot-requires
-lay-slot-requires c κs = search needs
-
-enum-told-2 : tie.Need-enum-told-2
-enum-told-2 c = search needs
-
-restore-slot-requires : tie.Need-restore-slot-requires
-restore-slot-requires c κs = search needs
-
-same-length : tie.Need-same-length
-same-length c = search needs
-
 returns : tie.Need-returns
 returns c = rw (after-enum-told (c .before) .enum-told .given .1) (c .before .before .lay-slot .ensures)
-
-same-length-2 : tie.Need-same-length-2
-same-length-2 c = search needs
 
 returns-2 : tie.Need-returns-2
 returns-2 c = rw (after-enum-told2 (c .before) .enum-told2 .given .1) (c .before .before .restore-slot .ensures)
@@ -41,11 +23,11 @@ pub write-slot-spec : {M : Type 1} → statement M
 write-slot-spec =
     tie.close
     (tie.spec
-    enum-told
-    lay-slot-requires
-    enum-told-2
-    restore-slot-requires
-    same-length
+    (λ c. search needs)
+    (λ c κs. search needs)
+    (λ c. search needs)
+    (λ c κs. search needs)
+    (λ c. search needs)
     returns
-    same-length-2
+    (λ c. search needs)
     returns-2)

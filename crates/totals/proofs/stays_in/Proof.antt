@@ -30,23 +30,14 @@ passed2 c = c .before .before .before .before
 
 -- ---- Needs
 
-lists-fit-requires : tie.Need-lists-fit-requires
-lists-fit-requires c κs = search needs
-
 returns : tie.Need-returns
 returns c = refused-18 _ _ (entry (c .before) .pre) _ _ (sym (c .before .lists-fit .ensures) ∙ not-true _ (c .if1 .taken))
-
-pairs-fit-requires : tie.Need-pairs-fit-requires
-pairs-fit-requires c κs = search needs
 
 returns-2 : tie.Need-returns-2
 returns-2 c =
     refused-19 _ _ (entry (c .before .before .before) .pre) _ _
     (sym (c .before .before .before .lists-fit .ensures) ∙ not-false _ (c .before .before .if1 .left))
     (sym (c .before .pairs-fit .ensures) ∙ not-true _ (c .if2 .taken))
-
-cast-n : tie.Need-cast-n
-cast-n c = search needs
 
 div-n : tie.Need-div-n
 div-n c = omega (arith, some-interval _ _ (entry-passed2 (c .before) .pre))
@@ -57,9 +48,6 @@ total-days-requires c κs =
     let a = start .args in
     let lists-ok = sym (passed1 c .before .lists-fit .ensures) ∙ not-false _ (passed1 c .if1 .left) in
     (tabled _ _ (start .pre), eqb-true _ _ (passed (listTests (a .pairs .now) (length (a .totals .now))) lists-ok 2))
-
-same-length : tie.Need-same-length
-same-length c = search needs
 
 returns-3 : tie.Need-returns-3
 returns-3 c =
@@ -76,12 +64,12 @@ pub stays-in-spec : {M : Type 1} → statement M
 stays-in-spec =
     tie.close
     (tie.spec
-    lists-fit-requires
+    (λ c κs. search needs)
     returns
-    pairs-fit-requires
+    (λ c κs. search needs)
     returns-2
-    cast-n
+    (λ c. search needs)
     div-n
     total-days-requires
-    same-length
+    (λ c. search needs)
     returns-3)

@@ -4,9 +4,6 @@ use borrow.Author.Needs.{needs}
 use Rattle.berth.proofs.refusing.beside_lists.Statement.{statement}
 use Rattle.berth.proofs.refusing.beside_lists.Tie as tie
 
-file-size-requires : tie.Need-file-size-requires
-file-size-requires c κs = search needs
-
 returns : tie.Need-returns
 returns c = rw (lt-ltb _ _ (rw (c .before .file-size .ensures) at (c .if1 .taken)))
 
@@ -30,4 +27,4 @@ returns-4 c =
     )
 
 pub beside-lists-spec : {M : Type 1} → statement M
-beside-lists-spec = tie.close (tie.spec file-size-requires returns returns-2 returns-3 returns-4)
+beside-lists-spec = tie.close (tie.spec (λ c κs. search needs) returns returns-2 returns-3 returns-4)

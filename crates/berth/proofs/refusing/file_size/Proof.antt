@@ -8,9 +8,6 @@ use borrow.Author.Needs.{needs}
 use Rattle.berth.proofs.refusing.file_size.Statement.{statement}
 use Rattle.berth.proofs.refusing.file_size.Tie as tie
 
-slot-count-requires : tie.Need-slot-count-requires
-slot-count-requires c κs = search needs
-
 mul-result : tie.Need-mul-result
 mul-result c = record { fits = omega (arith, c .slot-count .ensures, slots-high _ (c .before .pre)) }
 
@@ -26,4 +23,4 @@ returns c = ap (λ (n : ℕ). 6 * n + 14 + 32) (c .slot-count .ensures)
 
 pub file-size-spec : {M : Type 1} → statement M
 file-size-spec =
-    tie.close (tie.spec slot-count-requires mul-result add-result add-result-2 returns)
+    tie.close (tie.spec (λ c κs. search needs) mul-result add-result add-result-2 returns)

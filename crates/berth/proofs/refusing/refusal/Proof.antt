@@ -14,9 +14,6 @@ after-head-ok c = c .before .before .before .before
 
 -- ---- Needs
 
-head-ok-requires : tie.Need-head-ok-requires
-head-ok-requires c κs = search needs
-
 returns : tie.Need-returns
 returns c = rw (sym (c .before .head-ok .ensures) ∙ not-true _ (c .if1 .taken))
 
@@ -44,7 +41,7 @@ pub refusal-spec : {M : Type 1} → statement M
 refusal-spec =
     tie.close
     (tie.spec
-    head-ok-requires
+    (λ c κs. search needs)
     returns
     book-fits-requires
     returns-2

@@ -34,9 +34,6 @@ number-requires : tie.Need-number-requires
 unfolding fileSize
 number-requires c κs = (omega (arith, c .slot-count .ensures, c .before .before .pre .1), omega arith)
 
-cast-state : tie.Need-cast-state
-cast-state c = search needs
-
 add-number-2 : tie.Need-add-number-2
 add-number-2 c = record { fits = omega (arith, c .before .slot-count .ensures, slots-high _ (c .before .before .before .pre .0)) }
 
@@ -69,7 +66,7 @@ report-spec =
     mul-table
     add-number
     number-requires
-    cast-state
+    (λ c. search needs)
     add-number-2
     number-requires-2
     difference-requires

@@ -23,24 +23,6 @@ after-register2 c = c .before .before .before .before .before
 
 -- ---- Needs
 
-register-requires : tie.Need-register-requires
-register-requires c κs = search needs
-
-cast-reading : tie.Need-cast-reading
-cast-reading c = search needs
-
-register-requires-2 : tie.Need-register-requires-2
-register-requires-2 c κs = search needs
-
-same-length : tie.Need-same-length
-same-length c = search needs
-
-same-length-2 : tie.Need-same-length-2
-same-length-2 c = search needs
-
-same-length-3 : tie.Need-same-length-3
-same-length-3 c = search needs
-
 returns : tie.Need-returns
 returns c =
     let at-register2 = after-register2 (c .before) in
@@ -55,10 +37,10 @@ pub read-dial-spec : {M : Type 1} → statement M
 read-dial-spec =
     tie.close
     (tie.spec
-    register-requires
-    cast-reading
-    register-requires-2
-    same-length
-    same-length-2
-    same-length-3
+    (λ c κs. search needs)
+    (λ c. search needs)
+    (λ c κs. search needs)
+    (λ c. search needs)
+    (λ c. search needs)
+    (λ c. search needs)
     returns)

@@ -18,21 +18,6 @@ returns : tie.Need-returns
 unfolding sentOne
 returns c = rw (c .if1 .taken)
 
-deliver-requires : tie.Need-deliver-requires
-deliver-requires c κs = search needs
-
-same-length : tie.Need-same-length
-same-length c = search needs
-
-same-length-2 : tie.Need-same-length-2
-same-length-2 c = search needs
-
-same-length-3 : tie.Need-same-length-3
-same-length-3 c = search needs
-
-same-length-4 : tie.Need-same-length-4
-same-length-4 c = search needs
-
 returns-2 : tie.Need-returns-2
 unfolding sentOne
 returns-2 c = let e = after-deliver (c .before) .deliver .ensures in
@@ -43,9 +28,9 @@ send-spec =
     tie.close
     (tie.spec
     returns
-    deliver-requires
-    same-length
-    same-length-2
-    same-length-3
-    same-length-4
+    (λ c κs. search needs)
+    (λ c. search needs)
+    (λ c. search needs)
+    (λ c. search needs)
+    (λ c. search needs)
     returns-2)

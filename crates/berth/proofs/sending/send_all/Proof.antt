@@ -83,9 +83,6 @@ step-requires c κs = tt
 send-requires : tie.Need-send-requires Inv-loop μ-loop
 send-requires c κs = tt
 
-cast-total : tie.Need-cast-total Inv-loop μ-loop
-cast-total c = search needs
-
 add-total : tie.Need-add-total Inv-loop μ-loop
 add-total c =
     let at-send = after-send c in
@@ -106,9 +103,6 @@ add-slot c =
       );
     }
 
-loop-less : tie.Need-loop-less Inv-loop μ-loop
-loop-less c = search needs
-
 loop-again : tie.Need-loop-again Inv-loop μ-loop
 loop-again c =
     let at-send = after-send c in
@@ -122,18 +116,6 @@ loop-again c =
       long-statuses = search needs;
       long-counts = search needs;
     }
-
-same-length : tie.Need-same-length Inv-loop μ-loop
-same-length c = search needs
-
-same-length-2 : tie.Need-same-length-2 Inv-loop μ-loop
-same-length-2 c = search needs
-
-same-length-3 : tie.Need-same-length-3 Inv-loop μ-loop
-same-length-3 c = search needs
-
-same-length-4 : tie.Need-same-length-4 Inv-loop μ-loop
-same-length-4 c = search needs
 
 returns : tie.Need-returns Inv-loop μ-loop
 returns c =
@@ -153,13 +135,13 @@ send-all-spec =
     loop-holds
     step-requires
     send-requires
-    cast-total
+    (λ c. search needs)
     add-total
     add-slot
-    loop-less
+    (λ c. search needs)
     loop-again
-    same-length
-    same-length-2
-    same-length-3
-    same-length-4
+    (λ c. search needs)
+    (λ c. search needs)
+    (λ c. search needs)
+    (λ c. search needs)
     returns)

@@ -5,19 +5,13 @@ use borrow.Author.Needs.{needs}
 use Rattle.book.proofs.cells.read_fault.Statement.{statement}
 use Rattle.book.proofs.cells.read_fault.Tie as tie
 
-number-fault-requires : tie.Need-number-fault-requires
-number-fault-requires c κs = search needs
-
 returns : tie.Need-returns
 unfolding readFault
 returns c = rw (sym (c .before .number-fault .ensures) ∙ c .if1 .taken)
-
-number-fault-requires-2 : tie.Need-number-fault-requires-2
-number-fault-requires-2 c κs = search needs
 
 returns-2 : tie.Need-returns-2
 unfolding readFault
 returns-2 c = rw (sym (c .before .before .number-fault .ensures) ∙ c .before .if1 .left) (c .number-fault2 .ensures)
 
 pub read-fault-spec : {M : Type 1} → statement M
-read-fault-spec = tie.close (tie.spec number-fault-requires returns number-fault-requires-2 returns-2)
+read-fault-spec = tie.close (tie.spec (λ c κs. search needs) returns (λ c κs. search needs) returns-2)

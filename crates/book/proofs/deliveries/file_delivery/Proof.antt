@@ -38,23 +38,11 @@ day-inside c =
       day-below (s .args .head) (bounded _ (s .pre .fitted .head)) (s .args .slot) (s .pre .inside),
     )
 
-day-of-requires : tie.Need-day-of-requires
-day-of-requires c κs = search needs
-
-mul-old-version : tie.Need-mul-old-version
-mul-old-version c = search needs
-
-slice-read-old-version : tie.Need-slice-read-old-version
-slice-read-old-version c = search needs
-
 mul-count : tie.Need-mul-count
 mul-count c = let i = day-inside (c .before) in search needs
 
 slice-read-count : tie.Need-slice-read-count
 slice-read-count c = day-inside (c .before .before)
-
-is-full-requires : tie.Need-is-full-requires
-is-full-requires c κs = search needs
 
 returns : tie.Need-returns
 unfolding againstDelivery
@@ -66,36 +54,6 @@ returns c =
     rw (at-day-of .day-of .ensures) at (sym (c .before .is-full .ensures) ∙ c .if1 .taken) in
     rw full (refl, refl, refl)
 
-slice-read-old-status : tie.Need-slice-read-old-status
-slice-read-old-status c = search needs
-
-mul-against-slot : tie.Need-mul-against-slot
-mul-against-slot c = search needs
-
-slice-read-against-slot : tie.Need-slice-read-against-slot
-slice-read-against-slot c = search needs
-
-against-slot-requires : tie.Need-against-slot-requires
-against-slot-requires c κs = search needs
-
-is-stored-requires : tie.Need-is-stored-requires
-is-stored-requires c κs = search needs
-
-mul-values : tie.Need-mul-values
-mul-values c = search needs
-
-slice-write-values : tie.Need-slice-write-values
-slice-write-values c = search needs
-
-mul-versions : tie.Need-mul-versions
-mul-versions c = search needs
-
-slice-write-versions : tie.Need-slice-write-versions
-slice-write-versions c = search needs
-
-slice-write-statuses : tie.Need-slice-write-statuses
-slice-write-statuses c = search needs
-
 raised-requires : tie.Need-raised-requires
 raised-requires c κs =
     (start-is-stored (c .before) .pre .fitted .head, sym (passed1 (c .before) .before .is-full .ensures) ∙ passed1 (c .before) .if1 .left)
@@ -105,18 +63,6 @@ mul-counts c = let i = day-inside (after-day-of (passed1 (c .before .before) .be
 
 slice-write-counts : tie.Need-slice-write-counts
 slice-write-counts c = day-inside (after-day-of (passed1 (c .before .before) .before))
-
-same-length : tie.Need-same-length
-same-length c = search needs
-
-same-length-2 : tie.Need-same-length-2
-same-length-2 c = search needs
-
-same-length-3 : tie.Need-same-length-3
-same-length-3 c = search needs
-
-same-length-4 : tie.Need-same-length-4
-same-length-4 c = search needs
 
 returns-2 : tie.Need-returns-2
 unfolding againstDelivery
@@ -148,29 +94,29 @@ pub file-delivery-spec : {M : Type 1} → statement M
 file-delivery-spec =
     tie.close
     (tie.spec
-    day-of-requires
-    mul-old-version
-    slice-read-old-version
+    (λ c κs. search needs)
+    (λ c. search needs)
+    (λ c. search needs)
     mul-count
     slice-read-count
-    is-full-requires
+    (λ c κs. search needs)
     returns
-    slice-read-old-status
-    mul-against-slot
-    slice-read-against-slot
-    against-slot-requires
-    is-stored-requires
-    mul-values
-    slice-write-values
-    mul-versions
-    slice-write-versions
-    slice-write-statuses
+    (λ c. search needs)
+    (λ c. search needs)
+    (λ c. search needs)
+    (λ c κs. search needs)
+    (λ c κs. search needs)
+    (λ c. search needs)
+    (λ c. search needs)
+    (λ c. search needs)
+    (λ c. search needs)
+    (λ c. search needs)
     raised-requires
     mul-counts
     slice-write-counts
-    same-length
-    same-length-2
-    same-length-3
-    same-length-4
+    (λ c. search needs)
+    (λ c. search needs)
+    (λ c. search needs)
+    (λ c. search needs)
     returns-2
     returns-3)

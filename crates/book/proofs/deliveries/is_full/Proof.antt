@@ -9,12 +9,9 @@ returns : tie.Need-returns
 unfolding isFull
 returns c = rw (ne-eqb _ _ (c .if1 .taken))
 
-slots-per-day-requires : tie.Need-slots-per-day-requires
-slots-per-day-requires c κs = search needs
-
 returns-2 : tie.Need-returns-2
 unfolding isFull
 returns-2 c = rw (eq-eqb _ _ (c .before .if1 .left), c .slots-per-day .ensures)
 
 pub is-full-spec : {M : Type 1} → statement M
-is-full-spec = tie.close (tie.spec returns slots-per-day-requires returns-2)
+is-full-spec = tie.close (tie.spec returns (λ c κs. search needs) returns-2)

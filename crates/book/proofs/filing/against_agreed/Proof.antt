@@ -7,18 +7,12 @@ use borrow.Author.Needs.{needs}
 use Rattle.book.proofs.filing.against_agreed.Statement.{statement}
 use Rattle.book.proofs.filing.against_agreed.Tie as tie
 
-number-fault-requires : tie.Need-number-fault-requires
-number-fault-requires c κs = search needs
-
 returns : tie.Need-returns
 unfolding againstAgreed
 returns c =
     let a = c .before .before .args in
     let fault : agreedFault (a .old-version) (a .old-value) ≡ true = sym (c .before .number-fault .ensures) ∙ c .if1 .taken in
     rw fault
-
-by-version-requires : tie.Need-by-version-requires
-by-version-requires c κs = search needs
 
 returns-2 : tie.Need-returns-2
 unfolding againstAgreed
@@ -30,4 +24,4 @@ returns-2 c =
 
 pub against-agreed-spec : {M : Type 1} → statement M
 against-agreed-spec =
-    tie.close (tie.spec number-fault-requires returns by-version-requires returns-2)
+    tie.close (tie.spec (λ c κs. search needs) returns (λ c κs. search needs) returns-2)

@@ -14,21 +14,12 @@ start c = c .before .before .before .before
 
 -- ---- Needs
 
-read-fault-requires : tie.Need-read-fault-requires
-read-fault-requires c κs = search needs
-
 returns : tie.Need-returns
 unfolding againstBoundary
 returns c =
     let a = c .before .before .args in
     let fault : readFault (a .old-version) (a .old-reading) (a .old-width) ≡ true = sym (c .before .read-fault .ensures) ∙ c .if1 .taken in
     rw fault
-
-is-same-read-requires : tie.Need-is-same-read-requires
-is-same-read-requires c κs = search needs
-
-by-version-requires : tie.Need-by-version-requires
-by-version-requires c κs = search needs
 
 returns-2 : tie.Need-returns-2
 unfolding againstBoundary
@@ -40,4 +31,4 @@ returns-2 c =
 
 pub against-boundary-spec : {M : Type 1} → statement M
 against-boundary-spec =
-    tie.close (tie.spec read-fault-requires returns is-same-read-requires by-version-requires returns-2)
+    tie.close (tie.spec (λ c κs. search needs) returns (λ c κs. search needs) (λ c κs. search needs) returns-2)

@@ -6,9 +6,6 @@ use borrow.Author.Needs.{needs}
 use Rattle.book.proofs.filing.against_day.Statement.{statement}
 use Rattle.book.proofs.filing.against_day.Tie as tie
 
-day-fault-requires : tie.Need-day-fault-requires
-day-fault-requires c κs = search needs
-
 returns : tie.Need-returns
 unfolding againstDay
 returns c = simp (sym (c .before .day-fault .ensures) ∙ c .if1 .taken)
@@ -22,4 +19,4 @@ unfolding againstDay
 returns-3 c = simp (sym (c .before .before .day-fault .ensures) ∙ c .before .if1 .left, ne-eqb _ _ (c .if2 .left))
 
 pub against-day-spec : {M : Type 1} → statement M
-against-day-spec = tie.close (tie.spec day-fault-requires returns returns-2 returns-3)
+against-day-spec = tie.close (tie.spec (λ c κs. search needs) returns returns-2 returns-3)

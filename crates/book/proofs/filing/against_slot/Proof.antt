@@ -14,21 +14,12 @@ start c = c .before .before .before .before
 
 -- ---- Needs
 
-slot-fault-requires : tie.Need-slot-fault-requires
-slot-fault-requires c κs = search needs
-
 returns : tie.Need-returns
 unfolding againstSlot
 returns c =
     let a = c .before .before .args in
     let fault : slotFault (a .old-version) (a .old-value) (a .old-status) ≡ true = sym (c .before .slot-fault .ensures) ∙ c .if1 .taken in
     rw fault
-
-is-same-requires : tie.Need-is-same-requires
-is-same-requires c κs = search needs
-
-by-version-requires : tie.Need-by-version-requires
-by-version-requires c κs = search needs
 
 returns-2 : tie.Need-returns-2
 unfolding againstSlot
@@ -40,4 +31,4 @@ returns-2 c =
 
 pub against-slot-spec : {M : Type 1} → statement M
 against-slot-spec =
-    tie.close (tie.spec slot-fault-requires returns is-same-requires by-version-requires returns-2)
+    tie.close (tie.spec (λ c κs. search needs) returns (λ c κs. search needs) (λ c κs. search needs) returns-2)

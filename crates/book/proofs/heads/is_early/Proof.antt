@@ -51,14 +51,8 @@ tested c = c .before .before .before .before .before
 returns : tie.Need-returns
 returns c = λ e. absurd (false≢true e)
 
-is-date-requires : tie.Need-is-date-requires
-is-date-requires c κs = search needs
-
 returns-2 : tie.Need-returns-2
 returns-2 c = λ e. absurd (false≢true e)
-
-is-interval-requires : tie.Need-is-interval-requires
-is-interval-requires c κs = search needs
 
 returns-3 : tie.Need-returns-3
 returns-3 c = λ e. absurd (false≢true e)
@@ -74,4 +68,4 @@ returns-4 c =
 pub is-early-spec : {M : Type 1} → statement M
 is-early-spec =
     tie.close
-    (tie.spec returns is-date-requires returns-2 is-interval-requires returns-3 returns-4)
+    (tie.spec returns (λ c κs. search needs) returns-2 (λ c κs. search needs) returns-3 returns-4)

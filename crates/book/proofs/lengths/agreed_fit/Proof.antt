@@ -7,9 +7,6 @@ use borrow.Author.Needs.{needs}
 use Rattle.book.proofs.lengths.agreed_fit.Statement.{statement}
 use Rattle.book.proofs.lengths.agreed_fit.Tie as tie
 
-slot-count-requires : tie.Need-slot-count-requires
-slot-count-requires c κs = search needs
-
 returns : tie.Need-returns
 unfolding allLong
 returns c = simp (sym (c .before .slot-count .ensures), ne-eqb _ _ (c .if1 .taken))
@@ -19,4 +16,4 @@ unfolding allLong
 returns-2 c = simp (sym (c .before .slot-count .ensures), eq-eqb _ _ (c .if1 .left), and-true)
 
 pub agreed-fit-spec : {M : Type 1} → statement M
-agreed-fit-spec = tie.close (tie.spec slot-count-requires returns returns-2)
+agreed-fit-spec = tie.close (tie.spec (λ c κs. search needs) returns returns-2)

@@ -5,17 +5,11 @@ use borrow.Author.Needs.{needs}
 use Rattle.book.proofs.lengths.book_fits.Statement.{statement}
 use Rattle.book.proofs.lengths.book_fits.Tie as tie
 
-cells-fit-requires : tie.Need-cells-fit-requires
-cells-fit-requires c κs = search needs
-
 returns : tie.Need-returns
 returns c = rw (sym (c .before .cells-fit .ensures) ∙ not-true _ (c .if1 .taken))
-
-days-fit-requires : tie.Need-days-fit-requires
-days-fit-requires c κs = search needs
 
 returns-2 : tie.Need-returns-2
 returns-2 c = rw (sym (c .before .before .cells-fit .ensures) ∙ not-false _ (c .before .if1 .left)) (c .days-fit .ensures)
 
 pub book-fits-spec : {M : Type 1} → statement M
-book-fits-spec = tie.close (tie.spec cells-fit-requires returns days-fit-requires returns-2)
+book-fits-spec = tie.close (tie.spec (λ c κs. search needs) returns (λ c κs. search needs) returns-2)

@@ -16,14 +16,8 @@ after-days-fit-agreed-fit c = c .before .before .before .before
 
 -- ---- Needs
 
-slots-fit-requires : tie.Need-slots-fit-requires
-slots-fit-requires c κs = search needs
-
 returns : tie.Need-returns
 returns c = rw (sym (c .before .slots-fit .ensures) ∙ not-true _ (c .if1 .taken))
-
-days-fit-requires : tie.Need-days-fit-requires
-days-fit-requires c κs = search needs
 
 returns-2 : tie.Need-returns-2
 returns-2 c =
@@ -31,9 +25,6 @@ returns-2 c =
       sym (c .before .before .before .slots-fit .ensures) ∙ not-false _ (c .before .before .if1 .left),
       sym (c .before .days-fit .ensures) ∙ not-true _ (c .if2 .taken),
     )
-
-reads-fit-requires : tie.Need-reads-fit-requires
-reads-fit-requires c κs = search needs
 
 returns-3 : tie.Need-returns-3
 returns-3 c =
@@ -43,9 +34,6 @@ returns-3 c =
       sym (c .before .before .before .days-fit .ensures) ∙ not-false _ (c .before .before .if2 .left),
       sym (c .before .reads-fit .ensures) ∙ not-true _ (c .if3 .taken),
     )
-
-agreed-fit-requires : tie.Need-agreed-fit-requires
-agreed-fit-requires c κs = search needs
 
 returns-4 : tie.Need-returns-4
 returns-4 c =
@@ -62,11 +50,11 @@ pub cells-fit-spec : {M : Type 1} → statement M
 cells-fit-spec =
     tie.close
     (tie.spec
-    slots-fit-requires
+    (λ c κs. search needs)
     returns
-    days-fit-requires
+    (λ c κs. search needs)
     returns-2
-    reads-fit-requires
+    (λ c κs. search needs)
     returns-3
-    agreed-fit-requires
+    (λ c κs. search needs)
     returns-4)

@@ -5,12 +5,9 @@ use borrow.Author.Needs.{needs}
 use Rattle.book.proofs.lengths.days_fit.Statement.{statement}
 use Rattle.book.proofs.lengths.days_fit.Tie as tie
 
-cast-result : tie.Need-cast-result
-cast-result c = search needs
-
 returns : tie.Need-returns
 unfolding allLong
 returns c = rw and-true
 
 pub days-fit-spec : {M : Type 1} → statement M
-days-fit-spec = tie.close (tie.spec cast-result returns)
+days-fit-spec = tie.close (tie.spec (λ c. search needs) returns)

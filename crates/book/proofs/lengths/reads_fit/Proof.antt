@@ -7,12 +7,6 @@ use borrow.Author.Needs.{needs}
 use Rattle.book.proofs.lengths.reads_fit.Statement.{statement}
 use Rattle.book.proofs.lengths.reads_fit.Tie as tie
 
-cast-n : tie.Need-cast-n
-cast-n c = search needs
-
-add-n : tie.Need-add-n
-add-n c = search needs
-
 returns : tie.Need-returns
 unfolding allLong
 returns c = simp (ne-eqb _ _ (rw add-one at (c .if1 .taken)))
@@ -26,4 +20,4 @@ unfolding allLong
 returns-3 c = rw (eq-eqb _ _ (rw add-one at (c .before .if1 .left)), eq-eqb _ _ (rw add-one at (c .if2 .left)), add-one, and-true)
 
 pub reads-fit-spec : {M : Type 1} → statement M
-reads-fit-spec = tie.close (tie.spec cast-n add-n returns returns-2 returns-3)
+reads-fit-spec = tie.close (tie.spec (λ c. search needs) (λ c. search needs) returns returns-2 returns-3)

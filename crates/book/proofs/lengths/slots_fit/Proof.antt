@@ -7,9 +7,6 @@ use borrow.Author.Needs.{needs}
 use Rattle.book.proofs.lengths.slots_fit.Statement.{statement}
 use Rattle.book.proofs.lengths.slots_fit.Tie as tie
 
-slot-count-requires : tie.Need-slot-count-requires
-slot-count-requires c κs = search needs
-
 returns : tie.Need-returns
 unfolding allLong
 returns c = simp (sym (c .before .slot-count .ensures), ne-eqb _ _ (c .if1 .taken))
@@ -23,4 +20,4 @@ unfolding allLong
 returns-3 c = simp (sym (c .before .before .slot-count .ensures), eq-eqb _ _ (c .before .if1 .left), eq-eqb _ _ (c .if2 .left), and-true)
 
 pub slots-fit-spec : {M : Type 1} → statement M
-slots-fit-spec = tie.close (tie.spec slot-count-requires returns returns-2 returns-3)
+slots-fit-spec = tie.close (tie.spec (λ c κs. search needs) returns returns-2 returns-3)

@@ -48,41 +48,17 @@ returns-3 c =
     let large : 99_999_999 < start (c .before) .args .number = omega (arith, c .if3 .taken) in
     rw (lt-leb _ _ (inside (c .before .before)), ne-eqb _ _ (c .before .if2 .left), lt-ltb _ _ large) (refl, refl)
 
-mul-against-agreed : tie.Need-mul-against-agreed
-mul-against-agreed c = search needs
-
 slice-read-against-agreed : tie.Need-slice-read-against-agreed
 slice-read-against-agreed c = omega (arith, inside (c .before .before .before))
-
-mul-against-agreed-2 : tie.Need-mul-against-agreed-2
-mul-against-agreed-2 c = search needs
 
 slice-read-against-agreed-2 : tie.Need-slice-read-against-agreed-2
 slice-read-against-agreed-2 c = omega (arith, inside (passed2 c .before))
 
-against-agreed-requires : tie.Need-against-agreed-requires
-against-agreed-requires c κs = search needs
-
-is-stored-requires : tie.Need-is-stored-requires
-is-stored-requires c κs = search needs
-
-mul-numbers : tie.Need-mul-numbers
-mul-numbers c = search needs
-
 slice-write-numbers : tie.Need-slice-write-numbers
 slice-write-numbers c = omega (arith, inside (passed2-against-agreed (c .before .before) .before))
 
-mul-versions : tie.Need-mul-versions
-mul-versions c = search needs
-
 slice-write-versions : tie.Need-slice-write-versions
 slice-write-versions c = omega (arith, inside (passed2-against-agreed (c .before .before) .before))
-
-same-length : tie.Need-same-length
-same-length c = search needs
-
-same-length-2 : tie.Need-same-length-2
-same-length-2 c = search needs
 
 -- what `against_agreed` found is the answer
 found : (c : tie.After-against-agreed) → whole (start (passed2-against-agreed c)) ≡ receivedMeant (c .against-agreed .result)
@@ -106,17 +82,17 @@ file-number-spec =
     returns
     returns-2
     returns-3
-    mul-against-agreed
+    (λ c. search needs)
     slice-read-against-agreed
-    mul-against-agreed-2
+    (λ c. search needs)
     slice-read-against-agreed-2
-    against-agreed-requires
-    is-stored-requires
-    mul-numbers
+    (λ c κs. search needs)
+    (λ c κs. search needs)
+    (λ c. search needs)
     slice-write-numbers
-    mul-versions
+    (λ c. search needs)
     slice-write-versions
-    same-length
-    same-length-2
+    (λ c. search needs)
+    (λ c. search needs)
     returns-4
     returns-5)

@@ -60,38 +60,17 @@ returns-4 c =
     rw (lt-leb _ _ (inside (c .before .before .before)), ne-eqb _ _ (c .before .before .if2 .left), le-ltb _ _ small, lt-ltb _ _ wide)
     (refl, refl)
 
-mul-against-boundary : tie.Need-mul-against-boundary
-mul-against-boundary c = search needs
-
 slice-read-against-boundary : tie.Need-slice-read-against-boundary
 slice-read-against-boundary c = omega (arith, inside (passed1 (c .before)))
-
-mul-against-boundary-2 : tie.Need-mul-against-boundary-2
-mul-against-boundary-2 c = search needs
 
 slice-read-against-boundary-2 : tie.Need-slice-read-against-boundary-2
 slice-read-against-boundary-2 c = omega (arith, inside (passed1 (c .before .before)))
 
-mul-against-boundary-3 : tie.Need-mul-against-boundary-3
-mul-against-boundary-3 c = search needs
-
 slice-read-against-boundary-3 : tie.Need-slice-read-against-boundary-3
 slice-read-against-boundary-3 c = omega (arith, inside (passed1 (c .before .before .before)))
 
-against-boundary-requires : tie.Need-against-boundary-requires
-against-boundary-requires c κs = search needs
-
-is-stored-requires : tie.Need-is-stored-requires
-is-stored-requires c κs = search needs
-
-mul-readings : tie.Need-mul-readings
-mul-readings c = search needs
-
 slice-write-readings : tie.Need-slice-write-readings
 slice-write-readings c = omega (arith, inside (passed1 (passed4 (c .before .before))))
-
-mul-versions : tie.Need-mul-versions
-mul-versions c = search needs
 
 slice-write-versions : tie.Need-slice-write-versions
 slice-write-versions c = omega (arith, inside (passed1 (passed4 (c .before .before))))
@@ -99,20 +78,8 @@ slice-write-versions c = omega (arith, inside (passed1 (passed4 (c .before .befo
 cast-widths : tie.Need-cast-widths
 cast-widths c = omega (arith, passed4 (c .before .before) .if4 .left)
 
-mul-widths : tie.Need-mul-widths
-mul-widths c = search needs
-
 slice-write-widths : tie.Need-slice-write-widths
 slice-write-widths c = omega (arith, inside (passed1 (passed4 (c .before .before))))
-
-same-length : tie.Need-same-length
-same-length c = search needs
-
-same-length-2 : tie.Need-same-length-2
-same-length-2 c = search needs
-
-same-length-3 : tie.Need-same-length-3
-same-length-3 c = search needs
 
 -- what `against_boundary` found is the answer
 found : (c : tie.After-against-boundary) → whole (start (passed1 (passed4 c) .before)) ≡ receivedMeant (c .against-boundary .result)
@@ -139,23 +106,23 @@ file-register-spec =
     returns-2
     returns-3
     returns-4
-    mul-against-boundary
+    (λ c. search needs)
     slice-read-against-boundary
-    mul-against-boundary-2
+    (λ c. search needs)
     slice-read-against-boundary-2
-    mul-against-boundary-3
+    (λ c. search needs)
     slice-read-against-boundary-3
-    against-boundary-requires
-    is-stored-requires
-    mul-readings
+    (λ c κs. search needs)
+    (λ c κs. search needs)
+    (λ c. search needs)
     slice-write-readings
-    mul-versions
+    (λ c. search needs)
     slice-write-versions
     cast-widths
-    mul-widths
+    (λ c. search needs)
     slice-write-widths
-    same-length
-    same-length-2
-    same-length-3
+    (λ c. search needs)
+    (λ c. search needs)
+    (λ c. search needs)
     returns-5
     returns-6)

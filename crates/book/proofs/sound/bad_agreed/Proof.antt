@@ -43,27 +43,6 @@ lent c = let a = start c .args in agreedLists (a .values .now) (a .versions .now
 loop-holds : tie.Need-loop-holds Inv-loop μ-loop
 loop-holds c = record { inside = zero-le; known = sym (any-empty _ _) }
 
-mul-agreed-fault : tie.Need-mul-agreed-fault Inv-loop μ-loop
-mul-agreed-fault c = search needs
-
-shared-slice-read-agreed-fault : tie.Need-shared-slice-read-agreed-fault Inv-loop μ-loop
-shared-slice-read-agreed-fault c = omega arith
-
-mul-agreed-fault-2 : tie.Need-mul-agreed-fault-2 Inv-loop μ-loop
-mul-agreed-fault-2 c = search needs
-
-shared-slice-read-agreed-fault-2 : tie.Need-shared-slice-read-agreed-fault-2 Inv-loop μ-loop
-shared-slice-read-agreed-fault-2 c = omega arith
-
-agreed-fault-requires : tie.Need-agreed-fault-requires Inv-loop μ-loop
-agreed-fault-requires c κs = search needs
-
-add-i : tie.Need-add-i Inv-loop μ-loop
-add-i c = omega arith
-
-loop-less : tie.Need-loop-less Inv-loop μ-loop
-loop-less c = omega arith
-
 loop-again : tie.Need-loop-again Inv-loop μ-loop
 loop-again c =
     let at = turn c in
@@ -86,12 +65,12 @@ bad-agreed-spec =
     Inv-loop
     μ-loop
     loop-holds
-    mul-agreed-fault
-    shared-slice-read-agreed-fault
-    mul-agreed-fault-2
-    shared-slice-read-agreed-fault-2
-    agreed-fault-requires
-    add-i
-    loop-less
+    (λ c. search needs)
+    (λ c. omega arith)
+    (λ c. search needs)
+    (λ c. omega arith)
+    (λ c κs. search needs)
+    (λ c. omega arith)
+    (λ c. omega arith)
     loop-again
     returns)

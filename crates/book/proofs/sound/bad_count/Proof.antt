@@ -55,12 +55,6 @@ loop-holds c = none-yet _ _
 slots-per-day-requires : tie.Need-slots-per-day-requires Inv-loop μ-loop
 slots-per-day-requires c κs = start (c .before) .pre .0
 
-mul-count : tie.Need-mul-count Inv-loop μ-loop
-mul-count c = search needs
-
-shared-slice-read-count : tie.Need-shared-slice-read-count Inv-loop μ-loop
-shared-slice-read-count c = omega arith
-
 cast-count : tie.Need-cast-count Inv-loop μ-loop
 cast-count c = omega (arith, c .shared-slice-known3 .given (turn c .before .loop .day))
 
@@ -88,12 +82,6 @@ returns c =
     rw (found (c .before), ne-eqb _ _ (c .if1 .taken)) in
     at-fault _ _ _ (counted (c .before) .loop-test .taken) fault
 
-add-day : tie.Need-add-day Inv-loop μ-loop
-add-day c = omega arith
-
-loop-less : tie.Need-loop-less Inv-loop μ-loop
-loop-less c = omega arith
-
 loop-again : tie.Need-loop-again Inv-loop μ-loop
 loop-again c =
     let at = counted (c .before) .before in
@@ -114,13 +102,13 @@ bad-count-spec =
     μ-loop
     loop-holds
     slots-per-day-requires
-    mul-count
-    shared-slice-read-count
+    (λ c. search needs)
+    (λ c. omega arith)
     cast-count
     mul-delivered
     delivered-requires
     returns
-    add-day
-    loop-less
+    (λ c. omega arith)
+    (λ c. omega arith)
     loop-again
     returns-2)

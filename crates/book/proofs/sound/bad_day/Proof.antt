@@ -25,21 +25,9 @@ at-loop c = c .before .before .before
 loop-holds : tie.Need-loop-holds Inv-loop μ-loop
 loop-holds c = none-yet _ _
 
-shared-slice-read-day-fault : tie.Need-shared-slice-read-day-fault Inv-loop μ-loop
-shared-slice-read-day-fault c = omega arith
-
-day-fault-requires : tie.Need-day-fault-requires Inv-loop μ-loop
-day-fault-requires c κs = search needs
-
 returns : tie.Need-returns Inv-loop μ-loop
 returns c =
     at-fault _ _ _ (c .before .before .before .loop-test .taken) (sym (c .before .day-fault .ensures) ∙ c .if1 .taken)
-
-add-i : tie.Need-add-i Inv-loop μ-loop
-add-i c = omega arith
-
-loop-less : tie.Need-loop-less Inv-loop μ-loop
-loop-less c = omega arith
 
 loop-again : tie.Need-loop-again Inv-loop μ-loop
 loop-again c =
@@ -57,10 +45,10 @@ bad-day-spec =
     Inv-loop
     μ-loop
     loop-holds
-    shared-slice-read-day-fault
-    day-fault-requires
+    (λ c. omega arith)
+    (λ c κs. search needs)
     returns
-    add-i
-    loop-less
+    (λ c. omega arith)
+    (λ c. omega arith)
     loop-again
     returns-2)

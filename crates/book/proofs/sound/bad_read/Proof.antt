@@ -26,37 +26,10 @@ turn c = c .before .before .before .before
 loop-holds : tie.Need-loop-holds Inv-loop μ-loop
 loop-holds c = none-yet _ _
 
-mul-read-fault : tie.Need-mul-read-fault Inv-loop μ-loop
-mul-read-fault c = search needs
-
-shared-slice-read-read-fault : tie.Need-shared-slice-read-read-fault Inv-loop μ-loop
-shared-slice-read-read-fault c = omega arith
-
-mul-read-fault-2 : tie.Need-mul-read-fault-2 Inv-loop μ-loop
-mul-read-fault-2 c = search needs
-
-shared-slice-read-read-fault-2 : tie.Need-shared-slice-read-read-fault-2 Inv-loop μ-loop
-shared-slice-read-read-fault-2 c = omega arith
-
-mul-read-fault-3 : tie.Need-mul-read-fault-3 Inv-loop μ-loop
-mul-read-fault-3 c = search needs
-
-shared-slice-read-read-fault-3 : tie.Need-shared-slice-read-read-fault-3 Inv-loop μ-loop
-shared-slice-read-read-fault-3 c = omega arith
-
-read-fault-requires : tie.Need-read-fault-requires Inv-loop μ-loop
-read-fault-requires c κs = search needs
-
 returns : tie.Need-returns Inv-loop μ-loop
 returns c =
     let turned = turn (c .before) in
     at-fault _ _ _ (turned .loop-test .taken) (sym (c .before .read-fault .ensures) ∙ c .if1 .taken)
-
-add-i : tie.Need-add-i Inv-loop μ-loop
-add-i c = omega arith
-
-loop-less : tie.Need-loop-less Inv-loop μ-loop
-loop-less c = omega arith
 
 loop-again : tie.Need-loop-again Inv-loop μ-loop
 loop-again c =
@@ -74,15 +47,15 @@ bad-read-spec =
     Inv-loop
     μ-loop
     loop-holds
-    mul-read-fault
-    shared-slice-read-read-fault
-    mul-read-fault-2
-    shared-slice-read-read-fault-2
-    mul-read-fault-3
-    shared-slice-read-read-fault-3
-    read-fault-requires
+    (λ c. search needs)
+    (λ c. omega arith)
+    (λ c. search needs)
+    (λ c. omega arith)
+    (λ c. search needs)
+    (λ c. omega arith)
+    (λ c κs. search needs)
     returns
-    add-i
-    loop-less
+    (λ c. omega arith)
+    (λ c. omega arith)
     loop-again
     returns-2)

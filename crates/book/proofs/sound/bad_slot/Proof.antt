@@ -43,30 +43,6 @@ lent c = let a = start c .args in slots (a .values .now) (a .versions .now) (a .
 loop-holds : tie.Need-loop-holds Inv-loop μ-loop
 loop-holds c = record { inside = zero-le; known = sym (any-empty _ _) }
 
-mul-slot-fault : tie.Need-mul-slot-fault Inv-loop μ-loop
-mul-slot-fault c = search needs
-
-shared-slice-read-slot-fault : tie.Need-shared-slice-read-slot-fault Inv-loop μ-loop
-shared-slice-read-slot-fault c = omega arith
-
-mul-slot-fault-2 : tie.Need-mul-slot-fault-2 Inv-loop μ-loop
-mul-slot-fault-2 c = search needs
-
-shared-slice-read-slot-fault-2 : tie.Need-shared-slice-read-slot-fault-2 Inv-loop μ-loop
-shared-slice-read-slot-fault-2 c = omega arith
-
-shared-slice-read-slot-fault-3 : tie.Need-shared-slice-read-slot-fault-3 Inv-loop μ-loop
-shared-slice-read-slot-fault-3 c = omega arith
-
-slot-fault-requires : tie.Need-slot-fault-requires Inv-loop μ-loop
-slot-fault-requires c κs = search needs
-
-add-i : tie.Need-add-i Inv-loop μ-loop
-add-i c = omega arith
-
-loop-less : tie.Need-loop-less Inv-loop μ-loop
-loop-less c = omega arith
-
 loop-again : tie.Need-loop-again Inv-loop μ-loop
 loop-again c =
     let at = turn c in
@@ -89,13 +65,13 @@ bad-slot-spec =
     Inv-loop
     μ-loop
     loop-holds
-    mul-slot-fault
-    shared-slice-read-slot-fault
-    mul-slot-fault-2
-    shared-slice-read-slot-fault-2
-    shared-slice-read-slot-fault-3
-    slot-fault-requires
-    add-i
-    loop-less
+    (λ c. search needs)
+    (λ c. omega arith)
+    (λ c. search needs)
+    (λ c. omega arith)
+    (λ c. omega arith)
+    (λ c κs. search needs)
+    (λ c. omega arith)
+    (λ c. omega arith)
     loop-again
     returns)

@@ -44,9 +44,6 @@ returns c = let a = start (c .before .before) .args in
     rw (l .values) at (sym (c .before .bad-slot .ensures) ∙ c .if1 .taken) in
     rw s
 
-bad-day-requires : tie.Need-bad-day-requires
-bad-day-requires c κs = search needs
-
 returns-2 : tie.Need-returns-2
 unfolding cellsOk
 returns-2 c = let a = start-bad-day (c .before) .args in
@@ -115,7 +112,7 @@ cells-ok-spec =
     (tie.spec
     bad-slot-requires
     returns
-    bad-day-requires
+    (λ c κs. search needs)
     returns-2
     bad-read-requires
     returns-3

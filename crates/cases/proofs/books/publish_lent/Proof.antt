@@ -39,51 +39,6 @@ after-counts2 c = c .before .before .before .before
 
 -- ---- Needs
 
-open-requires : tie.Need-open-requires
-open-requires c κs = search needs
-
-enum-known-opened : tie.Need-enum-known-opened
-enum-known-opened c = search needs
-
-same-length : tie.Need-same-length
-same-length c = search needs
-
-same-length-2 : tie.Need-same-length-2
-same-length-2 c = search needs
-
-same-length-3 : tie.Need-same-length-3
-same-length-3 c = search needs
-
-same-length-4 : tie.Need-same-length-4
-same-length-4 c = search needs
-
-same-length-5 : tie.Need-same-length-5
-same-length-5 c = search needs
-
-same-length-6 : tie.Need-same-length-6
-same-length-6 c = search needs
-
-same-length-7 : tie.Need-same-length-7
-same-length-7 c = search needs
-
-same-length-8 : tie.Need-same-length-8
-same-length-8 c = search needs
-
-same-length-9 : tie.Need-same-length-9
-same-length-9 c = search needs
-
-same-length-10 : tie.Need-same-length-10
-same-length-10 c = search needs
-
-returns : tie.Need-returns
-returns c = search needs
-
-enum-told : tie.Need-enum-told
-enum-told c = search needs
-
-fill-and-publish-requires : tie.Need-fill-and-publish-requires
-fill-and-publish-requires c κs = search needs
-
 same-length-11 : tie.Need-same-length-11
 same-length-11 c =
     let at-agreed2 = after-agreed2 (after-counts2 (c .before)) in
@@ -149,31 +104,25 @@ same-length-20 c =
     c .before .before .before .widths2 .given
     ∙ after-widths (after-values2 (after-statuses2 (after-readings2 (after-agreed2 (after-counts2 (c .before)))))) .widths .given
 
-same-length-21 : tie.Need-same-length-21
-same-length-21 c = search needs
-
-returns-2 : tie.Need-returns-2
-returns-2 c = search needs
-
 pub publish-lent-spec : {M : Type 1} → statement M
 publish-lent-spec =
     tie.close
     (tie.spec
-    open-requires
-    enum-known-opened
-    same-length
-    same-length-2
-    same-length-3
-    same-length-4
-    same-length-5
-    same-length-6
-    same-length-7
-    same-length-8
-    same-length-9
-    same-length-10
-    returns
-    enum-told
-    fill-and-publish-requires
+    (λ c κs. search needs)
+    (λ c. search needs)
+    (λ c. search needs)
+    (λ c. search needs)
+    (λ c. search needs)
+    (λ c. search needs)
+    (λ c. search needs)
+    (λ c. search needs)
+    (λ c. search needs)
+    (λ c. search needs)
+    (λ c. search needs)
+    (λ c. search needs)
+    (λ c. search needs)
+    (λ c. search needs)
+    (λ c κs. search needs)
     same-length-11
     same-length-12
     same-length-13
@@ -184,5 +133,5 @@ publish-lent-spec =
     same-length-18
     same-length-19
     same-length-20
-    same-length-21
-    returns-2)
+    (λ c. search needs)
+    (λ c. search needs))

@@ -12,9 +12,6 @@ start c = c .before .before .before .before .before .before .before
 
 -- ---- Needs
 
-fills-before-requires : tie.Need-fills-before-requires
-fills-before-requires c κs = search needs
-
 fill-requires : tie.Need-fill-requires
 fill-requires c κs =
     let begun = start c in
@@ -34,4 +31,4 @@ returns c = let a = (start (c .before)) .args in
     rw p at (c .fill .ensures)
 
 pub fill-slot-spec : {M : Type 1} → statement M
-fill-slot-spec = tie.close (tie.spec fills-before-requires fill-requires returns)
+fill-slot-spec = tie.close (tie.spec (λ c κs. search needs) fill-requires returns)

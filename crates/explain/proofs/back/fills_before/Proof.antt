@@ -42,9 +42,6 @@ start-at-loop c = start (c .before .before .before)
 since-good-requires : tie.Need-since-good-requires Inv-loop μ-loop
 since-good-requires c κs = ((start c) .pre .0, omega (arith, (start c) .pre .2))
 
-bare-requires : tie.Need-bare-requires Inv-loop μ-loop
-bare-requires c κs = search needs
-
 loop-holds : tie.Need-loop-holds Inv-loop μ-loop
 loop-holds c = let a = (start (c .before .before)) .args in
     let s = slots (a .values .now) (a .versions .now) (a .statuses .now) in
@@ -73,12 +70,6 @@ line-on-requires c κs =
       c .outage-zero .ensures ∙ zero-applies (a .head) s _ (begun .pre .0 .versions) _,
       c .before .before .loop .inv .drawn,
     )
-
-add-k : tie.Need-add-k Inv-loop μ-loop
-add-k c = omega arith
-
-loop-less : tie.Need-loop-less Inv-loop μ-loop
-loop-less c = omega arith
 
 loop-again : tie.Need-loop-again Inv-loop μ-loop
 loop-again c =
@@ -109,11 +100,11 @@ fills-before-spec =
     Inv-loop
     μ-loop
     since-good-requires
-    bare-requires
+    (λ c κs. search needs)
     loop-holds
     outage-zero-requires
     line-on-requires
-    add-k
-    loop-less
+    (λ c. omega arith)
+    (λ c. omega arith)
     loop-again
     returns)

@@ -31,9 +31,6 @@ start c = c .before .before .before .before .before
 loop-holds : tie.Need-loop-holds Inv-loop μ-loop
 loop-holds c = record { inside = omega arith; none = λ k l m. absurd (omega arith) }
 
-sub-last : tie.Need-sub-last Inv-loop μ-loop
-sub-last c = omega arith
-
 is-good-requires : tie.Need-is-good-requires Inv-loop μ-loop
 is-good-requires c κs = ((start c) .pre .0, omega arith)
 
@@ -44,9 +41,6 @@ returns c =
       good = λ _. sym (c .before .is-good .ensures) ∙ c .if1 .taken;
       causes = c .before .before .before .loop .inv .none;
     }
-
-loop-less : tie.Need-loop-less Inv-loop μ-loop
-loop-less c = omega arith
 
 loop-again : tie.Need-loop-again Inv-loop μ-loop
 loop-again c =
@@ -65,9 +59,9 @@ since-good-spec =
     Inv-loop
     μ-loop
     loop-holds
-    sub-last
+    (λ c. omega arith)
     is-good-requires
     returns
-    loop-less
+    (λ c. omega arith)
     loop-again
     returns-2)

@@ -25,9 +25,6 @@ after-slots-per-day c = c .before .before .before .before
 
 -- ---- Needs
 
-slots-per-day-requires : tie.Need-slots-per-day-requires
-slots-per-day-requires c κs = search needs
-
 mul-start : tie.Need-mul-start
 mul-start c =
     let begun = entry c in
@@ -36,9 +33,6 @@ mul-start c =
     let p : begun .args .first ≤ 400 = omega (arith, w .days-high, x .ordered, x .within) in
     let q : c .slots-per-day .result ≤ 288 = omega (arith, c .slots-per-day .ensures, w .day-high) in
     omega (arith, mul-le-mul p q)
-
-sub-sums : tie.Need-sub-sums
-sub-sums c = search needs
 
 mul-sums : tie.Need-mul-sums
 mul-sums c =
@@ -109,9 +103,9 @@ pub between-spec : {M : Type 1} → statement M
 between-spec =
     tie.close
     (tie.spec
-    slots-per-day-requires
+    (λ c κs. search needs)
     mul-start
-    sub-sums
+    (λ c. search needs)
     mul-sums
     sums-requires
     sub-sums-2

@@ -59,15 +59,6 @@ last-read-requires c κs =
     let y = day-below (a .head) (bounded (a .head) (begun .pre .0 .lent .fitted .head)) (a .slot) (begun .pre .1) in
     rw (c .slots-per-day .ensures, begun .pre .0 .reads) (omega (arith, y))
 
-enum-known-first : tie.Need-enum-known-first
-enum-known-first c = search needs
-
-enum-told : tie.Need-enum-told
-enum-told c = search needs
-
-outside-requires : tie.Need-outside-requires
-outside-requires c κs = search needs
-
 returns : tie.Need-returns
 returns c = let a = (start-last-read (after-last-read c)) .args in
     let b = cells (slots (a .values .now) (a .versions .now) (a .statuses .now)) (a .holidays .now) (a .readings .now) (a .reads .now)
@@ -93,15 +84,6 @@ next-read-requires c κs =
     let a = begun .args in
     let y = day-below (a .head) (bounded (a .head) (begun .pre .0 .lent .fitted .head)) (a .slot) (begun .pre .1) in
     rw (at-last-read .before .slots-per-day .ensures, begun .pre .0 .reads) (omega (arith, y))
-
-enum-known-last : tie.Need-enum-known-last
-enum-known-last c = search needs
-
-enum-told-2 : tie.Need-enum-told-2
-enum-told-2 c = search needs
-
-outside-requires-2 : tie.Need-outside-requires-2
-outside-requires-2 c κs = search needs
 
 returns-2 : tie.Need-returns-2
 returns-2 c =
@@ -179,15 +161,15 @@ hold-spec =
     slots-per-day-requires
     div-day
     last-read-requires
-    enum-known-first
-    enum-told
-    outside-requires
+    (λ c. search needs)
+    (λ c. search needs)
+    (λ c κs. search needs)
     returns
     add-next-read
     next-read-requires
-    enum-known-last
-    enum-told-2
-    outside-requires-2
+    (λ c. search needs)
+    (λ c. search needs)
+    (λ c κs. search needs)
     returns-2
     between-requires
     returns-3)

@@ -33,22 +33,10 @@ start-known c = c .before .before .before
 loop-holds : tie.Need-loop-holds Inv-loop μ-loop
 loop-holds c = record { inside = omega arith; known = refl }
 
-mul-if1 : tie.Need-mul-if1 Inv-loop μ-loop
-mul-if1 c = search needs
-
-shared-slice-read-if1 : tie.Need-shared-slice-read-if1 Inv-loop μ-loop
-shared-slice-read-if1 c = omega arith
-
 returns : tie.Need-returns Inv-loop μ-loop
 returns c = let r = (start-known (c .before)) .args .reads .now in
     sym (c .before .before .before .loop .inv .known
     ∙ last-at r (c .before .before .before .loop .d) (is-read r (c .before .before .before .loop .d) (c .if1 .taken)))
-
-sub-d : tie.Need-sub-d Inv-loop μ-loop
-sub-d c = omega arith
-
-loop-less : tie.Need-loop-less Inv-loop μ-loop
-loop-less c = omega arith
 
 loop-again : tie.Need-loop-again Inv-loop μ-loop
 loop-again c = let r = (start-known (c .before)) .args .reads .now in
@@ -59,9 +47,6 @@ loop-again c = let r = (start-known (c .before)) .args .reads .now in
           ∙ last-on r (c .before .before .before .loop .d) (c .before .before .loop-test .taken)
           (unread r (c .before .before .before .loop .d) (c .if1 .left));
     }
-
-shared-slice-read-if2 : tie.Need-shared-slice-read-if2 Inv-loop μ-loop
-shared-slice-read-if2 c = omega arith
 
 returns-2 : tie.Need-returns-2 Inv-loop μ-loop
 returns-2 c = let r = (start (c .before)) .args .reads .now in
@@ -80,12 +65,12 @@ last-read-spec =
     Inv-loop
     μ-loop
     loop-holds
-    mul-if1
-    shared-slice-read-if1
+    (λ c. search needs)
+    (λ c. omega arith)
     returns
-    sub-d
-    loop-less
+    (λ c. omega arith)
+    (λ c. omega arith)
     loop-again
-    shared-slice-read-if2
+    (λ c. omega arith)
     returns-2
     returns-3)

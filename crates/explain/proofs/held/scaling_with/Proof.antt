@@ -6,9 +6,6 @@ use borrow.Author.Needs.{needs}
 use Rattle.explain.proofs.held.scaling_with.Statement.{statement}
 use Rattle.explain.proofs.held.scaling_with.Tie as tie
 
-unscaled-to-requires : tie.Need-unscaled-to-requires
-unscaled-to-requires c κs = search needs
-
 returns : tie.Need-returns
 unfolding scalingWith
 returns c = rw (ne-eqb _ _ (c .before .before .if1 .taken), c .before .unscaled-to .ensures)
@@ -24,4 +21,4 @@ returns-3 c = scaling-shapes _ _ _ _ _ (c .before .before .before .if1 .left) (c
 
 pub scaling-with-spec : {M : Type 1} → statement M
 scaling-with-spec =
-    tie.close (tie.spec unscaled-to-requires returns scaling-of-requires returns-2 returns-3)
+    tie.close (tie.spec (λ c κs. search needs) returns scaling-of-requires returns-2 returns-3)

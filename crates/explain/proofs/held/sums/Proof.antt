@@ -12,9 +12,6 @@ start c = c .before .before .before .before .before .before .before
 
 -- ---- Needs
 
-fills-before-requires : tie.Need-fills-before-requires
-fills-before-requires c κs = search needs
-
 summarise-requires : tie.Need-summarise-requires
 summarise-requires c κs =
     let begun = start c in
@@ -35,4 +32,4 @@ returns c = let a = (start (c .before)) .args in
     rw p at (c .summarise .ensures)
 
 pub sums-spec : {M : Type 1} → statement M
-sums-spec = tie.close (tie.spec fills-before-requires summarise-requires returns)
+sums-spec = tie.close (tie.spec (λ c κs. search needs) summarise-requires returns)

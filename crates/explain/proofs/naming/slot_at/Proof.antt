@@ -37,9 +37,6 @@ passed3 c = c .before .before .before .before .before
 
 -- ---- Needs
 
-head-ok-requires : tie.Need-head-ok-requires
-head-ok-requires c κs = search needs
-
 returns : tie.Need-returns
 unfolding slotNamed
 returns c = rw (sym (c .before .head-ok .ensures) ∙ not-true _ (c .if1 .taken))
@@ -138,7 +135,7 @@ pub slot-at-spec : {M : Type 1} → statement M
 slot-at-spec =
     tie.close
     (tie.spec
-    head-ok-requires
+    (λ c κs. search needs)
     returns
     first-day-requires
     returns-2

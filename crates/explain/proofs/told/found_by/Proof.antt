@@ -6,18 +6,9 @@ use borrow.Author.Needs.{needs}
 use Rattle.explain.proofs.told.found_by.Statement.{statement}
 use Rattle.explain.proofs.told.found_by.Tie as tie
 
-is-same-day-requires : tie.Need-is-same-day-requires
-is-same-day-requires c κs = search needs
-
-none-found-requires : tie.Need-none-found-requires
-none-found-requires c κs = search needs
-
 returns : tie.Need-returns
 unfolding foundOf
 returns c = rw (sym (c .before .before .is-same-day .ensures) ∙ not-true _ (c .before .if1 .taken)) (c .none-found .ensures)
-
-find-references-requires : tie.Need-find-references-requires
-find-references-requires c κs = search needs
 
 returns-2 : tie.Need-returns-2
 unfolding foundOf
@@ -28,4 +19,4 @@ returns-2 c =
 
 pub found-by-spec : {M : Type 1} → statement M
 found-by-spec =
-    tie.close (tie.spec is-same-day-requires none-found-requires returns find-references-requires returns-2)
+    tie.close (tie.spec (λ c κs. search needs) (λ c κs. search needs) returns (λ c κs. search needs) returns-2)

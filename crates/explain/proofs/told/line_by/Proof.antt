@@ -5,12 +5,6 @@ use borrow.Author.Needs.{needs}
 use Rattle.explain.proofs.told.line_by.Statement.{statement}
 use Rattle.explain.proofs.told.line_by.Tie as tie
 
-is-line-requires : tie.Need-is-line-requires
-is-line-requires c κs = search needs
-
-bare-requires : tie.Need-bare-requires
-bare-requires c κs = search needs
-
 returns : tie.Need-returns
 returns c = rw (sym (c .before .before .is-line .ensures) ∙ not-true _ (c .before .if1 .taken)) (c .bare .ensures)
 
@@ -18,4 +12,4 @@ returns-2 : tie.Need-returns-2
 returns-2 c = rw (sym (c .before .is-line .ensures) ∙ not-false _ (c .if1 .left))
 
 pub line-by-spec : {M : Type 1} → statement M
-line-by-spec = tie.close (tie.spec is-line-requires bare-requires returns returns-2)
+line-by-spec = tie.close (tie.spec (λ c κs. search needs) (λ c κs. search needs) returns returns-2)

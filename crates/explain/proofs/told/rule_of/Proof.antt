@@ -41,9 +41,6 @@ returns-4 c =
       eq-eqb _ _ (c .if4 .taken),
     )
 
-is-none-requires : tie.Need-is-none-requires
-is-none-requires c κs = search needs
-
 returns-5 : tie.Need-returns-5
 unfolding ruleOf
 returns-5 c =
@@ -70,4 +67,4 @@ returns-6 c =
 
 pub rule-of-spec : {M : Type 1} → statement M
 rule-of-spec =
-    tie.close (tie.spec returns returns-2 returns-3 returns-4 is-none-requires returns-5 returns-6)
+    tie.close (tie.spec returns returns-2 returns-3 returns-4 (λ c κs. search needs) returns-5 returns-6)

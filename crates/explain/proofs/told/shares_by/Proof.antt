@@ -13,18 +13,9 @@ after-is-substituted c = c .before .before .before .before
 
 -- ---- Needs
 
-is-substituted-requires : tie.Need-is-substituted-requires
-is-substituted-requires c κs = search needs
-
-no-shares-requires : tie.Need-no-shares-requires
-no-shares-requires c κs = search needs
-
 returns : tie.Need-returns
 unfolding sharesWith
 returns c = rw (sym (c .before .before .is-substituted .ensures) ∙ not-true _ (c .before .if1 .taken)) (c .no-shares .ensures)
-
-no-shares-requires-2 : tie.Need-no-shares-requires-2
-no-shares-requires-2 c κs = search needs
 
 returns-2 : tie.Need-returns-2
 unfolding sharesWith
@@ -43,9 +34,9 @@ pub shares-by-spec : {M : Type 1} → statement M
 shares-by-spec =
     tie.close
     (tie.spec
-    is-substituted-requires
-    no-shares-requires
+    (λ c κs. search needs)
+    (λ c κs. search needs)
     returns
-    no-shares-requires-2
+    (λ c κs. search needs)
     returns-2
     returns-3)

@@ -14,18 +14,6 @@ after-fit c = c .before .before .before .before .before
 
 -- ---- Needs
 
-rule-of-requires : tie.Need-rule-of-requires
-rule-of-requires c κs = search needs
-
-fit-requires : tie.Need-fit-requires
-fit-requires c κs = search needs
-
-line-by-requires : tie.Need-line-by-requires
-line-by-requires c κs = search needs
-
-shares-by-requires : tie.Need-shares-by-requires
-shares-by-requires c κs = search needs
-
 returns : tie.Need-returns
 unfolding toldWith
 returns c =
@@ -40,4 +28,4 @@ returns c =
 
 pub tell-with-spec : {M : Type 1} → statement M
 tell-with-spec =
-    tie.close (tie.spec rule-of-requires fit-requires line-by-requires shares-by-requires returns)
+    tie.close (tie.spec (λ c κs. search needs) (λ c κs. search needs) (λ c κs. search needs) (λ c κs. search needs) returns)

@@ -10,11 +10,8 @@ returns c = rw (eq-eqb _ _ (c .if1 .taken))
 returns-2 : tie.Need-returns-2
 returns-2 c = rw (ne-eqb _ _ (c .before .if1 .left), eq-eqb _ _ (c .if2 .taken))
 
-is-scaled-requires : tie.Need-is-scaled-requires
-is-scaled-requires c κs = search needs
-
 returns-3 : tie.Need-returns-3
 returns-3 c = rw (ne-eqb _ _ (c .before .before .if1 .left), ne-eqb _ _ (c .before .if2 .left)) (c .is-scaled .ensures)
 
 pub is-filling-spec : {M : Type 1} → statement M
-is-filling-spec = tie.close (tie.spec returns returns-2 is-scaled-requires returns-3)
+is-filling-spec = tie.close (tie.spec returns returns-2 (λ c κs. search needs) returns-3)

@@ -4,9 +4,6 @@ use borrow.Author.Needs.{needs}
 use Rattle.file.proofs.counting.is_zero.Statement.{statement}
 use Rattle.file.proofs.counting.is_zero.Tie as tie
 
-is-form-requires : tie.Need-is-form-requires
-is-form-requires c κs = search needs
-
 returns : tie.Need-returns
 returns c = rw (sym (c .before .before .is-form .ensures) ∙ c .before .if1 .taken)
 
@@ -14,4 +11,4 @@ returns-2 : tie.Need-returns-2
 returns-2 c = rw (sym (c .before .is-form .ensures) ∙ c .if1 .left)
 
 pub is-zero-spec : {M : Type 1} → statement M
-is-zero-spec = tie.close (tie.spec is-form-requires returns returns-2)
+is-zero-spec = tie.close (tie.spec (λ c κs. search needs) returns returns-2)

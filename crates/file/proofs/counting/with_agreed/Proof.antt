@@ -10,24 +10,6 @@ highest c = c .before .before .before .before
 abbrev start : tie.After-higher → tie.Start
 start c = c .before .before .before
 
-both-requires : tie.Need-both-requires
-both-requires c κs = search needs
-
-higher-requires : tie.Need-higher-requires
-higher-requires c κs = search needs
-
-add-t6 : tie.Need-add-t6
-add-t6 c = search needs
-
-add-t7 : tie.Need-add-t7
-add-t7 c = search needs
-
-cast-t8 : tie.Need-cast-t8
-cast-t8 c = search needs
-
-add-t9 : tie.Need-add-t9
-add-t9 c = search needs
-
 returns : tie.Need-returns
 returns c =
     let high = highest c in
@@ -38,4 +20,4 @@ returns c =
 
 pub with-agreed-spec : {M : Type 1} → statement M
 with-agreed-spec =
-    tie.close (tie.spec both-requires higher-requires add-t6 add-t7 cast-t8 add-t9 returns)
+    tie.close (tie.spec (λ c κs. search needs) (λ c κs. search needs) (λ c. search needs) (λ c. search needs) (λ c. search needs) (λ c. search needs) returns)

@@ -4,17 +4,8 @@ use Rattle.file.proofs.Counts.{met-plain}
 use Rattle.file.proofs.counting.with_plain.Statement.{statement}
 use Rattle.file.proofs.counting.with_plain.Tie as tie
 
-add-t3 : tie.Need-add-t3
-add-t3 c = search needs
-
-cast-t4 : tie.Need-cast-t4
-cast-t4 c = search needs
-
-add-t5 : tie.Need-add-t5
-add-t5 c = search needs
-
 returns : tie.Need-returns
 returns c = let s = c .before .before .before in met-plain (s .args .found) (s .args .slot) (s .pre .1)
 
 pub with-plain-spec : {M : Type 1} → statement M
-with-plain-spec = tie.close (tie.spec add-t3 cast-t4 add-t5 returns)
+with-plain-spec = tie.close (tie.spec (λ c. search needs) (λ c. search needs) (λ c. search needs) returns)

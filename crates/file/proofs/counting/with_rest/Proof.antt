@@ -14,24 +14,6 @@ after-both c = c .before .before .before .before
 abbrev start : tie.After-both → tie.Start
 start c = c .before .before
 
-is-zero-requires : tie.Need-is-zero-requires
-is-zero-requires c κs = search needs
-
-both-requires : tie.Need-both-requires
-both-requires c κs = search needs
-
-one-requires : tie.Need-one-requires
-one-requires c κs = search needs
-
-add-t6 : tie.Need-add-t6
-add-t6 c = search needs
-
-cast-t7 : tie.Need-cast-t7
-cast-t7 c = search needs
-
-add-t8 : tie.Need-add-t8
-add-t8 c = search needs
-
 returns : tie.Need-returns
 returns c =
     let one = c .before .before .before in
@@ -42,4 +24,4 @@ returns c =
 
 pub with-rest-spec : {M : Type 1} → statement M
 with-rest-spec =
-    tie.close (tie.spec is-zero-requires both-requires one-requires add-t6 cast-t7 add-t8 returns)
+    tie.close (tie.spec (λ c κs. search needs) (λ c κs. search needs) (λ c κs. search needs) (λ c. search needs) (λ c. search needs) (λ c. search needs) returns)

@@ -14,21 +14,6 @@ after-is-filling c = c .before .before .before .before
 abbrev start : tie.After-both → tie.Start
 start c = c .before .before
 
-is-filling-requires : tie.Need-is-filling-requires
-is-filling-requires c κs = search needs
-
-both-requires : tie.Need-both-requires
-both-requires c κs = search needs
-
-add-t5 : tie.Need-add-t5
-add-t5 c = search needs
-
-cast-t6 : tie.Need-cast-t6
-cast-t6 c = search needs
-
-add-t7 : tie.Need-add-t7
-add-t7 c = search needs
-
 returns : tie.Need-returns
 returns c =
     let tested = c .before .before .before in
@@ -38,4 +23,4 @@ returns c =
 
 pub with-substituted-spec : {M : Type 1} → statement M
 with-substituted-spec =
-    tie.close (tie.spec is-filling-requires both-requires add-t5 cast-t6 add-t7 returns)
+    tie.close (tie.spec (λ c κs. search needs) (λ c κs. search needs) (λ c. search needs) (λ c. search needs) (λ c. search needs) returns)

@@ -3,14 +3,8 @@ use borrow.Author.Needs.{needs}
 use Rattle.file.proofs.slots.also.Statement.{statement}
 use Rattle.file.proofs.slots.also.Tie as tie
 
-returns : tie.Need-returns
-returns c = search needs
-
-is-kind-requires : tie.Need-is-kind-requires
-is-kind-requires c κs = search needs
-
 returns-2 : tie.Need-returns-2
 returns-2 c = rw (c .before .if1 .left) (c .is-kind .ensures)
 
 pub also-spec : {M : Type 1} → statement M
-also-spec = tie.close (tie.spec returns is-kind-requires returns-2)
+also-spec = tie.close (tie.spec (λ c. search needs) (λ c κs. search needs) returns-2)

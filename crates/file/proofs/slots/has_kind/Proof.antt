@@ -32,15 +32,6 @@ at-loop c = c .before .before .before
 loop-holds : tie.Need-loop-holds Inv-loop μ-loop
 loop-holds c = record { inside = search needs; none = any-empty _ _ }
 
-add-slot-at : tie.Need-add-slot-at Inv-loop μ-loop
-add-slot-at c = search needs
-
-slot-at-requires : tie.Need-slot-at-requires Inv-loop μ-loop
-slot-at-requires c κs = search needs
-
-is-kind-requires : tie.Need-is-kind-requires Inv-loop μ-loop
-is-kind-requires c κs = search needs
-
 returns : tie.Need-returns Inv-loop μ-loop
 returns c =
     let args = at-loop (c .before) .before .before .args in
@@ -48,12 +39,6 @@ returns c =
     let is-kind = ap (isKind (args .kind)) (sym (c .before .before .slot-at .ensures)) ∙ sym (c .before .is-kind .ensures) in
     sym (any-some (kindAt (args .file .now) (args .kind)) (args .a) (args .k) (args .a + loop .i) (omega arith) (omega arith)
     (is-kind ∙ c .if1 .taken))
-
-add-i : tie.Need-add-i Inv-loop μ-loop
-add-i c = search needs
-
-loop-less : tie.Need-loop-less Inv-loop μ-loop
-loop-less c = search needs
 
 loop-again : tie.Need-loop-again Inv-loop μ-loop
 loop-again c =
@@ -76,11 +61,11 @@ has-kind-spec =
     Inv-loop
     μ-loop
     loop-holds
-    add-slot-at
-    slot-at-requires
-    is-kind-requires
+    (λ c. search needs)
+    (λ c κs. search needs)
+    (λ c κs. search needs)
     returns
-    add-i
-    loop-less
+    (λ c. search needs)
+    (λ c. search needs)
     loop-again
     returns-2)

@@ -4,24 +4,6 @@ use borrow.Author.Needs.{needs}
 use Rattle.file.proofs.slots.is_kind.Statement.{statement}
 use Rattle.file.proofs.slots.is_kind.Tie as tie
 
-enum-told : tie.Need-enum-told
-enum-told c = search needs
-
-enum-told-2 : tie.Need-enum-told-2
-enum-told-2 c = search needs
-
-enum-told-3 : tie.Need-enum-told-3
-enum-told-3 c = search needs
-
-is-scaled-requires : tie.Need-is-scaled-requires
-is-scaled-requires c κs = search needs
-
-enum-told-4 : tie.Need-enum-told-4
-enum-told-4 c = search needs
-
-is-scaled-requires-2 : tie.Need-is-scaled-requires-2
-is-scaled-requires-2 c κs = search needs
-
 returns : tie.Need-returns
 returns c = rw (c .before .enum-told .given .1)
 
@@ -41,12 +23,12 @@ pub is-kind-spec : {M : Type 1} → statement M
 is-kind-spec =
     tie.close
     (tie.spec
-    enum-told
-    enum-told-2
-    enum-told-3
-    is-scaled-requires
-    enum-told-4
-    is-scaled-requires-2
+    (λ c. search needs)
+    (λ c. search needs)
+    (λ c. search needs)
+    (λ c κs. search needs)
+    (λ c. search needs)
+    (λ c κs. search needs)
     returns
     returns-2
     returns-3

@@ -4,17 +4,11 @@ use borrow.Author.Needs.{needs}
 use Rattle.file.proofs.slots.is_kindless.Statement.{statement}
 use Rattle.file.proofs.slots.is_kindless.Tie as tie
 
-is-plain-requires : tie.Need-is-plain-requires
-is-plain-requires c κs = search needs
-
 returns : tie.Need-returns
 returns c = rw (sym (c .before .is-plain .ensures) ∙ c .if1 .taken)
-
-is-form-requires : tie.Need-is-form-requires
-is-form-requires c κs = search needs
 
 returns-2 : tie.Need-returns-2
 returns-2 c = rw (sym (c .before .before .is-plain .ensures) ∙ c .before .if1 .left) (c .is-form .ensures)
 
 pub is-kindless-spec : {M : Type 1} → statement M
-is-kindless-spec = tie.close (tie.spec is-plain-requires returns is-form-requires returns-2)
+is-kindless-spec = tie.close (tie.spec (λ c κs. search needs) returns (λ c κs. search needs) returns-2)

@@ -3,11 +3,8 @@ use borrow.Author.Needs.{needs}
 use Rattle.file.proofs.slots.is_plain.Statement.{statement}
 use Rattle.file.proofs.slots.is_plain.Tie as tie
 
-is-form-requires : tie.Need-is-form-requires
-is-form-requires c κs = search needs
-
 returns : tie.Need-returns
 returns c = c .is-form .ensures
 
 pub is-plain-spec : {M : Type 1} → statement M
-is-plain-spec = tie.close (tie.spec is-form-requires returns)
+is-plain-spec = tie.close (tie.spec (λ c κs. search needs) returns)

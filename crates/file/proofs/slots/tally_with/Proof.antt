@@ -14,31 +14,10 @@ after-is-kindless c = c .before .before .before .before .before
 abbrev before : tie.After-is-kindless → tie.Start
 before c = c .before .before .before
 
-cast-sum : tie.Need-cast-sum
-cast-sum c = search needs
-
-add-sum : tie.Need-add-sum
-add-sum c = search needs
-
-is-kindless-requires : tie.Need-is-kindless-requires
-is-kindless-requires c κs = search needs
-
 returns : tie.Need-returns
 returns c =
     let args = before (c .before) .args in
     tallied-kindless (args .slot) (sym (c .before .is-kindless .ensures) ∙ c .if1 .taken) (args .found)
-
-also-requires : tie.Need-also-requires
-also-requires c κs = search needs
-
-also-requires-2 : tie.Need-also-requires-2
-also-requires-2 c κs = search needs
-
-also-requires-3 : tie.Need-also-requires-3
-also-requires-3 c κs = search needs
-
-also-requires-4 : tie.Need-also-requires-4
-also-requires-4 c κs = search needs
 
 returns-2 : tie.Need-returns-2
 returns-2 c = λ k. let args = before (after-is-kindless c) .args in record {
@@ -53,12 +32,12 @@ pub tally-with-spec : {M : Type 1} → statement M
 tally-with-spec =
     tie.close
     (tie.spec
-    cast-sum
-    add-sum
-    is-kindless-requires
+    (λ c. search needs)
+    (λ c. search needs)
+    (λ c κs. search needs)
     returns
-    also-requires
-    also-requires-2
-    also-requires-3
-    also-requires-4
+    (λ c κs. search needs)
+    (λ c κs. search needs)
+    (λ c κs. search needs)
+    (λ c κs. search needs)
     returns-2)

@@ -21,12 +21,6 @@ returns c =
     let first : ltb 0 (c .before .before .args .j) ≡ false = le-ltb 0 (c .before .before .args .j) (omega (arith, c .if1 .taken)) in
     rw first
 
-sub-span-at : tie.Need-sub-span-at
-sub-span-at c = search needs
-
-span-at-requires : tie.Need-span-at-requires
-span-at-requires c κs = search needs
-
 returns-2 : tie.Need-returns-2
 returns-2 c =
     let args = start (c .before) .args in
@@ -34,4 +28,4 @@ returns-2 c =
     let later : ltb 0 (args .j) ≡ true = lt-ltb 0 (args .j) (omega (arith, if1 .left)) in rw (later, c .before .span-at .ensures)
 
 pub follows-spec : {M : Type 1} → statement M
-follows-spec = tie.close (tie.spec returns sub-span-at span-at-requires returns-2)
+follows-spec = tie.close (tie.spec returns (λ c. search needs) (λ c κs. search needs) returns-2)

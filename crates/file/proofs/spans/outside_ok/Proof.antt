@@ -29,30 +29,12 @@ after-has-kind2 c = c .before .before .before .before
 lies : (s : tie.Start) (j : ℕ) → j < s .args .g .spans → Inside (s .args .file .now) (s .args .g) j
 lies s j l = inside (s .args .file .now) (s .args .g) (s .pre .0) (s .pre .1) j l
 
-slot-count-requires : tie.Need-slot-count-requires
-slot-count-requires c κs = search needs
-
-cast-m : tie.Need-cast-m
-cast-m c = search needs
-
-has-kind-requires : tie.Need-has-kind-requires
-has-kind-requires c κs = search needs
-
 returns : tie.Need-returns
 returns c =
     let args = start c .args in
     let pre = start c .pre in
     let slot-count = c .before .before .before .slot-count in
     rw (c .has-kind .ensures, slot-count .ensures .0) (no-spans (tablesAt (args .file .now) (args .g)) (pre .1) (c .before .if1 .taken))
-
-per-day-requires : tie.Need-per-day-requires
-per-day-requires c κs = search needs
-
-span-at-requires : tie.Need-span-at-requires
-span-at-requires c κs = search needs
-
-cast-start : tie.Need-cast-start
-cast-start c = search needs
 
 mul-start : tie.Need-mul-start
 mul-start c =
@@ -78,15 +60,6 @@ returns-2 c =
     edge-fails (tablesAt (args .file .now) (args .g)) (pre .1) (args .g .spans - 1)
     (omega (arith, if1 .left)) (rw (c .before .has-kind2 .ensures, span-at .ensures, per-day .ensures .0) at
     (c .if2 .taken))
-
-sub-span-at : tie.Need-sub-span-at
-sub-span-at c = search needs
-
-span-at-requires-2 : tie.Need-span-at-requires-2
-span-at-requires-2 c κs = search needs
-
-cast-end : tie.Need-cast-end
-cast-end c = search needs
 
 mul-end : tie.Need-mul-end
 mul-end c =
@@ -143,19 +116,19 @@ pub outside-ok-spec : {M : Type 1} → statement M
 outside-ok-spec =
     tie.close
     (tie.spec
-    slot-count-requires
-    cast-m
-    has-kind-requires
+    (λ c κs. search needs)
+    (λ c. search needs)
+    (λ c κs. search needs)
     returns
-    per-day-requires
-    span-at-requires
-    cast-start
+    (λ c κs. search needs)
+    (λ c κs. search needs)
+    (λ c. search needs)
     mul-start
     has-kind-requires-2
     returns-2
-    sub-span-at
-    span-at-requires-2
-    cast-end
+    (λ c. search needs)
+    (λ c κs. search needs)
+    (λ c. search needs)
     mul-end
     sub-has-kind
     has-kind-requires-3

@@ -15,18 +15,6 @@ start c = c .before .before .before
 
 -- ---- Needs
 
-slot-count-requires : tie.Need-slot-count-requires
-slot-count-requires c κs = search needs
-
-mul-table : tie.Need-mul-table
-mul-table c = search needs
-
-mul-ranged-from : tie.Need-mul-ranged-from
-mul-ranged-from c = search needs
-
-add-ranged-from : tie.Need-add-ranged-from
-add-ranged-from c = search needs
-
 ranged-from-requires : tie.Need-ranged-from-requires
 ranged-from-requires c κs =
     let begun = start (c .before) in
@@ -41,12 +29,6 @@ returns c =
       eq-eqb (start (c .before .before) .args .g .layout) 3 (c .before .if1 .taken),
       c .before .before .before .slot-count .ensures .0,
     ))
-
-mul-exact-from : tie.Need-mul-exact-from
-mul-exact-from c = search needs
-
-add-exact-from : tie.Need-add-exact-from
-add-exact-from c = search needs
 
 exact-from-requires : tie.Need-exact-from-requires
 exact-from-requires c κs =
@@ -64,13 +46,13 @@ pub span-at-spec : {M : Type 1} → statement M
 span-at-spec =
     tie.close
     (tie.spec
-    slot-count-requires
-    mul-table
-    mul-ranged-from
-    add-ranged-from
+    (λ c κs. search needs)
+    (λ c. search needs)
+    (λ c. search needs)
+    (λ c. search needs)
     ranged-from-requires
     returns
-    mul-exact-from
-    add-exact-from
+    (λ c. search needs)
+    (λ c. search needs)
     exact-from-requires
     returns-2)

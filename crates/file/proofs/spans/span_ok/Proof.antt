@@ -16,9 +16,6 @@ passed1-follows c = c .before .before .before .before
 
 -- ---- Needs
 
-span-at-requires : tie.Need-span-at-requires
-span-at-requires c κs = search needs
-
 returns : tie.Need-returns
 unfolding spanOk
 returns c = simp (le-ltb _ _ (rw (c .before .before .span-at .ensures) at (c .if1 .taken)))
@@ -31,9 +28,6 @@ returns-2 c =
       lt-leb _ _ (rw (passed1 c .before .before .span-at .ensures) at (c .if2 .taken)),
     )
 
-follows-requires : tie.Need-follows-requires
-follows-requires c κs = search needs
-
 returns-3 : tie.Need-returns-3
 unfolding spanOk
 returns-3 c =
@@ -43,9 +37,6 @@ returns-3 c =
       le-leb _ _ (rw (past1 .before .before .span-at .ensures) at (c .before .before .if2 .left)),
       rw (past1 .before .before .span-at .ensures) at (sym (c .before .follows .ensures) ∙ not-true _ (c .if3 .taken)),
     )
-
-fields-ok-requires : tie.Need-fields-ok-requires
-fields-ok-requires c κs = search needs
 
 returns-4 : tie.Need-returns-4
 unfolding spanOk
@@ -63,10 +54,10 @@ pub span-ok-spec : {M : Type 1} → statement M
 span-ok-spec =
     tie.close
     (tie.spec
-    span-at-requires
+    (λ c κs. search needs)
     returns
     returns-2
-    follows-requires
+    (λ c κs. search needs)
     returns-3
-    fields-ok-requires
+    (λ c κs. search needs)
     returns-4)

@@ -29,14 +29,8 @@ start c = c .before .before .before
 
 -- ---- Needs
 
-cast-m : tie.Need-cast-m Inv-loop μ-loop
-cast-m c = search needs
-
 loop-holds : tie.Need-loop-holds Inv-loop μ-loop
 loop-holds c = record { inside = search needs; known = rw sub-zero }
-
-span-ok-requires : tie.Need-span-ok-requires Inv-loop μ-loop
-span-ok-requires c κs = search needs
 
 returns : tie.Need-returns Inv-loop μ-loop
 returns c =
@@ -45,12 +39,6 @@ returns c =
     let l = loop in
     sym (l .inv .known ∙ all-fails _ (l .j) (args .g .spans) (search needs)
     (sym (c .before .span-ok .ensures) ∙ not-true _ (c .if1 .taken)))
-
-add-j : tie.Need-add-j Inv-loop μ-loop
-add-j c = search needs
-
-loop-less : tie.Need-loop-less Inv-loop μ-loop
-loop-less c = search needs
 
 loop-again : tie.Need-loop-again Inv-loop μ-loop
 loop-again c =
@@ -73,11 +61,11 @@ spans-ok-spec =
     (tie.spec
     Inv-loop
     μ-loop
-    cast-m
+    (λ c. search needs)
     loop-holds
-    span-ok-requires
+    (λ c κs. search needs)
     returns
-    add-j
-    loop-less
+    (λ c. search needs)
+    (λ c. search needs)
     loop-again
     returns-2)

@@ -24,15 +24,6 @@ inside : (s : tie.Start) → Room (s .args .file .now) (s .args .g)
     ≤ fileSlots (s .args .g))
 inside s = (room _ _ (s .pre .0), ends (tablesAt (s .args .file .now) (s .args .g)) (s .args .j) (s .pre .2))
 
-span-at-requires : tie.Need-span-at-requires
-span-at-requires c κs = search needs
-
-per-day-requires : tie.Need-per-day-requires
-per-day-requires c κs = search needs
-
-cast-a : tie.Need-cast-a
-cast-a c = search needs
-
 mul-a : tie.Need-mul-a
 mul-a c = rw (c .before .before .span-at .ensures, c .before .per-day .ensures .0) (omega (arith, inside (start (c .before))))
 
@@ -41,9 +32,6 @@ sub-k c =
     let begun = start (c .before .before) in
     rw (c .before .before .before .span-at .ensures)
     (omega (arith, ordered (tablesAt (begun .args .file .now) (begun .args .g)) (begun .args .j) (begun .pre .2)))
-
-cast-k : tie.Need-cast-k
-cast-k c = search needs
 
 mul-k : tie.Need-mul-k
 mul-k c =
@@ -54,12 +42,6 @@ tally-of-requires : tie.Need-tally-of-requires
 tally-of-requires c κs =
     rw (c .before .before .before .span-at .ensures, c .before .before .per-day .ensures .0)
     (omega (arith, inside (start (c .before .before))))
-
-is-within-requires : tie.Need-is-within-requires
-is-within-requires c κs = search needs
-
-state-rule-requires : tie.Need-state-rule-requires
-state-rule-requires c κs = search needs
 
 returns : tie.Need-returns
 unfolding stateOk talliedIn
@@ -75,14 +57,14 @@ pub state-ok-spec : {M : Type 1} → statement M
 state-ok-spec =
     tie.close
     (tie.spec
-    span-at-requires
-    per-day-requires
-    cast-a
+    (λ c κs. search needs)
+    (λ c κs. search needs)
+    (λ c. search needs)
     mul-a
     sub-k
-    cast-k
+    (λ c. search needs)
     mul-k
     tally-of-requires
-    is-within-requires
-    state-rule-requires
+    (λ c κs. search needs)
+    (λ c κs. search needs)
     returns)

@@ -19,9 +19,6 @@ passed2 c = c .before .before .before .before
 
 -- ---- Needs
 
-is-interval-requires : tie.Need-is-interval-requires
-is-interval-requires c κs = search needs
-
 returns : tie.Need-returns
 returns c = simp (sym (c .before .is-interval .ensures) ∙ not-true _ (c .if1 .taken))
 
@@ -36,18 +33,6 @@ returns-3 c =
     let if2 = c .before .before .if2 in
     simp (sym (is-interval .ensures) ∙ not-false _ (if1 .left), le-leb _ _ (if2 .left), lt-leb _ _ (c .if3 .taken))
 
-cast-result : tie.Need-cast-result
-cast-result c = search needs
-
-cast-result-2 : tie.Need-cast-result-2
-cast-result-2 c = search needs
-
-add-result : tie.Need-add-result
-add-result c = search needs
-
-cast-result-3 : tie.Need-cast-result-3
-cast-result-3 c = search needs
-
 returns-4 : tie.Need-returns-4
 returns-4 c =
     let past2 = passed2 c in
@@ -61,12 +46,12 @@ pub head-ok-spec : {M : Type 1} → statement M
 head-ok-spec =
     tie.close
     (tie.spec
-    is-interval-requires
+    (λ c κs. search needs)
     returns
     returns-2
     returns-3
-    cast-result
-    cast-result-2
-    add-result
-    cast-result-3
+    (λ c. search needs)
+    (λ c. search needs)
+    (λ c. search needs)
+    (λ c. search needs)
     returns-4)

@@ -6,12 +6,6 @@ use Rattle.file.proofs.Head.{slots-le}
 use Rattle.file.proofs.trailer.slot_count.Statement.{statement}
 use Rattle.file.proofs.trailer.slot_count.Tie as tie
 
-per-day-requires : tie.Need-per-day-requires
-per-day-requires c κs = search needs
-
-cast-result : tie.Need-cast-result
-cast-result c = search needs
-
 mul-result : tie.Need-mul-result
 mul-result c =
     let g = c .before .before .args .g in
@@ -23,4 +17,4 @@ returns c =
     rw (c .before .per-day .ensures .0) (refl, slots-le (g .first) (g .days) (g .interval) (c .before .before .pre))
 
 pub slot-count-spec : {M : Type 1} → statement M
-slot-count-spec = tie.close (tie.spec per-day-requires cast-result mul-result returns)
+slot-count-spec = tie.close (tie.spec (λ c κs. search needs) (λ c. search needs) mul-result returns)

@@ -30,18 +30,9 @@ passed2-slot-count c = passed2-passed3 (c .before)
 
 -- ---- Needs
 
-sub-t : tie.Need-sub-t
-sub-t c = search needs
-
-head-ok-requires : tie.Need-head-ok-requires
-head-ok-requires c κs = search needs
-
 returns : tie.Need-returns
 unfolding trailerOk
 returns c = simp (le-leb _ _ ((c .before .before .before) .pre), sym (c .before .head-ok .ensures) ∙ not-true _ (c .if1 .taken))
-
-is-layout-requires : tie.Need-is-layout-requires
-is-layout-requires c κs = search needs
 
 returns-2 : tie.Need-returns-2
 unfolding trailerOk
@@ -54,15 +45,6 @@ returns-2 c =
       sym (head-ok .ensures) ∙ not-false _ (if1 .left),
       sym (c .before .is-layout .ensures) ∙ not-true _ (c .if2 .taken),
     )
-
-add-number : tie.Need-add-number
-add-number c = search needs
-
-number-requires : tie.Need-number-requires
-number-requires c κs = search needs
-
-span-bytes-requires : tie.Need-span-bytes-requires
-span-bytes-requires c κs = search needs
 
 returns-3 : tie.Need-returns-3
 unfolding trailerOk
@@ -80,15 +62,6 @@ returns-3 c =
 
 slot-count-requires : tie.Need-slot-count-requires
 slot-count-requires c κs = sym (after-head-ok c .head-ok .ensures) ∙ not-false _ (passed2-passed3 c .before .before .if1 .left)
-
-mul-result : tie.Need-mul-result
-mul-result c = search needs
-
-add-result : tie.Need-add-result
-add-result c = search needs
-
-add-result-2 : tie.Need-add-result-2
-add-result-2 c = search needs
 
 returns-4 : tie.Need-returns-4
 unfolding trailerOk
@@ -111,17 +84,17 @@ pub trailer-ok-spec : {M : Type 1} → statement M
 trailer-ok-spec =
     tie.close
     (tie.spec
-    sub-t
-    head-ok-requires
+    (λ c. search needs)
+    (λ c κs. search needs)
     returns
-    is-layout-requires
+    (λ c κs. search needs)
     returns-2
-    add-number
-    number-requires
-    span-bytes-requires
+    (λ c. search needs)
+    (λ c κs. search needs)
+    (λ c κs. search needs)
     returns-3
     slot-count-requires
-    mul-result
-    add-result
-    add-result-2
+    (λ c. search needs)
+    (λ c. search needs)
+    (λ c. search needs)
     returns-4)

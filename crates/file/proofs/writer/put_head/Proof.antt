@@ -18,30 +18,6 @@ after-put c = c .before .before .before .before .before .before
 
 -- ---- Needs
 
-put-days-requires : tie.Need-put-days-requires
-put-days-requires c κs = search needs
-
-add-put : tie.Need-add-put
-add-put c = search needs
-
-cast-put : tie.Need-cast-put
-cast-put c = search needs
-
-put-requires : tie.Need-put-requires
-put-requires c κs = search needs
-
-add-put-2 : tie.Need-add-put-2
-add-put-2 c = search needs
-
-cast-put-2 : tie.Need-cast-put-2
-cast-put-2 c = search needs
-
-put-requires-2 : tie.Need-put-requires-2
-put-requires-2 c κs = search needs
-
-same-length : tie.Need-same-length
-same-length c = search needs
-
 returns : tie.Need-returns
 returns c =
     let at-put = after-put (c .before) in
@@ -58,12 +34,12 @@ pub put-head-spec : {M : Type 1} → statement M
 put-head-spec =
     tie.close
     (tie.spec
-    put-days-requires
-    add-put
-    cast-put
-    put-requires
-    add-put-2
-    cast-put-2
-    put-requires-2
-    same-length
+    (λ c κs. search needs)
+    (λ c. search needs)
+    (λ c. search needs)
+    (λ c κs. search needs)
+    (λ c. search needs)
+    (λ c. search needs)
+    (λ c κs. search needs)
+    (λ c. search needs)
     returns)

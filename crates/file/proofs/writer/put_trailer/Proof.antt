@@ -16,18 +16,6 @@ after-put-head c = c .before .before .before .before .before
 
 -- ---- Needs
 
-put-head-requires : tie.Need-put-head-requires
-put-head-requires c κs = search needs
-
-add-put-counts : tie.Need-add-put-counts
-add-put-counts c = search needs
-
-put-counts-requires : tie.Need-put-counts-requires
-put-counts-requires c κs = search needs
-
-same-length : tie.Need-same-length
-same-length c = search needs
-
 returns : tie.Need-returns
 returns c =
     let before = after-put-head (c .before) .before .before .before in
@@ -40,4 +28,4 @@ returns c =
 
 pub put-trailer-spec : {M : Type 1} → statement M
 put-trailer-spec =
-    tie.close (tie.spec put-head-requires add-put-counts put-counts-requires same-length returns)
+    tie.close (tie.spec (λ c κs. search needs) (λ c. search needs) (λ c κs. search needs) (λ c. search needs) returns)

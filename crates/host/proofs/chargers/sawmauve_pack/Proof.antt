@@ -5,18 +5,9 @@ use Rattle.base.specs.Refusals.{codeOf}
 use Rattle.host.proofs.chargers.sawmauve_pack.Statement.{statement}
 use Rattle.host.proofs.chargers.sawmauve_pack.Tie as tie
 
-pack-requires : tie.Need-pack-requires
-pack-requires c κs = search needs
-
-code-of-requires : tie.Need-code-of-requires
-code-of-requires c κs = search needs
-
-same-length : tie.Need-same-length
-same-length c = search needs
-
 returns : tie.Need-returns
 returns c = (c .code-of .ensures ∙ ap codeOf (c .before .before .before .pack .ensures .0), c .before .before .before .pack .ensures .1)
 
 pub sawmauve-pack-spec : {M : Type 1} → statement M
 sawmauve-pack-spec =
-    tie.close (tie.spec pack-requires code-of-requires same-length returns)
+    tie.close (tie.spec (λ c κs. search needs) (λ c κs. search needs) (λ c. search needs) returns)

@@ -5,21 +5,6 @@ use Rattle.host.specs.Conversions.{unpackCode}
 use Rattle.host.proofs.chargers.sawmauve_unpack.Statement.{statement}
 use Rattle.host.proofs.chargers.sawmauve_unpack.Tie as tie
 
-unpack-requires : tie.Need-unpack-requires
-unpack-requires c κs = search needs
-
-enum-known-unpacked : tie.Need-enum-known-unpacked
-enum-known-unpacked c = search needs
-
-enum-known-unpacked-2 : tie.Need-enum-known-unpacked-2
-enum-known-unpacked-2 c = search needs
-
-cast-result : tie.Need-cast-result
-cast-result c = search needs
-
-add-result : tie.Need-add-result
-add-result c = search needs
-
 returns : tie.Need-returns
 returns c = ap unpackCode (sym (c .before .unpacked .given .1) ∙ c .before .before .before .unpack .ensures)
 
@@ -30,10 +15,10 @@ pub sawmauve-unpack-spec : {M : Type 1} → statement M
 sawmauve-unpack-spec =
     tie.close
     (tie.spec
-    unpack-requires
-    enum-known-unpacked
-    enum-known-unpacked-2
-    cast-result
-    add-result
+    (λ c κs. search needs)
+    (λ c. search needs)
+    (λ c. search needs)
+    (λ c. search needs)
+    (λ c. search needs)
     returns
     returns-2)

@@ -5,14 +5,8 @@ use Rattle.host.specs.Codes.{readCode}
 use Rattle.host.proofs.files.sawmauve_check.Statement.{statement}
 use Rattle.host.proofs.files.sawmauve_check.Tie as tie
 
-read-requires : tie.Need-read-requires
-read-requires c κs = search needs
-
-read-code-requires : tie.Need-read-code-requires
-read-code-requires c κs = search needs
-
 returns : tie.Need-returns
 returns c = c .read-code .ensures ∙ ap readCode (c .before .read .ensures)
 
 pub sawmauve-check-spec : {M : Type 1} → statement M
-sawmauve-check-spec = tie.close (tie.spec read-requires read-code-requires returns)
+sawmauve-check-spec = tie.close (tie.spec (λ c κs. search needs) (λ c κs. search needs) returns)

@@ -12,18 +12,6 @@ after-head-of c = c .before .before .before .before .before
 
 -- ---- Needs
 
-head-of-requires : tie.Need-head-of-requires
-head-of-requires c κs = search needs
-
-publish-requires : tie.Need-publish-requires
-publish-requires c κs = search needs
-
-published-code-requires : tie.Need-published-code-requires
-published-code-requires c κs = search needs
-
-same-length : tie.Need-same-length
-same-length c = search needs
-
 returns : tie.Need-returns
 returns c =
     let o = c .before .before .before in
@@ -34,8 +22,8 @@ pub sawmauve-publish-spec : {M : Type 1} → statement M
 sawmauve-publish-spec =
     tie.close
     (tie.spec
-    head-of-requires
-    publish-requires
-    published-code-requires
-    same-length
+    (λ c κs. search needs)
+    (λ c κs. search needs)
+    (λ c κs. search needs)
+    (λ c. search needs)
     returns)

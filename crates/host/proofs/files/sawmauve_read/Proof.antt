@@ -41,50 +41,17 @@ returns : tie.Need-returns
 unfolding readAnswer figuresAfter
 returns c = rw (ne-eqb _ _ (c .if1 .taken)) (refl, refl)
 
-read-requires : tie.Need-read-requires
-read-requires c κs = search needs
-
-enum-known-verdict : tie.Need-enum-known-verdict
-enum-known-verdict c = search needs
-
-cast-figures : tie.Need-cast-figures
-cast-figures c = search needs
-
-slice-write-figures : tie.Need-slice-write-figures
-slice-write-figures c = search needs
-
-cast-figures-2 : tie.Need-cast-figures-2
-cast-figures-2 c = search needs
-
-slice-write-figures-2 : tie.Need-slice-write-figures-2
-slice-write-figures-2 c = search needs
-
-cast-figures-3 : tie.Need-cast-figures-3
-cast-figures-3 c = search needs
-
 slice-write-figures-3 : tie.Need-slice-write-figures-3
 slice-write-figures-3 c = simp length-set (omega arith)
-
-cast-figures-4 : tie.Need-cast-figures-4
-cast-figures-4 c = search needs
 
 slice-write-figures-4 : tie.Need-slice-write-figures-4
 slice-write-figures-4 c = simp length-set (omega arith)
 
-cast-figures-5 : tie.Need-cast-figures-5
-cast-figures-5 c = search needs
-
 slice-write-figures-5 : tie.Need-slice-write-figures-5
 slice-write-figures-5 c = simp length-set (omega arith)
 
-cast-figures-6 : tie.Need-cast-figures-6
-cast-figures-6 c = search needs
-
 slice-write-figures-6 : tie.Need-slice-write-figures-6
 slice-write-figures-6 c = simp length-set (omega arith)
-
-cast-figures-7 : tie.Need-cast-figures-7
-cast-figures-7 c = search needs
 
 slice-write-figures-7 : tie.Need-slice-write-figures-7
 slice-write-figures-7 c = simp length-set (omega arith)
@@ -92,17 +59,8 @@ slice-write-figures-7 c = simp length-set (omega arith)
 slice-write-figures-8 : tie.Need-slice-write-figures-8
 slice-write-figures-8 c = simp length-set (omega arith)
 
-cast-figures-8 : tie.Need-cast-figures-8
-cast-figures-8 c = search needs
-
 slice-write-figures-9 : tie.Need-slice-write-figures-9
 slice-write-figures-9 c = simp length-set (omega (arith, after-verdict c .before .before .before .if1 .left))
-
-enum-known-verdict-2 : tie.Need-enum-known-verdict-2
-enum-known-verdict-2 c = search needs
-
-cast-result : tie.Need-cast-result
-cast-result c = search needs
 
 same-length : tie.Need-same-length
 same-length c = simp length-set (omega arith)
@@ -130,27 +88,27 @@ sawmauve-read-spec =
     tie.close
     (tie.spec
     returns
-    read-requires
-    enum-known-verdict
-    cast-figures
-    slice-write-figures
-    cast-figures-2
-    slice-write-figures-2
-    cast-figures-3
+    (λ c κs. search needs)
+    (λ c. search needs)
+    (λ c. search needs)
+    (λ c. search needs)
+    (λ c. search needs)
+    (λ c. search needs)
+    (λ c. search needs)
     slice-write-figures-3
-    cast-figures-4
+    (λ c. search needs)
     slice-write-figures-4
-    cast-figures-5
+    (λ c. search needs)
     slice-write-figures-5
-    cast-figures-6
+    (λ c. search needs)
     slice-write-figures-6
-    cast-figures-7
+    (λ c. search needs)
     slice-write-figures-7
     slice-write-figures-8
-    cast-figures-8
+    (λ c. search needs)
     slice-write-figures-9
-    enum-known-verdict-2
-    cast-result
+    (λ c. search needs)
+    (λ c. search needs)
     same-length
     returns-2
     returns-3)

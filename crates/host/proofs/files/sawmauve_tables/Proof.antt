@@ -5,11 +5,8 @@ use borrow.Author.Needs.{needs}
 use Rattle.host.proofs.files.sawmauve_tables.Statement.{statement}
 use Rattle.host.proofs.files.sawmauve_tables.Tie as tie
 
-tables-requires : tie.Need-tables-requires
-tables-requires c κs = search needs
-
 returns : tie.Need-returns
 returns c = ap length (c .tables .ensures)
 
 pub sawmauve-tables-spec : {M : Type 1} → statement M
-sawmauve-tables-spec = tie.close (tie.spec tables-requires returns)
+sawmauve-tables-spec = tie.close (tie.spec (λ c κs. search needs) returns)

@@ -5,21 +5,6 @@ use Rattle.host.specs.Limits.{limitCode}
 use Rattle.host.proofs.limits.sawmauve_limit.Statement.{statement}
 use Rattle.host.proofs.limits.sawmauve_limit.Tie as tie
 
-load-requires : tie.Need-load-requires
-load-requires c κs = search needs
-
-enum-known-loaded : tie.Need-enum-known-loaded
-enum-known-loaded c = search needs
-
-enum-known-loaded-2 : tie.Need-enum-known-loaded-2
-enum-known-loaded-2 c = search needs
-
-cast-result : tie.Need-cast-result
-cast-result c = search needs
-
-add-result : tie.Need-add-result
-add-result c = search needs
-
 returns : tie.Need-returns
 returns c = ap limitCode (sym (c .before .loaded .given .1) ∙ c .before .before .before .load .ensures)
 
@@ -30,10 +15,10 @@ pub sawmauve-limit-spec : {M : Type 1} → statement M
 sawmauve-limit-spec =
     tie.close
     (tie.spec
-    load-requires
-    enum-known-loaded
-    enum-known-loaded-2
-    cast-result
-    add-result
+    (λ c κs. search needs)
+    (λ c. search needs)
+    (λ c. search needs)
+    (λ c. search needs)
+    (λ c. search needs)
     returns
     returns-2)

@@ -12,18 +12,6 @@ after-codes-of c = c .before .before .before .before .before
 
 -- ---- Needs
 
-codes-of-requires : tie.Need-codes-of-requires
-codes-of-requires c κs = search needs
-
-nem12-requires : tie.Need-nem12-requires
-nem12-requires c κs = search needs
-
-exported-code-requires : tie.Need-exported-code-requires
-exported-code-requires c κs = search needs
-
-same-length : tie.Need-same-length
-same-length c = search needs
-
 returns : tie.Need-returns
 returns c =
     let o = c .before .before .before in
@@ -33,4 +21,4 @@ returns c =
 pub sawmauve-nem12-spec : {M : Type 1} → statement M
 sawmauve-nem12-spec =
     tie.close
-    (tie.spec codes-of-requires nem12-requires exported-code-requires same-length returns)
+    (tie.spec (λ c κs. search needs) (λ c κs. search needs) (λ c κs. search needs) (λ c. search needs) returns)

@@ -5,15 +5,6 @@ use Rattle.base.specs.Refusals.{codeOf}
 use Rattle.host.proofs.storage.sawmauve_from_strips.Statement.{statement}
 use Rattle.host.proofs.storage.sawmauve_from_strips.Tie as tie
 
-from-strips-requires : tie.Need-from-strips-requires
-from-strips-requires c κs = search needs
-
-code-of-requires : tie.Need-code-of-requires
-code-of-requires c κs = search needs
-
-same-length : tie.Need-same-length
-same-length c = search needs
-
 returns : tie.Need-returns
 returns c =
     let laid = c .before .before .before .from-strips .ensures in
@@ -21,4 +12,4 @@ returns c =
 
 pub sawmauve-from-strips-spec : {M : Type 1} → statement M
 sawmauve-from-strips-spec =
-    tie.close (tie.spec from-strips-requires code-of-requires same-length returns)
+    tie.close (tie.spec (λ c κs. search needs) (λ c κs. search needs) (λ c. search needs) returns)

@@ -7,18 +7,12 @@ use borrow.Author.Needs.{needs}
 use Rattle.line.proofs.writing.ahead.Statement.{statement}
 use Rattle.line.proofs.writing.ahead.Tie as tie
 
-sub-if1 : tie.Need-sub-if1
-sub-if1 c = search needs
-
 returns : tie.Need-returns
 returns c = sym (capped-high _ (omega arith))
-
-add-result : tie.Need-add-result
-add-result c = search needs
 
 returns-2 : tie.Need-returns-2
 returns-2 c = let fits : c .before .args .at + c .before .args .k < 2 ^ 64 = search needs in
     sym (capped-low _ fits)
 
 pub ahead-spec : {M : Type 1} → statement M
-ahead-spec = tie.close (tie.spec sub-if1 returns add-result returns-2)
+ahead-spec = tie.close (tie.spec (λ c. search needs) returns (λ c. search needs) returns-2)

@@ -25,12 +25,6 @@ loop-holds c = record { low = search needs; high = search needs; known = omega a
 returns : tie.Need-returns Inv-loop μ-loop
 returns c = let l = c .before .before .loop in omega (arith, l .inv .known, places-small (20 - l .k) (l .rest) (search needs))
 
-add-k : tie.Need-add-k Inv-loop μ-loop
-add-k c = search needs
-
-loop-less : tie.Need-loop-less Inv-loop μ-loop
-loop-less c = search needs
-
 loop-again : tie.Need-loop-again Inv-loop μ-loop
 loop-again c =
     let loop = c .before .before .loop in
@@ -48,4 +42,4 @@ returns-2 c = let l = c .before .loop in
 
 pub places-spec : {M : Type 1} → statement M
 places-spec =
-    tie.close (tie.spec Inv-loop μ-loop loop-holds returns add-k loop-less loop-again returns-2)
+    tie.close (tie.spec Inv-loop μ-loop loop-holds returns (λ c. search needs) (λ c. search needs) loop-again returns-2)

@@ -35,21 +35,6 @@ at-loop c = c .before .before .before .before
 loop-holds : tie.Need-loop-holds Inv-loop μ-loop
 loop-holds c = record { inside = search needs; known = refl }
 
-sub-j : tie.Need-sub-j Inv-loop μ-loop
-sub-j c = search needs
-
-cast-put-byte : tie.Need-cast-put-byte Inv-loop μ-loop
-cast-put-byte c = search needs
-
-add-put-byte : tie.Need-add-put-byte Inv-loop μ-loop
-add-put-byte c = search needs
-
-put-byte-requires : tie.Need-put-byte-requires Inv-loop μ-loop
-put-byte-requires c κs = search needs
-
-loop-less : tie.Need-loop-less Inv-loop μ-loop
-loop-less c = search needs
-
 loop-again : tie.Need-loop-again Inv-loop μ-loop
 loop-again c =
     let looped = at-loop (c .before) in
@@ -59,9 +44,6 @@ loop-again c =
           digits-less _ (looped .loop .out) _ (looped .before .before .args .at) (looped .loop .j) (looped .loop .rest) (search needs)
           (looped .loop .inv .known) (c .before .before .put-byte .ensures);
     }
-
-ahead-requires : tie.Need-ahead-requires Inv-loop μ-loop
-ahead-requires c κs = search needs
 
 same-length : tie.Need-same-length Inv-loop μ-loop
 same-length c =
@@ -86,12 +68,12 @@ put-digits-spec =
     Inv-loop
     μ-loop
     loop-holds
-    sub-j
-    cast-put-byte
-    add-put-byte
-    put-byte-requires
-    loop-less
+    (λ c. search needs)
+    (λ c. search needs)
+    (λ c. search needs)
+    (λ c κs. search needs)
+    (λ c. search needs)
     loop-again
-    ahead-requires
+    (λ c κs. search needs)
     same-length
     returns)

@@ -38,18 +38,6 @@ loop-holds c =
       known = text-none (c .before .before .args .out .now) (c .before .before .args .at) (c .before .before .args .text .now);
     }
 
-shared-slice-read-put-byte : tie.Need-shared-slice-read-put-byte Inv-loop μ-loop
-shared-slice-read-put-byte c = search needs
-
-put-byte-requires : tie.Need-put-byte-requires Inv-loop μ-loop
-put-byte-requires c κs = search needs
-
-add-i : tie.Need-add-i Inv-loop μ-loop
-add-i c = search needs
-
-loop-less : tie.Need-loop-less Inv-loop μ-loop
-loop-less c = search needs
-
 loop-again : tie.Need-loop-again Inv-loop μ-loop
 loop-again c =
     let looped = at-loop (c .before) in
@@ -59,9 +47,6 @@ loop-again c =
           text-more _ (looped .loop .out) _ (looped .before .before .before .args .text .now) (looped .before .before .before .args .at)
           (looped .loop .i) (search needs) (looped .loop .inv .known) (c .before .before .put-byte .ensures);
     }
-
-ahead-requires : tie.Need-ahead-requires Inv-loop μ-loop
-ahead-requires c κs = search needs
 
 same-length : tie.Need-same-length Inv-loop μ-loop
 same-length c = ap length (c .before .before .loop .inv .known) ∙ length-stored _ _ _
@@ -83,11 +68,11 @@ put-text-spec =
     Inv-loop
     μ-loop
     loop-holds
-    shared-slice-read-put-byte
-    put-byte-requires
-    add-i
-    loop-less
+    (λ c. search needs)
+    (λ c κs. search needs)
+    (λ c. search needs)
+    (λ c. search needs)
     loop-again
-    ahead-requires
+    (λ c κs. search needs)
     same-length
     returns)

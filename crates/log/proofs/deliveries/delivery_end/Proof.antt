@@ -6,23 +6,11 @@ use Rattle.log.proofs.OnePass.{delivery-of}
 use Rattle.log.proofs.deliveries.delivery_end.Statement.{statement}
 use Rattle.log.proofs.deliveries.delivery_end.Tie as tie
 
-sub-if1 : tie.Need-sub-if1
-sub-if1 c = search needs
-
 returns : tie.Need-returns
 returns c = λ some. absurd (some refl)
 
-add-from : tie.Need-add-from
-add-from c = search needs
-
-is-delivery-requires : tie.Need-is-delivery-requires
-is-delivery-requires c κs = search needs
-
 returns-2 : tie.Need-returns-2
 returns-2 c = λ some. absurd (some refl)
-
-numbers-end-requires : tie.Need-numbers-end-requires
-numbers-end-requires c κs = search needs
 
 returns-3 : tie.Need-returns-3
 returns-3 c = λ some.
@@ -37,10 +25,10 @@ pub delivery-end-spec : {M : Type 1} → statement M
 delivery-end-spec =
     tie.close
     (tie.spec
-    sub-if1
+    (λ c. search needs)
     returns
-    add-from
-    is-delivery-requires
+    (λ c. search needs)
+    (λ c κs. search needs)
     returns-2
-    numbers-end-requires
+    (λ c κs. search needs)
     returns-3)

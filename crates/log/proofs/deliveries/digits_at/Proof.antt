@@ -29,14 +29,8 @@ start c = c .before .before
 room : (c : tie.Else2 Inv-loop μ-loop) → start (turn c) .args .from + 9 ≤ length (start (turn c) .args .bytes .now)
 room c = start (turn c) .pre
 
-add-stop : tie.Need-add-stop Inv-loop μ-loop
-add-stop c = search needs
-
 loop-holds : tie.Need-loop-holds Inv-loop μ-loop
 loop-holds c = few-begin (c .pre)
-
-shared-slice-read-byte : tie.Need-shared-slice-read-byte Inv-loop μ-loop
-shared-slice-read-byte c = search needs
 
 returns : tie.Need-returns Inv-loop μ-loop
 returns c = c .before .before .before .loop .inv .digits
@@ -47,17 +41,8 @@ returns-2 c = at-loop c .loop .inv .digits
 mul-value : tie.Need-mul-value Inv-loop μ-loop
 mul-value c = omega (arith, few-eight (room c) (turn c .before .loop .inv) (turn c .loop-test .taken))
 
-cast-value : tie.Need-cast-value Inv-loop μ-loop
-cast-value c = search needs
-
 add-value : tie.Need-add-value Inv-loop μ-loop
 add-value c = omega (arith, few-eight (room c) (turn c .before .loop .inv) (turn c .loop-test .taken), c .if2 .left)
-
-add-i : tie.Need-add-i Inv-loop μ-loop
-add-i c = search needs
-
-loop-less : tie.Need-loop-less Inv-loop μ-loop
-loop-less c = search needs
 
 loop-again : tie.Need-loop-again Inv-loop μ-loop
 loop-again c = few-next (room c) (turn c .before .loop .inv) (turn c .loop-test .taken) (c .before .if1 .left) (omega (arith, c .if2 .left))
@@ -74,15 +59,15 @@ digits-at-spec =
     (tie.spec
     Inv-loop
     μ-loop
-    add-stop
+    (λ c. search needs)
     loop-holds
-    shared-slice-read-byte
+    (λ c. search needs)
     returns
     returns-2
     mul-value
-    cast-value
+    (λ c. search needs)
     add-value
-    add-i
-    loop-less
+    (λ c. search needs)
+    (λ c. search needs)
     loop-again
     returns-3)

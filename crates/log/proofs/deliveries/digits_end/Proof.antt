@@ -30,26 +30,14 @@ start c = c .before .before
 room : (c : tie.Else2 Inv-loop μ-loop) → start (turn c) .args .from + 9 ≤ length (start (turn c) .args .bytes .now)
 room c = start (turn c) .pre
 
-add-stop : tie.Need-add-stop Inv-loop μ-loop
-add-stop c = search needs
-
 loop-holds : tie.Need-loop-holds Inv-loop μ-loop
 loop-holds c = few-to (few-begin (c .pre))
-
-shared-slice-read-byte : tie.Need-shared-slice-read-byte Inv-loop μ-loop
-shared-slice-read-byte c = search needs
 
 returns : tie.Need-returns Inv-loop μ-loop
 returns c = c .before .before .before .loop .inv .digits
 
 returns-2 : tie.Need-returns-2 Inv-loop μ-loop
 returns-2 c = at-loop c .loop .inv .digits
-
-add-i : tie.Need-add-i Inv-loop μ-loop
-add-i c = search needs
-
-loop-less : tie.Need-loop-less Inv-loop μ-loop
-loop-less c = search needs
 
 loop-again : tie.Need-loop-again Inv-loop μ-loop
 loop-again c =
@@ -67,12 +55,12 @@ digits-end-spec =
     (tie.spec
     Inv-loop
     μ-loop
-    add-stop
+    (λ c. search needs)
     loop-holds
-    shared-slice-read-byte
+    (λ c. search needs)
     returns
     returns-2
-    add-i
-    loop-less
+    (λ c. search needs)
+    (λ c. search needs)
     loop-again
     returns-3)

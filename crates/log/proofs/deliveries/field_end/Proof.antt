@@ -13,20 +13,11 @@ start c = c .before .before .before .before .before
 
 -- ---- Needs
 
-digits-end-requires : tie.Need-digits-end-requires
-digits-end-requires c κs = search needs
-
 returns : tie.Need-returns
 returns c = λ some. absurd (some refl)
 
-shared-slice-read-if2 : tie.Need-shared-slice-read-if2
-shared-slice-read-if2 c = search needs
-
 returns-2 : tie.Need-returns-2
 returns-2 c = λ some. absurd (some refl)
-
-add-result : tie.Need-add-result
-add-result c = search needs
 
 returns-3 : tie.Need-returns-3
 returns-3 c = λ some.
@@ -35,4 +26,4 @@ returns-3 c = λ some.
     record { value = _; field = field-of digits (b .if1 .left) (omega (arith, digits .near, start c .pre)) (c .if2 .left) }
 
 pub field-end-spec : {M : Type 1} → statement M
-field-end-spec = tie.close (tie.spec digits-end-requires returns shared-slice-read-if2 returns-2 add-result returns-3)
+field-end-spec = tie.close (tie.spec (λ c κs. search needs) returns (λ c. search needs) returns-2 (λ c. search needs) returns-3)

@@ -17,32 +17,11 @@ start c = c .before .before .before .before
 
 -- ---- Needs
 
-four-at-requires : tie.Need-four-at-requires
-four-at-requires c κs = search needs
-
-joined-requires : tie.Need-joined-requires
-joined-requires c κs = search needs
-
 returns : tie.Need-returns
 returns c = λ t. absurd (false≢true t)
 
-add-four-at : tie.Need-add-four-at
-add-four-at c = search needs
-
-four-at-requires-2 : tie.Need-four-at-requires-2
-four-at-requires-2 c κs = search needs
-
-joined-requires-2 : tie.Need-joined-requires-2
-joined-requires-2 c κs = search needs
-
 returns-2 : tie.Need-returns-2
 returns-2 c = λ t. absurd (false≢true t)
-
-add-result : tie.Need-add-result
-add-result c = search needs
-
-shared-slice-read-result : tie.Need-shared-slice-read-result
-shared-slice-read-result c = search needs
 
 returns-3 : tie.Need-returns-3
 returns-3 c = λ t.
@@ -57,13 +36,13 @@ pub is-delivery-spec : {M : Type 1} → statement M
 is-delivery-spec =
     tie.close
     (tie.spec
-    four-at-requires
-    joined-requires
+    (λ c κs. search needs)
+    (λ c κs. search needs)
     returns
-    add-four-at
-    four-at-requires-2
-    joined-requires-2
+    (λ c. search needs)
+    (λ c κs. search needs)
+    (λ c κs. search needs)
     returns-2
-    add-result
-    shared-slice-read-result
+    (λ c. search needs)
+    (λ c. search needs)
     returns-3)

@@ -43,20 +43,11 @@ status-found : (c : tie.Else4)
     (c .before .before .field-at4 .result .value) (c .before .before .field-at4 .result .next)
 status-found c = c .before .before .field-at4 .ensures (not-false _ (c .if4 .left))
 
-field-at-requires : tie.Need-field-at-requires
-field-at-requires c κs = search needs
-
-no-delivery-requires : tie.Need-no-delivery-requires
-no-delivery-requires c κs = search needs
-
 returns : tie.Need-returns
 returns c = λ t. absurd (false≢true (sym (c .no-delivery .ensures) ∙ t))
 
 field-at-requires-2 : tie.Need-field-at-requires-2
 field-at-requires-2 c κs = omega (arith, slot-found c .near, from1 c .pre)
-
-no-delivery-requires-2 : tie.Need-no-delivery-requires-2
-no-delivery-requires-2 c κs = search needs
 
 returns-2 : tie.Need-returns-2
 returns-2 c = λ t. absurd (false≢true (sym (c .no-delivery2 .ensures) ∙ t))
@@ -64,18 +55,12 @@ returns-2 c = λ t. absurd (false≢true (sym (c .no-delivery2 .ensures) ∙ t))
 field-at-requires-3 : tie.Need-field-at-requires-3
 field-at-requires-3 c κs = omega (arith, version-found c .near, slot-found (from2 c) .near, from1 (from2 c) .pre)
 
-no-delivery-requires-3 : tie.Need-no-delivery-requires-3
-no-delivery-requires-3 c κs = search needs
-
 returns-3 : tie.Need-returns-3
 returns-3 c = λ t. absurd (false≢true (sym (c .no-delivery3 .ensures) ∙ t))
 
 field-at-requires-4 : tie.Need-field-at-requires-4
 field-at-requires-4 c κs =
     omega (arith, value-found c .near, version-found (from3 c) .near, slot-found (from2 (from3 c)) .near, from1 (from2 (from3 c)) .pre)
-
-no-delivery-requires-4 : tie.Need-no-delivery-requires-4
-no-delivery-requires-4 c κs = search needs
 
 returns-4 : tie.Need-returns-4
 returns-4 c = λ t. absurd (false≢true (sym (c .no-delivery4 .ensures) ∙ t))
@@ -96,16 +81,16 @@ pub numbers-at-spec : {M : Type 1} → statement M
 numbers-at-spec =
     tie.close
     (tie.spec
-    field-at-requires
-    no-delivery-requires
+    (λ c κs. search needs)
+    (λ c κs. search needs)
     returns
     field-at-requires-2
-    no-delivery-requires-2
+    (λ c κs. search needs)
     returns-2
     field-at-requires-3
-    no-delivery-requires-3
+    (λ c κs. search needs)
     returns-3
     field-at-requires-4
-    no-delivery-requires-4
+    (λ c κs. search needs)
     returns-4
     returns-5)

@@ -29,9 +29,6 @@ value-found : (c : tie.Else3)
     → FieldTo (from1 (from2 (from3 c)) .args .bytes .now) (from3 c .before .field-end2 .result) 32 (c .before .field-end3 .result)
 value-found c = c .before .field-end3 .ensures (c .if3 .left)
 
-field-end-requires : tie.Need-field-end-requires
-field-end-requires c κs = search needs
-
 returns : tie.Need-returns
 returns c = λ some. absurd (some refl)
 
@@ -89,7 +86,7 @@ pub numbers-end-spec : {M : Type 1} → statement M
 numbers-end-spec =
     tie.close
     (tie.spec
-    field-end-requires
+    (λ c κs. search needs)
     returns
     field-end-requires-2
     returns-2

@@ -41,40 +41,10 @@ after-end-of-none2 c = c .before .before .before .before .before
 loop-holds : tie.Need-loop-holds Inv-loop μ-loop
 loop-holds c = record { inside = search needs; passed = none-passed _ }
 
-none-requires : tie.Need-none-requires Inv-loop μ-loop
-none-requires c κs = search needs
-
 returns : tie.Need-returns Inv-loop μ-loop
 returns c =
     c .none .ensures ∙ passed-too-many _ (start c .args .line .now) _ (c .before .before .before .loop .at) _
     (c .before .before .loop-test .taken) (c .before .before .before .loop .inv .passed) (c .before .if1 .taken)
-
-add-from : tie.Need-add-from Inv-loop μ-loop
-add-from c = search needs
-
-end-of-requires : tie.Need-end-of-requires Inv-loop μ-loop
-end-of-requires c κs = search needs
-
-sub-number-of : tie.Need-sub-number-of Inv-loop μ-loop
-sub-number-of c = search needs
-
-part-number-of-start : tie.Need-part-number-of-start Inv-loop μ-loop
-part-number-of-start c = search needs
-
-part-number-of-end : tie.Need-part-number-of-end Inv-loop μ-loop
-part-number-of-end c = search needs
-
-number-of-requires : tie.Need-number-of-requires Inv-loop μ-loop
-number-of-requires c κs = search needs
-
-enum-known-value : tie.Need-enum-known-value Inv-loop μ-loop
-enum-known-value c = search needs
-
-enum-told : tie.Need-enum-told Inv-loop μ-loop
-enum-told c = search needs
-
-none-requires-2 : tie.Need-none-requires-2 Inv-loop μ-loop
-none-requires-2 c κs = search needs
 
 returns-2 : tie.Need-returns-2 Inv-loop μ-loop
 returns-2 c =
@@ -84,9 +54,6 @@ returns-2 c =
     (at-end-of .before .before .loop-test .taken)
     ∙ pieces 32 _ _ (at-end-of .end-of .result) (at-end-of .end-of .ensures .2)) (sym (c .before .before .before .number-of .ensures)
     ∙ c .before .enum-told .given .1)
-
-mul-values : tie.Need-mul-values Inv-loop μ-loop
-mul-values c = search needs
 
 array-write-values : tie.Need-array-write-values Inv-loop μ-loop
 array-write-values c =
@@ -123,19 +90,19 @@ limits-after-spec =
     Inv-loop
     μ-loop
     loop-holds
-    none-requires
+    (λ c κs. search needs)
     returns
-    add-from
-    end-of-requires
-    sub-number-of
-    part-number-of-start
-    part-number-of-end
-    number-of-requires
-    enum-known-value
-    enum-told
-    none-requires-2
+    (λ c. search needs)
+    (λ c κs. search needs)
+    (λ c. search needs)
+    (λ c. search needs)
+    (λ c. search needs)
+    (λ c κs. search needs)
+    (λ c. search needs)
+    (λ c. search needs)
+    (λ c κs. search needs)
     returns-2
-    mul-values
+    (λ c. search needs)
     array-write-values
     add-count
     loop-less

@@ -16,12 +16,6 @@ start c = c .before .before .before .before
 
 -- ---- Needs
 
-slice-aggregate-load : tie.Need-slice-aggregate-load
-slice-aggregate-load c = search needs
-
-load-requires : tie.Need-load-requires
-load-requires c κs = search needs
-
 returns : tie.Need-returns
 returns c =
     let begun = start c in
@@ -38,9 +32,6 @@ array-share-prefix-values c =
 slice-aggregate-load-2 : tie.Need-slice-aggregate-load-2
 slice-aggregate-load-2 c = sym (length-take-le _ _ (array-share-prefix-values (c .before)))
 
-load-requires-2 : tie.Need-load-requires-2
-load-requires-2 c κs = search needs
-
 returns-2 : tie.Need-returns-2
 returns-2 c = c .load2 .ensures
 
@@ -48,10 +39,10 @@ pub load-from-spec : {M : Type 1} → statement M
 load-from-spec =
     tie.close
     (tie.spec
-    slice-aggregate-load
-    load-requires
+    (λ c. search needs)
+    (λ c κs. search needs)
     returns
     array-share-prefix-values
     slice-aggregate-load-2
-    load-requires-2
+    (λ c κs. search needs)
     returns-2)

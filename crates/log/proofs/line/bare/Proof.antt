@@ -5,11 +5,8 @@ use borrow.Author.Needs.{needs}
 use Rattle.log.proofs.line.bare.Statement.{statement}
 use Rattle.log.proofs.line.bare.Tie as tie
 
-none-requires : tie.Need-none-requires
-none-requires c κs = search needs
-
 returns : tie.Need-returns
 returns c = ap (λ (x : Limits). record { line = c .before .args .line; limits = x }) (c .none .ensures)
 
 pub bare-spec : {M : Type 1} → statement M
-bare-spec = tie.close (tie.spec none-requires returns)
+bare-spec = tie.close (tie.spec (λ c κs. search needs) returns)

@@ -50,20 +50,8 @@ passed4-agreed-after c = c .before .before .before .before
 
 -- ---- Needs
 
-end-of-requires : tie.Need-end-of-requires
-end-of-requires c κs = search needs
-
 slice-aggregate-word : tie.Need-slice-aggregate-word
 slice-aggregate-word c = sym (length-take-le _ _ (c .before .end-of .ensures .1))
-
-slice-aggregate-is-same : tie.Need-slice-aggregate-is-same
-slice-aggregate-is-same c = search needs
-
-is-same-requires : tie.Need-is-same-requires
-is-same-requires c κs = search needs
-
-open-after-requires : tie.Need-open-after-requires
-open-after-requires c κs = search needs
 
 returns : tie.Need-returns
 returns c =
@@ -72,15 +60,6 @@ returns c =
     ∙ call-open _ _ _ (first-word _ (at-end-of .end-of .result) _
     (pieces 32 _ _ (at-end-of .end-of .result) (at-end-of .end-of .ensures .2))) (sym (c .before .before .is-same .ensures)
     ∙ c .before .if1 .taken)
-
-slice-aggregate-is-same-2 : tie.Need-slice-aggregate-is-same-2
-slice-aggregate-is-same-2 c = search needs
-
-is-same-requires-2 : tie.Need-is-same-requires-2
-is-same-requires-2 c κs = search needs
-
-delivery-after-requires : tie.Need-delivery-after-requires
-delivery-after-requires c κs = search needs
 
 returns-2 : tie.Need-returns-2
 returns-2 c =
@@ -91,15 +70,6 @@ returns-2 c =
     (first-word _ (at-end-of .end-of .result) _ (pieces 32 _ _ (at-end-of .end-of .result) (at-end-of .end-of .ensures .2)))
     (sym (past1 .before .is-same .ensures) ∙ past1 .if1 .left) (sym (c .before .before .is-same2 .ensures) ∙ c .before .if2 .taken)
 
-slice-aggregate-is-same-3 : tie.Need-slice-aggregate-is-same-3
-slice-aggregate-is-same-3 c = search needs
-
-is-same-requires-3 : tie.Need-is-same-requires-3
-is-same-requires-3 c κs = search needs
-
-holiday-after-requires : tie.Need-holiday-after-requires
-holiday-after-requires c κs = search needs
-
 returns-3 : tie.Need-returns-3
 returns-3 c =
     let at-end-of = after-end-of-holiday-after c in
@@ -108,15 +78,6 @@ returns-3 c =
     (pieces 32 _ _ (at-end-of .end-of .result) (at-end-of .end-of .ensures .2))) (sym (passed1-holiday-after c .before .is-same .ensures)
     ∙ passed1-holiday-after c .if1 .left) (sym (passed2 c .before .is-same2 .ensures)
     ∙ passed2 c .if2 .left) (sym (c .before .before .is-same3 .ensures) ∙ c .before .if3 .taken)
-
-slice-aggregate-is-same-4 : tie.Need-slice-aggregate-is-same-4
-slice-aggregate-is-same-4 c = search needs
-
-is-same-requires-4 : tie.Need-is-same-requires-4
-is-same-requires-4 c κs = search needs
-
-register-after-requires : tie.Need-register-after-requires
-register-after-requires c κs = search needs
 
 returns-4 : tie.Need-returns-4
 returns-4 c =
@@ -128,15 +89,6 @@ returns-4 c =
     (sym (past1 .before .is-same .ensures) ∙ past1 .if1 .left)
     (sym (passed2-register-after c .before .is-same2 .ensures) ∙ passed2-register-after c .if2 .left)
     (sym (passed3 c .before .is-same3 .ensures) ∙ passed3 c .if3 .left) (sym (c .before .before .is-same4 .ensures) ∙ c .before .if4 .taken)
-
-slice-aggregate-is-same-5 : tie.Need-slice-aggregate-is-same-5
-slice-aggregate-is-same-5 c = search needs
-
-is-same-requires-5 : tie.Need-is-same-requires-5
-is-same-requires-5 c κs = search needs
-
-agreed-after-requires : tie.Need-agreed-after-requires
-agreed-after-requires c κs = search needs
 
 returns-5 : tie.Need-returns-5
 returns-5 c =
@@ -165,26 +117,26 @@ pub call-of-spec : {M : Type 1} → statement M
 call-of-spec =
     tie.close
     (tie.spec
-    end-of-requires
+    (λ c κs. search needs)
     slice-aggregate-word
-    slice-aggregate-is-same
-    is-same-requires
-    open-after-requires
+    (λ c. search needs)
+    (λ c κs. search needs)
+    (λ c κs. search needs)
     returns
-    slice-aggregate-is-same-2
-    is-same-requires-2
-    delivery-after-requires
+    (λ c. search needs)
+    (λ c κs. search needs)
+    (λ c κs. search needs)
     returns-2
-    slice-aggregate-is-same-3
-    is-same-requires-3
-    holiday-after-requires
+    (λ c. search needs)
+    (λ c κs. search needs)
+    (λ c κs. search needs)
     returns-3
-    slice-aggregate-is-same-4
-    is-same-requires-4
-    register-after-requires
+    (λ c. search needs)
+    (λ c κs. search needs)
+    (λ c κs. search needs)
     returns-4
-    slice-aggregate-is-same-5
-    is-same-requires-5
-    agreed-after-requires
+    (λ c. search needs)
+    (λ c κs. search needs)
+    (λ c κs. search needs)
     returns-5
     returns-6)

@@ -26,30 +26,15 @@ passed1-bare3 c = c .before .before .before .before
 
 -- ---- Needs
 
-without-cr-requires : tie.Need-without-cr-requires
-without-cr-requires c κs = search needs
-
-bare-requires : tie.Need-bare-requires
-bare-requires c κs = search needs
-
 returns : tie.Need-returns
 returns c =
     c .bare .ensures ∙ line-empty (start c .args .bytes .now) _ (c .before .before .without-cr .ensures .0)
     (c .before .before .without-cr .ensures .1) (c .before .if1 .taken)
 
-shared-slice-read-if2 : tie.Need-shared-slice-read-if2
-shared-slice-read-if2 c = search needs
-
-bare-requires-2 : tie.Need-bare-requires-2
-bare-requires-2 c κs = search needs
-
 returns-2 : tie.Need-returns-2
 returns-2 c =
     c .bare2 .ensures ∙ line-comment (start-bare2 c .args .bytes .now) _ (passed1 c .before .without-cr .ensures .0)
     (passed1 c .before .without-cr .ensures .1) (c .before .before .before .if1 .left) (c .before .if2 .taken)
-
-bare-requires-3 : tie.Need-bare-requires-3
-bare-requires-3 c κs = search needs
 
 returns-3 : tie.Need-returns-3
 returns-3 c =
@@ -60,9 +45,6 @@ returns-3 c =
 
 slice-aggregate-words-entry : tie.Need-slice-aggregate-words-entry
 slice-aggregate-words-entry c = sym (length-take-le _ _ (passed1-passed3 (c .before) .before .without-cr .ensures .0))
-
-words-entry-requires : tie.Need-words-entry-requires
-words-entry-requires c κs = search needs
 
 returns-4 : tie.Need-returns-4
 returns-4 c =
@@ -75,14 +57,14 @@ pub entry-of-spec : {M : Type 1} → statement M
 entry-of-spec =
     tie.close
     (tie.spec
-    without-cr-requires
-    bare-requires
+    (λ c κs. search needs)
+    (λ c κs. search needs)
     returns
-    shared-slice-read-if2
-    bare-requires-2
+    (λ c. search needs)
+    (λ c κs. search needs)
     returns-2
-    bare-requires-3
+    (λ c κs. search needs)
     returns-3
     slice-aggregate-words-entry
-    words-entry-requires
+    (λ c κs. search needs)
     returns-4)

@@ -6,14 +6,8 @@ use borrow.Author.Needs.{needs}
 use Rattle.log.proofs.line.holiday_after.Statement.{statement}
 use Rattle.log.proofs.line.holiday_after.Tie as tie
 
-values-after-requires : tie.Need-values-after-requires
-values-after-requires c κs = search needs
-
 returns : tie.Need-returns
 returns c = no-holiday _ (sym (c .before .values-after .ensures .0) ∙ not-true _ (c .if1 .taken))
-
-element-copy-out-t9 : tie.Need-element-copy-out-t9
-element-copy-out-t9 c = search needs
 
 returns-2 : tie.Need-returns-2
 returns-2 c =
@@ -23,4 +17,4 @@ returns-2 c =
 
 pub holiday-after-spec : {M : Type 1} → statement M
 holiday-after-spec =
-    tie.close (tie.spec values-after-requires returns element-copy-out-t9 returns-2)
+    tie.close (tie.spec (λ c κs. search needs) returns (λ c. search needs) returns-2)

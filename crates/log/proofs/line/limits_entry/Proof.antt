@@ -5,12 +5,6 @@ use borrow.Author.Needs.{needs}
 use Rattle.log.proofs.line.limits_entry.Statement.{statement}
 use Rattle.log.proofs.line.limits_entry.Tie as tie
 
-limits-after-requires : tie.Need-limits-after-requires
-limits-after-requires c κs = search needs
-
-bare-requires : tie.Need-bare-requires
-bare-requires c κs = search needs
-
 returns : tie.Need-returns
 returns c = c .bare .ensures ∙ no-table _ _ (c .before .before .before .limits-after .ensures) (c .before .if1 .taken)
 
@@ -18,4 +12,4 @@ returns-2 : tie.Need-returns-2
 returns-2 c = is-table _ _ (c .before .before .limits-after .ensures) (c .if1 .left)
 
 pub limits-entry-spec : {M : Type 1} → statement M
-limits-entry-spec = tie.close (tie.spec limits-after-requires bare-requires returns returns-2)
+limits-entry-spec = tie.close (tie.spec (λ c κs. search needs) (λ c κs. search needs) returns returns-2)

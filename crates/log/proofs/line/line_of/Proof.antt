@@ -5,11 +5,8 @@ use borrow.Author.Needs.{needs}
 use Rattle.log.proofs.line.line_of.Statement.{statement}
 use Rattle.log.proofs.line.line_of.Tie as tie
 
-entry-of-requires : tie.Need-entry-of-requires
-entry-of-requires c κs = search needs
-
 returns : tie.Need-returns
 returns c = ap (λ (x : Entry). x .line) (c .entry-of .ensures)
 
 pub line-of-spec : {M : Type 1} → statement M
-line-of-spec = tie.close (tie.spec entry-of-requires returns)
+line-of-spec = tie.close (tie.spec (λ c κs. search needs) returns)

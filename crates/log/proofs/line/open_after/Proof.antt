@@ -30,30 +30,6 @@ after-year-t28 c = passed2 c .before .before .before
 returns : tie.Need-returns
 returns c = no-fields _ (no-words (c .before .before .args .line .now) (c .before .before .args .end) (c .if1 .taken))
 
-add-from : tie.Need-add-from
-add-from c = search needs
-
-end-of-requires : tie.Need-end-of-requires
-end-of-requires c κs = search needs
-
-sub-date-of : tie.Need-sub-date-of
-sub-date-of c = search needs
-
-part-date-of-start : tie.Need-part-date-of-start
-part-date-of-start c = search needs
-
-part-date-of-end : tie.Need-part-date-of-end
-part-date-of-end c = search needs
-
-date-of-requires : tie.Need-date-of-requires
-date-of-requires c κs = search needs
-
-enum-known-year : tie.Need-enum-known-year
-enum-known-year c = search needs
-
-enum-told : tie.Need-enum-told
-enum-told c = search needs
-
 returns-2 : tie.Need-returns-2
 returns-2 c =
     let at-end-of = after-end-of c in
@@ -61,9 +37,6 @@ returns-2 c =
     (at-end-of .before .if1 .left)
     ∙ pieces 32 _ _ (at-end-of .end-of .result) (at-end-of .end-of .ensures .2)) (sym (c .before .before .date-of .ensures)
     ∙ c .enum-told .given .1)
-
-values-after-requires : tie.Need-values-after-requires
-values-after-requires c κs = search needs
 
 returns-3 : tie.Need-returns-3
 returns-3 c =
@@ -73,18 +46,6 @@ returns-3 c =
     (at-end-of .before .if1 .left)
     ∙ pieces 32 _ _ (at-end-of .end-of .result) (at-end-of .end-of .ensures .2)) _ _ _ (sym (at-year .before .before .date-of .ensures)
     ∙ c .before .before .before .year .given .1) (sym (c .before .values-after .ensures .0) ∙ not-true _ (c .if2 .taken))
-
-element-copy-out-t19 : tie.Need-element-copy-out-t19
-element-copy-out-t19 c = search needs
-
-element-copy-out-t22 : tie.Need-element-copy-out-t22
-element-copy-out-t22 c = search needs
-
-element-copy-out-t25 : tie.Need-element-copy-out-t25
-element-copy-out-t25 c = search needs
-
-element-copy-out-t28 : tie.Need-element-copy-out-t28
-element-copy-out-t28 c = search needs
 
 returns-4 : tie.Need-returns-4
 returns-4 c =
@@ -102,19 +63,19 @@ open-after-spec =
     tie.close
     (tie.spec
     returns
-    add-from
-    end-of-requires
-    sub-date-of
-    part-date-of-start
-    part-date-of-end
-    date-of-requires
-    enum-known-year
-    enum-told
+    (λ c. search needs)
+    (λ c κs. search needs)
+    (λ c. search needs)
+    (λ c. search needs)
+    (λ c. search needs)
+    (λ c κs. search needs)
+    (λ c. search needs)
+    (λ c. search needs)
     returns-2
-    values-after-requires
+    (λ c κs. search needs)
     returns-3
-    element-copy-out-t19
-    element-copy-out-t22
-    element-copy-out-t25
-    element-copy-out-t28
+    (λ c. search needs)
+    (λ c. search needs)
+    (λ c. search needs)
+    (λ c. search needs)
     returns-4)

@@ -13,26 +13,8 @@ passed1 c = c .before .before .before .before
 
 -- ---- Needs
 
-values-after-requires : tie.Need-values-after-requires
-values-after-requires c κs = search needs
-
-sharp-after-requires : tie.Need-sharp-after-requires
-sharp-after-requires c κs = search needs
-
 returns : tie.Need-returns
 returns c = c .sharp-after .ensures ∙ no-width _ (sym (c .before .before .values-after .ensures .0) ∙ not-true _ (c .before .if1 .taken))
-
-element-copy-out-t9 : tie.Need-element-copy-out-t9
-element-copy-out-t9 c = search needs
-
-element-copy-out-t12 : tie.Need-element-copy-out-t12
-element-copy-out-t12 c = search needs
-
-element-copy-out-t15 : tie.Need-element-copy-out-t15
-element-copy-out-t15 c = search needs
-
-element-copy-out-t18 : tie.Need-element-copy-out-t18
-element-copy-out-t18 c = search needs
 
 returns-2 : tie.Need-returns-2
 returns-2 c =
@@ -45,11 +27,11 @@ pub register-after-spec : {M : Type 1} → statement M
 register-after-spec =
     tie.close
     (tie.spec
-    values-after-requires
-    sharp-after-requires
+    (λ c κs. search needs)
+    (λ c κs. search needs)
     returns
-    element-copy-out-t9
-    element-copy-out-t12
-    element-copy-out-t15
-    element-copy-out-t18
+    (λ c. search needs)
+    (λ c. search needs)
+    (λ c. search needs)
+    (λ c. search needs)
     returns-2)

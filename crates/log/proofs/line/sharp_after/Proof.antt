@@ -13,20 +13,8 @@ after-values-after c = c .before .before .before .before
 
 -- ---- Needs
 
-values-after-requires : tie.Need-values-after-requires
-values-after-requires c κs = search needs
-
 returns : tie.Need-returns
 returns c = no-sharp _ (sym (c .before .values-after .ensures .0) ∙ not-true _ (c .if1 .taken))
-
-element-copy-out-t9 : tie.Need-element-copy-out-t9
-element-copy-out-t9 c = search needs
-
-element-copy-out-t12 : tie.Need-element-copy-out-t12
-element-copy-out-t12 c = search needs
-
-element-copy-out-t15 : tie.Need-element-copy-out-t15
-element-copy-out-t15 c = search needs
 
 returns-2 : tie.Need-returns-2
 returns-2 c =
@@ -39,9 +27,9 @@ pub sharp-after-spec : {M : Type 1} → statement M
 sharp-after-spec =
     tie.close
     (tie.spec
-    values-after-requires
+    (λ c κs. search needs)
     returns
-    element-copy-out-t9
-    element-copy-out-t12
-    element-copy-out-t15
+    (λ c. search needs)
+    (λ c. search needs)
+    (λ c. search needs)
     returns-2)

@@ -15,20 +15,8 @@ after-end-of c = c .before .before .before
 
 -- ---- Needs
 
-end-of-requires : tie.Need-end-of-requires
-end-of-requires c κs = search needs
-
 slice-aggregate-is-same : tie.Need-slice-aggregate-is-same
 slice-aggregate-is-same c = sym (length-take-le _ _ (c .before .end-of .ensures .1))
-
-slice-aggregate-is-same-2 : tie.Need-slice-aggregate-is-same-2
-slice-aggregate-is-same-2 c = search needs
-
-is-same-requires : tie.Need-is-same-requires
-is-same-requires c κs = search needs
-
-limits-entry-requires : tie.Need-limits-entry-requires
-limits-entry-requires c κs = search needs
 
 returns : tie.Need-returns
 returns c =
@@ -37,12 +25,6 @@ returns c =
     ∙ entry-table _ _ _ (first-word _ (at-end-of .end-of .result) _
     (pieces 32 _ _ (at-end-of .end-of .result) (at-end-of .end-of .ensures .2))) (sym (c .before .before .is-same .ensures)
     ∙ c .before .if1 .taken)
-
-call-of-requires : tie.Need-call-of-requires
-call-of-requires c κs = search needs
-
-bare-requires : tie.Need-bare-requires
-bare-requires c κs = search needs
 
 returns-2 : tie.Need-returns-2
 returns-2 c =
@@ -56,12 +38,12 @@ pub words-entry-spec : {M : Type 1} → statement M
 words-entry-spec =
     tie.close
     (tie.spec
-    end-of-requires
+    (λ c κs. search needs)
     slice-aggregate-is-same
-    slice-aggregate-is-same-2
-    is-same-requires
-    limits-entry-requires
+    (λ c. search needs)
+    (λ c κs. search needs)
+    (λ c κs. search needs)
     returns
-    call-of-requires
-    bare-requires
+    (λ c κs. search needs)
+    (λ c κs. search needs)
     returns-2)

@@ -4,17 +4,11 @@ use Rattle.log.proofs.OnePass.{delivery-found}
 use Rattle.log.proofs.lines.line_from.Statement.{statement}
 use Rattle.log.proofs.lines.line_from.Tie as tie
 
-delivery-at-requires : tie.Need-delivery-at-requires
-delivery-at-requires c κs = search needs
-
 returns : tie.Need-returns
 returns c = delivery-found _ _ (c .before .delivery-at .result) (c .before .delivery-at .ensures (c .if1 .taken))
-
-read-from-requires : tie.Need-read-from-requires
-read-from-requires c κs = search needs
 
 returns-2 : tie.Need-returns-2
 returns-2 c = c .read-from .ensures
 
 pub line-from-spec : {M : Type 1} → statement M
-line-from-spec = tie.close (tie.spec delivery-at-requires returns read-from-requires returns-2)
+line-from-spec = tie.close (tie.spec (λ c κs. search needs) returns (λ c κs. search needs) returns-2)

@@ -37,14 +37,8 @@ passed1-number-of3 c = passed2 c .before .before
 returns : tie.Need-returns
 returns c = sym (date-length _ (c .if1 .taken))
 
-shared-slice-read-if2 : tie.Need-shared-slice-read-if2
-shared-slice-read-if2 c = search needs
-
 returns-2 : tie.Need-returns-2
 returns-2 c = sym (date-first _ (c .before .before .if1 .left) (c .if2 .taken))
-
-shared-slice-read-if3 : tie.Need-shared-slice-read-if3
-shared-slice-read-if3 c = search needs
 
 returns-3 : tie.Need-returns-3
 returns-3 c = sym (date-second _ (passed1 (c .before) .if1 .left) (c .before .before .if2 .left) (c .if3 .taken))
@@ -52,38 +46,11 @@ returns-3 c = sym (date-second _ (passed1 (c .before) .if1 .left) (c .before .be
 slice-aggregate-number-of : tie.Need-slice-aggregate-number-of
 slice-aggregate-number-of c = sym (length-take-le 4 (passed1 (c .before .before) .before .before .args .word .now) (search needs))
 
-number-of-requires : tie.Need-number-of-requires
-number-of-requires c κs = search needs
-
-enum-known-year : tie.Need-enum-known-year
-enum-known-year c = search needs
-
-enum-told : tie.Need-enum-told
-enum-told c = search needs
-
 returns-4 : tie.Need-returns-4
 returns-4 c =
     let past3 = passed3 c in
     sym (date-year _ (passed1 (past3 .before) .if1 .left) (past3 .before .before .if2 .left) (past3 .if3 .left)
     (sym (c .before .before .number-of .ensures) ∙ c .enum-told .given .1))
-
-sub-number-of : tie.Need-sub-number-of
-sub-number-of c = search needs
-
-part-number-of-start : tie.Need-part-number-of-start
-part-number-of-start c = search needs
-
-part-number-of-end : tie.Need-part-number-of-end
-part-number-of-end c = search needs
-
-number-of-requires-2 : tie.Need-number-of-requires-2
-number-of-requires-2 c κs = search needs
-
-enum-known-month : tie.Need-enum-known-month
-enum-known-month c = search needs
-
-enum-told-2 : tie.Need-enum-told-2
-enum-told-2 c = search needs
 
 returns-5 : tie.Need-returns-5
 returns-5 c =
@@ -92,24 +59,6 @@ returns-5 c =
     sym (date-month _ (passed1 (past3 .before) .if1 .left) (past3 .before .before .if2 .left) (past3 .if3 .left) _
     (sym (at-year .before .before .number-of .ensures) ∙ at-year .year .given .1)
     (sym (c .before .before .number-of2 .ensures) ∙ c .enum-told2 .given .1))
-
-sub-number-of-2 : tie.Need-sub-number-of-2
-sub-number-of-2 c = search needs
-
-part-number-of-start-2 : tie.Need-part-number-of-start-2
-part-number-of-start-2 c = search needs
-
-part-number-of-end-2 : tie.Need-part-number-of-end-2
-part-number-of-end-2 c = search needs
-
-number-of-requires-3 : tie.Need-number-of-requires-3
-number-of-requires-3 c κs = search needs
-
-enum-known-day : tie.Need-enum-known-day
-enum-known-day c = search needs
-
-enum-told-3 : tie.Need-enum-told-3
-enum-told-3 c = search needs
 
 returns-6 : tie.Need-returns-6
 returns-6 c =
@@ -135,27 +84,27 @@ date-of-spec =
     tie.close
     (tie.spec
     returns
-    shared-slice-read-if2
+    (λ c. search needs)
     returns-2
-    shared-slice-read-if3
+    (λ c. search needs)
     returns-3
     slice-aggregate-number-of
-    number-of-requires
-    enum-known-year
-    enum-told
+    (λ c κs. search needs)
+    (λ c. search needs)
+    (λ c. search needs)
     returns-4
-    sub-number-of
-    part-number-of-start
-    part-number-of-end
-    number-of-requires-2
-    enum-known-month
-    enum-told-2
+    (λ c. search needs)
+    (λ c. search needs)
+    (λ c. search needs)
+    (λ c κs. search needs)
+    (λ c. search needs)
+    (λ c. search needs)
     returns-5
-    sub-number-of-2
-    part-number-of-start-2
-    part-number-of-end-2
-    number-of-requires-3
-    enum-known-day
-    enum-told-3
+    (λ c. search needs)
+    (λ c. search needs)
+    (λ c. search needs)
+    (λ c κs. search needs)
+    (λ c. search needs)
+    (λ c. search needs)
     returns-6
     returns-7)

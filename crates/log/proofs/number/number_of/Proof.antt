@@ -38,9 +38,6 @@ returns c = sym (number-empty _ (c .if1 .taken))
 loop-holds : tie.Need-loop-holds Inv-loop μ-loop
 loop-holds c = record { inside = search needs; small = search needs; known = number-starts _ (c .if1 .left) }
 
-shared-slice-read-byte : tie.Need-shared-slice-read-byte Inv-loop μ-loop
-shared-slice-read-byte c = search needs
-
 returns-2 : tie.Need-returns-2 Inv-loop μ-loop
 returns-2 c =
     sym (c .before .before .before .loop .inv .known
@@ -54,15 +51,6 @@ returns-3 c =
     ∙ number-above (looped .before .before .args .word .now) (looped .loop .i) (looped .loop .value) (search needs) (c .before .if2 .left)
     (omega (arith, c .if3 .taken)))
 
-mul-value : tie.Need-mul-value Inv-loop μ-loop
-mul-value c = search needs
-
-cast-value : tie.Need-cast-value Inv-loop μ-loop
-cast-value c = search needs
-
-add-value : tie.Need-add-value Inv-loop μ-loop
-add-value c = search needs
-
 returns-4 : tie.Need-returns-4 Inv-loop μ-loop
 returns-4 c =
     let looped = at-loop (c .before .before) in
@@ -71,12 +59,6 @@ returns-4 c =
     (c .before .before .if2 .left) (c .before .if3 .left)
     ∙ number-over (10 * looped .loop .value + (getD (looped .before .before .args .word .now) (looped .loop .i) 0 - 48)) _
     (omega (arith, c .if4 .taken)))
-
-add-i : tie.Need-add-i Inv-loop μ-loop
-add-i c = search needs
-
-loop-less : tie.Need-loop-less Inv-loop μ-loop
-loop-less c = search needs
 
 loop-again : tie.Need-loop-again Inv-loop μ-loop
 loop-again c =
@@ -89,9 +71,6 @@ loop-again c =
           ∙ number-digit (looped .before .before .args .word .now) (looped .loop .i) (looped .loop .value) (search needs)
           (c .before .before .if2 .left) (c .before .if3 .left);
     }
-
-cast-t13 : tie.Need-cast-t13 Inv-loop μ-loop
-cast-t13 c = search needs
 
 returns-5 : tie.Need-returns-5 Inv-loop μ-loop
 returns-5 c =
@@ -106,15 +85,15 @@ number-of-spec =
     μ-loop
     returns
     loop-holds
-    shared-slice-read-byte
+    (λ c. search needs)
     returns-2
     returns-3
-    mul-value
-    cast-value
-    add-value
+    (λ c. search needs)
+    (λ c. search needs)
+    (λ c. search needs)
     returns-4
-    add-i
-    loop-less
+    (λ c. search needs)
+    (λ c. search needs)
     loop-again
-    cast-t13
+    (λ c. search needs)
     returns-5)

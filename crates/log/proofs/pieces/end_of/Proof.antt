@@ -33,9 +33,6 @@ loop-holds : tie.Need-loop-holds Inv-loop μ-loop
 loop-holds c =
     record { low = search needs; inside = search needs; known = piece-begins (c .args .separator) (c .args .bytes .now) (c .args .at) }
 
-shared-slice-read-if1 : tie.Need-shared-slice-read-if1 Inv-loop μ-loop
-shared-slice-read-if1 c = search needs
-
 returns : tie.Need-returns Inv-loop μ-loop
 returns c =
     let begun-2 = start (c .before) in (
@@ -45,12 +42,6 @@ returns c =
           ∙ piece-ends (begun-2 .args .separator) (begun-2 .args .bytes .now) (begun-2 .args .at) (c .before .before .before .loop .i)
           (search needs) (search needs) (c .if1 .taken) begun more,
     )
-
-add-i : tie.Need-add-i Inv-loop μ-loop
-add-i c = search needs
-
-loop-less : tie.Need-loop-less Inv-loop μ-loop
-loop-less c = search needs
 
 loop-again : tie.Need-loop-again Inv-loop μ-loop
 loop-again c =
@@ -80,9 +71,9 @@ end-of-spec =
     Inv-loop
     μ-loop
     loop-holds
-    shared-slice-read-if1
+    (λ c. search needs)
     returns
-    add-i
-    loop-less
+    (λ c. search needs)
+    (λ c. search needs)
     loop-again
     returns-2)

@@ -16,14 +16,8 @@ after-are-plain2-are-plain4 c = c .before .before .before .before
 
 -- ---- Needs
 
-are-plain-requires : tie.Need-are-plain-requires
-are-plain-requires c κs = search needs
-
 returns : tie.Need-returns
 returns c = rw (sym (c .before .are-plain .ensures) ∙ not-true _ (c .if1 .taken))
-
-are-plain-requires-2 : tie.Need-are-plain-requires-2
-are-plain-requires-2 c κs = search needs
 
 returns-2 : tie.Need-returns-2
 returns-2 c =
@@ -32,9 +26,6 @@ returns-2 c =
       sym (c .before .are-plain2 .ensures) ∙ not-true _ (c .if2 .taken),
     )
 
-are-plain-requires-3 : tie.Need-are-plain-requires-3
-are-plain-requires-3 c κs = search needs
-
 returns-3 : tie.Need-returns-3
 returns-3 c =
     rw (
@@ -42,9 +33,6 @@ returns-3 c =
       sym (c .before .before .before .are-plain2 .ensures) ∙ not-false _ (c .before .before .if2 .left),
       sym (c .before .are-plain3 .ensures) ∙ not-true _ (c .if3 .taken),
     )
-
-are-plain-requires-4 : tie.Need-are-plain-requires-4
-are-plain-requires-4 c κs = search needs
 
 returns-4 : tie.Need-returns-4
 returns-4 c =
@@ -60,11 +48,11 @@ pub are-headers-spec : {M : Type 1} → statement M
 are-headers-spec =
     tie.close
     (tie.spec
-    are-plain-requires
+    (λ c κs. search needs)
     returns
-    are-plain-requires-2
+    (λ c κs. search needs)
     returns-2
-    are-plain-requires-3
+    (λ c κs. search needs)
     returns-3
-    are-plain-requires-4
+    (λ c κs. search needs)
     returns-4)

@@ -13,14 +13,8 @@ after-all-of c = c .before .before .before .before
 
 -- ---- Needs
 
-all-of-requires : tie.Need-all-of-requires
-all-of-requires c κs = search needs
-
 returns : tie.Need-returns
 returns c = rw (sym (c .before .all-of .ensures) ∙ not-true _ (c .if1 .taken))
-
-is-time-requires : tie.Need-is-time-requires
-is-time-requires c κs = search needs
 
 returns-2 : tie.Need-returns-2
 returns-2 c =
@@ -28,9 +22,6 @@ returns-2 c =
       sym (c .before .before .before .all-of .ensures) ∙ not-false _ (c .before .before .if1 .left),
       sym (c .before .is-time .ensures) ∙ not-true _ (c .if2 .taken),
     )
-
-are-codes-requires : tie.Need-are-codes-requires
-are-codes-requires c κs = search needs
 
 returns-3 : tie.Need-returns-3
 returns-3 c =
@@ -43,4 +34,4 @@ returns-3 c =
 pub are-others-spec : {M : Type 1} → statement M
 are-others-spec =
     tie.close
-    (tie.spec all-of-requires returns is-time-requires returns-2 are-codes-requires returns-3)
+    (tie.spec (λ c κs. search needs) returns (λ c κs. search needs) returns-2 (λ c κs. search needs) returns-3)

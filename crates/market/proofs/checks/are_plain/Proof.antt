@@ -5,17 +5,11 @@ use borrow.Author.Needs.{needs}
 use Rattle.market.proofs.checks.are_plain.Statement.{statement}
 use Rattle.market.proofs.checks.are_plain.Tie as tie
 
-all-of-requires : tie.Need-all-of-requires
-all-of-requires c κs = search needs
-
 returns : tie.Need-returns
 returns c = rw (sym (c .before .all-of .ensures) ∙ not-true _ (c .if1 .taken))
-
-all-of-requires-2 : tie.Need-all-of-requires-2
-all-of-requires-2 c κs = search needs
 
 returns-2 : tie.Need-returns-2
 returns-2 c = rw (sym (c .before .before .all-of .ensures) ∙ not-false _ (c .before .if1 .left)) (c .all-of2 .ensures)
 
 pub are-plain-spec : {M : Type 1} → statement M
-are-plain-spec = tie.close (tie.spec all-of-requires returns all-of-requires-2 returns-2)
+are-plain-spec = tie.close (tie.spec (λ c κs. search needs) returns (λ c κs. search needs) returns-2)

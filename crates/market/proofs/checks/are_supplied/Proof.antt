@@ -15,18 +15,12 @@ start c = c .before .before .before .before .before .before .before .before .bef
 
 -- ---- Needs
 
-are-headers-requires : tie.Need-are-headers-requires
-are-headers-requires c κs = search needs
-
 returns : tie.Need-returns
 returns c = let a = start (c .before) .args in
     sym (sym (supplied-by
     (texts [] (a .from .now) (a .to .now) (a .configuration .now) (a .register .now) (a .suffix .now) (a .stream .now) (a .serial .now)
     (a .next-read .now) (a .reason .now) (a .created .now)) (a .codes)) ∙ rw (sym (c .before .are-headers .ensures)
     ∙ not-true _ (c .if1 .taken)))
-
-are-others-requires : tie.Need-are-others-requires
-are-others-requires c κs = search needs
 
 returns-2 : tie.Need-returns-2
 returns-2 c = let a = start (c .before .before) .args in
@@ -36,4 +30,4 @@ returns-2 c = let a = start (c .before .before) .args in
     ∙ not-false _ (c .before .if1 .left)) (sym (c .are-others .ensures)))
 
 pub are-supplied-spec : {M : Type 1} → statement M
-are-supplied-spec = tie.close (tie.spec are-headers-requires returns are-others-requires returns-2)
+are-supplied-spec = tie.close (tie.spec (λ c κs. search needs) returns (λ c κs. search needs) returns-2)

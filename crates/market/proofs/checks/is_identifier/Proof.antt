@@ -12,9 +12,6 @@ after-is-digit c = c .before .before .before
 
 -- ---- Needs
 
-is-digit-requires : tie.Need-is-digit-requires
-is-digit-requires c κs = search needs
-
 returns : tie.Need-returns
 returns c = rw (sym (c .before .is-digit .ensures) ∙ c .if1 .taken)
 
@@ -36,4 +33,4 @@ returns-5 c = let no = sym (after-is-digit (c .before) .is-digit .ensures) ∙ c
 
 pub is-identifier-spec : {M : Type 1} → statement M
 is-identifier-spec =
-    tie.close (tie.spec is-digit-requires returns returns-2 returns-3 returns-4 returns-5)
+    tie.close (tie.spec (λ c κs. search needs) returns returns-2 returns-3 returns-4 returns-5)

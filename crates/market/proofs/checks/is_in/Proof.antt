@@ -3,24 +3,6 @@ use borrow.Author.Needs.{needs}
 use Rattle.market.proofs.checks.is_in.Statement.{statement}
 use Rattle.market.proofs.checks.is_in.Tie as tie
 
-enum-told : tie.Need-enum-told
-enum-told c = search needs
-
-is-identifier-requires : tie.Need-is-identifier-requires
-is-identifier-requires c κs = search needs
-
-enum-told-2 : tie.Need-enum-told-2
-enum-told-2 c = search needs
-
-is-plain-requires : tie.Need-is-plain-requires
-is-plain-requires c κs = search needs
-
-enum-told-3 : tie.Need-enum-told-3
-enum-told-3 c = search needs
-
-is-digit-requires : tie.Need-is-digit-requires
-is-digit-requires c κs = search needs
-
 returns : tie.Need-returns
 returns c = rw (c .before .enum-told .given .1, c .is-identifier .ensures)
 
@@ -34,12 +16,12 @@ pub is-in-spec : {M : Type 1} → statement M
 is-in-spec =
     tie.close
     (tie.spec
-    enum-told
-    is-identifier-requires
-    enum-told-2
-    is-plain-requires
-    enum-told-3
-    is-digit-requires
+    (λ c. search needs)
+    (λ c κs. search needs)
+    (λ c. search needs)
+    (λ c κs. search needs)
+    (λ c. search needs)
+    (λ c κs. search needs)
     returns
     returns-2
     returns-3)

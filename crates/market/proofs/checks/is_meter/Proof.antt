@@ -9,12 +9,9 @@ returns : tie.Need-returns
 unfolding identifierOk
 returns c = rw (ne-eqb _ _ (c .if1 .taken))
 
-all-of-requires : tie.Need-all-of-requires
-all-of-requires c κs = search needs
-
 returns-2 : tie.Need-returns-2
 unfolding identifierOk
 returns-2 c = rw (eq-eqb _ _ (c .before .if1 .left)) (c .all-of .ensures)
 
 pub is-meter-spec : {M : Type 1} → statement M
-is-meter-spec = tie.close (tie.spec returns all-of-requires returns-2)
+is-meter-spec = tie.close (tie.spec returns (λ c κs. search needs) returns-2)

@@ -19,30 +19,6 @@ after-put-digits2 c = c .before .before .before .before .before .before
 
 -- ---- Needs
 
-date-of-requires : tie.Need-date-of-requires
-date-of-requires c κs = search needs
-
-cast-put-digits : tie.Need-cast-put-digits
-cast-put-digits c = search needs
-
-put-digits-requires : tie.Need-put-digits-requires
-put-digits-requires c κs = search needs
-
-cast-put-digits-2 : tie.Need-cast-put-digits-2
-cast-put-digits-2 c = search needs
-
-put-digits-requires-2 : tie.Need-put-digits-requires-2
-put-digits-requires-2 c κs = search needs
-
-cast-put-digits-3 : tie.Need-cast-put-digits-3
-cast-put-digits-3 c = search needs
-
-put-digits-requires-3 : tie.Need-put-digits-requires-3
-put-digits-requires-3 c κs = search needs
-
-same-length : tie.Need-same-length
-same-length c = search needs
-
 returns : tie.Need-returns
 unfolding dateField
 returns c =
@@ -56,12 +32,12 @@ pub put-date-spec : {M : Type 1} → statement M
 put-date-spec =
     tie.close
     (tie.spec
-    date-of-requires
-    cast-put-digits
-    put-digits-requires
-    cast-put-digits-2
-    put-digits-requires-2
-    cast-put-digits-3
-    put-digits-requires-3
-    same-length
+    (λ c κs. search needs)
+    (λ c. search needs)
+    (λ c κs. search needs)
+    (λ c. search needs)
+    (λ c κs. search needs)
+    (λ c. search needs)
+    (λ c κs. search needs)
+    (λ c. search needs)
     returns)

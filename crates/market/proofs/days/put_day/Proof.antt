@@ -35,29 +35,11 @@ start-out2 c = start (after-is-one-out2 c)
 
 -- ---- Needs
 
-is-one-requires : tie.Need-is-one-requires
-is-one-requires c κs = search needs
-
-day-mark-requires : tie.Need-day-mark-requires
-day-mark-requires c κs = search needs
-
-put-300-requires : tie.Need-put-300-requires
-put-300-requires c κs = search needs
-
-same-length : tie.Need-same-length
-same-length c = search needs
-
 returns : tie.Need-returns
 returns c = let a = start-taken1 c .args in
     same (day-alike (λ i. markOf (a .codes) (slotAt (a .file .now) i)) (a .day .from) (a .day .slots) (a .reason .now) (a .created .now)
     (a .day .number) (λ i. slotAt (a .file .now) i .value) _ _ (after-is-one c .is-one .ensures)
     (after-put-300 c .before .before .day-mark .ensures) (c .if1 .taken)) (c .before .before .before .put-300 .ensures)
-
-put-runs-requires : tie.Need-put-runs-requires
-put-runs-requires c κs = search needs
-
-same-length-2 : tie.Need-same-length-2
-same-length-2 c = search needs
 
 returns-2 : tie.Need-returns-2
 returns-2 c = let a = start-out2 (c .before) .args in
@@ -70,11 +52,11 @@ pub put-day-spec : {M : Type 1} → statement M
 put-day-spec =
     tie.close
     (tie.spec
-    is-one-requires
-    day-mark-requires
-    put-300-requires
-    same-length
+    (λ c κs. search needs)
+    (λ c κs. search needs)
+    (λ c κs. search needs)
+    (λ c. search needs)
     returns
-    put-runs-requires
-    same-length-2
+    (λ c κs. search needs)
+    (λ c. search needs)
     returns-2)

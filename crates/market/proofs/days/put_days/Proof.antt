@@ -44,9 +44,6 @@ loop-holds c = record { inside = search needs; added = joined-none _ _ _ _ (sear
 add-t14 : tie.Need-add-t14 Inv-loop μ-loop
 add-t14 c = omega (arith, start (c .before) .pre .1)
 
-cast-t15 : tie.Need-cast-t15 Inv-loop μ-loop
-cast-t15 c = search needs
-
 mul-t16 : tie.Need-mul-t16 Inv-loop μ-loop
 mul-t16 c =
     let begun = start (c .before) in
@@ -63,12 +60,6 @@ put-day-requires c κs =
       begun .pre .0 .some,
       omega (arith, begun .pre .1),
     )
-
-add-d : tie.Need-add-d Inv-loop μ-loop
-add-d c = search needs
-
-loop-less : tie.Need-loop-less Inv-loop μ-loop
-loop-less c = search needs
 
 loop-again : tie.Need-loop-again Inv-loop μ-loop
 loop-again c =
@@ -93,11 +84,11 @@ put-days-spec =
     μ-loop
     loop-holds
     add-t14
-    cast-t15
+    (λ c. search needs)
     mul-t16
     put-day-requires
-    add-d
-    loop-less
+    (λ c. search needs)
+    (λ c. search needs)
     loop-again
     same-length
     returns)

@@ -15,16 +15,10 @@ passed1 c = c .before .before .before
 returns : tie.Need-returns
 returns c = rw (not-true (c .before .before .before .args .ends) (c .if1 .taken)) (nothing _ _ (search needs) (search needs))
 
-put-400-requires : tie.Need-put-400-requires
-put-400-requires c κs = search needs
-
-same-length : tie.Need-same-length
-same-length c = search needs
-
 returns-2 : tie.Need-returns-2
 returns-2 c =
     rw (not-false (passed1 (c .before) .before .before .before .args .ends) (passed1 (c .before) .if1 .left))
     (c .before .before .put-400 .ensures)
 
 pub put-run-spec : {M : Type 1} → statement M
-put-run-spec = tie.close (tie.spec returns put-400-requires same-length returns-2)
+put-run-spec = tie.close (tie.spec returns (λ c κs. search needs) (λ c. search needs) returns-2)

@@ -49,36 +49,6 @@ loop-holds c =
       added = joined-none _ _ _ _ (search needs) (search needs);
     }
 
-ends-run-requires : tie.Need-ends-run-requires Inv-loop μ-loop
-ends-run-requires c κs = search needs
-
-add-mark-at : tie.Need-add-mark-at Inv-loop μ-loop
-add-mark-at c = search needs
-
-mark-at-requires : tie.Need-mark-at-requires Inv-loop μ-loop
-mark-at-requires c κs = search needs
-
-add-put-run : tie.Need-add-put-run Inv-loop μ-loop
-add-put-run c = search needs
-
-add-put-run-2 : tie.Need-add-put-run-2 Inv-loop μ-loop
-add-put-run-2 c = search needs
-
-put-run-requires : tie.Need-put-run-requires Inv-loop μ-loop
-put-run-requires c κs = search needs
-
-add-next-start : tie.Need-add-next-start Inv-loop μ-loop
-add-next-start c = search needs
-
-next-start-requires : tie.Need-next-start-requires Inv-loop μ-loop
-next-start-requires c κs = search needs
-
-add-j : tie.Need-add-j Inv-loop μ-loop
-add-j c = search needs
-
-loop-less : tie.Need-loop-less Inv-loop μ-loop
-loop-less c = search needs
-
 loop-again : tie.Need-loop-again Inv-loop μ-loop
 loop-again c =
     let at-mark-at = after-mark-at c in
@@ -111,16 +81,16 @@ put-runs-spec =
     Inv-loop
     μ-loop
     loop-holds
-    ends-run-requires
-    add-mark-at
-    mark-at-requires
-    add-put-run
-    add-put-run-2
-    put-run-requires
-    add-next-start
-    next-start-requires
-    add-j
-    loop-less
+    (λ c κs. search needs)
+    (λ c. search needs)
+    (λ c κs. search needs)
+    (λ c. search needs)
+    (λ c. search needs)
+    (λ c κs. search needs)
+    (λ c. search needs)
+    (λ c κs. search needs)
+    (λ c. search needs)
+    (λ c. search needs)
     loop-again
     same-length
     returns)

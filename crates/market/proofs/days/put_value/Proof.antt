@@ -17,27 +17,6 @@ after-put-text c = c .before .before .before .before .before
 
 -- ---- Needs
 
-mul-number : tie.Need-mul-number
-mul-number c = search needs
-
-number-requires : tie.Need-number-requires
-number-requires c κs = search needs
-
-put-number-requires : tie.Need-put-number-requires
-put-number-requires c κs = search needs
-
-slice-aggregate-put-text : tie.Need-slice-aggregate-put-text
-slice-aggregate-put-text c = search needs
-
-put-text-requires : tie.Need-put-text-requires
-put-text-requires c κs = search needs
-
-put-digits-requires : tie.Need-put-digits-requires
-put-digits-requires c κs = search needs
-
-same-length : tie.Need-same-length
-same-length c = search needs
-
 returns : tie.Need-returns
 unfolding kwh
 returns c =
@@ -50,11 +29,11 @@ pub put-value-spec : {M : Type 1} → statement M
 put-value-spec =
     tie.close
     (tie.spec
-    mul-number
-    number-requires
-    put-number-requires
-    slice-aggregate-put-text
-    put-text-requires
-    put-digits-requires
-    same-length
+    (λ c. search needs)
+    (λ c κs. search needs)
+    (λ c κs. search needs)
+    (λ c. search needs)
+    (λ c κs. search needs)
+    (λ c κs. search needs)
+    (λ c. search needs)
     returns)

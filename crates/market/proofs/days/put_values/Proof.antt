@@ -36,18 +36,6 @@ at-loop c = c .before .before .before .before
 loop-holds : tie.Need-loop-holds Inv-loop μ-loop
 loop-holds c = record { inside = search needs; added = joined-none _ _ _ _ (search needs) (search needs) }
 
-add-put-value : tie.Need-add-put-value Inv-loop μ-loop
-add-put-value c = search needs
-
-put-value-requires : tie.Need-put-value-requires Inv-loop μ-loop
-put-value-requires c κs = search needs
-
-add-i : tie.Need-add-i Inv-loop μ-loop
-add-i c = search needs
-
-loop-less : tie.Need-loop-less Inv-loop μ-loop
-loop-less c = search needs
-
 loop-again : tie.Need-loop-again Inv-loop μ-loop
 loop-again c =
     record {
@@ -70,10 +58,10 @@ put-values-spec =
     Inv-loop
     μ-loop
     loop-holds
-    add-put-value
-    put-value-requires
-    add-i
-    loop-less
+    (λ c. search needs)
+    (λ c κs. search needs)
+    (λ c. search needs)
+    (λ c. search needs)
     loop-again
     same-length
     returns)

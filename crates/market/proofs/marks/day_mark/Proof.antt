@@ -3,9 +3,6 @@ use borrow.Author.Needs.{needs}
 use Rattle.market.proofs.marks.day_mark.Statement.{statement}
 use Rattle.market.proofs.marks.day_mark.Tie as tie
 
-mark-at-requires : tie.Need-mark-at-requires
-mark-at-requires c κs = search needs
-
 returns : tie.Need-returns
 returns c = rw (c .before .if1 .taken) (c .mark-at .ensures)
 
@@ -13,4 +10,4 @@ returns-2 : tie.Need-returns-2
 returns-2 c = rw (c .if1 .left)
 
 pub day-mark-spec : {M : Type 1} → statement M
-day-mark-spec = tie.close (tie.spec mark-at-requires returns returns-2)
+day-mark-spec = tie.close (tie.spec (λ c κs. search needs) returns returns-2)

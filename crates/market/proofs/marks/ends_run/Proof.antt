@@ -5,30 +5,9 @@ use borrow.Author.Needs.{needs}
 use Rattle.market.proofs.marks.ends_run.Statement.{statement}
 use Rattle.market.proofs.marks.ends_run.Tie as tie
 
-add-if1 : tie.Need-add-if1
-add-if1 c = search needs
-
 returns : tie.Need-returns
 unfolding endsRun
 returns c = rw (eq-eqb _ _ (c .if1 .taken))
-
-add-mark-at : tie.Need-add-mark-at
-add-mark-at c = search needs
-
-mark-at-requires : tie.Need-mark-at-requires
-mark-at-requires c κs = search needs
-
-add-mark-at-2 : tie.Need-add-mark-at-2
-add-mark-at-2 c = search needs
-
-add-mark-at-3 : tie.Need-add-mark-at-3
-add-mark-at-3 c = search needs
-
-mark-at-requires-2 : tie.Need-mark-at-requires-2
-mark-at-requires-2 c κs = search needs
-
-are-alike-requires : tie.Need-are-alike-requires
-are-alike-requires c κs = search needs
 
 returns-2 : tie.Need-returns-2
 unfolding endsRun
@@ -44,12 +23,12 @@ pub ends-run-spec : {M : Type 1} → statement M
 ends-run-spec =
     tie.close
     (tie.spec
-    add-if1
+    (λ c. search needs)
     returns
-    add-mark-at
-    mark-at-requires
-    add-mark-at-2
-    add-mark-at-3
-    mark-at-requires-2
-    are-alike-requires
+    (λ c. search needs)
+    (λ c κs. search needs)
+    (λ c. search needs)
+    (λ c. search needs)
+    (λ c κs. search needs)
+    (λ c κs. search needs)
     returns-2)

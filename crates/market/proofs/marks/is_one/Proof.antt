@@ -31,21 +31,9 @@ at-loop c = c .before .before .before
 
 -- ---- Needs
 
-mark-at-requires : tie.Need-mark-at-requires Inv-loop μ-loop
-mark-at-requires c κs = search needs
-
 loop-holds : tie.Need-loop-holds Inv-loop μ-loop
 unfolding oneMark
 loop-holds c = record { inside = search needs; known = rw sub-zero }
-
-add-mark-at : tie.Need-add-mark-at Inv-loop μ-loop
-add-mark-at c = search needs
-
-mark-at-requires-2 : tie.Need-mark-at-requires-2 Inv-loop μ-loop
-mark-at-requires-2 c κs = search needs
-
-are-alike-requires : tie.Need-are-alike-requires Inv-loop μ-loop
-are-alike-requires c κs = search needs
 
 returns : tie.Need-returns Inv-loop μ-loop
 returns c =
@@ -54,12 +42,6 @@ returns c =
     ∙ all-fails _ (looped .loop .j) _ (search needs)
     (sym (c .before .are-alike .ensures ∙ ap₂ alike (looped .before .mark-at .ensures) (c .before .before .mark-at2 .ensures))
     ∙ not-true _ (c .if1 .taken)))
-
-add-j : tie.Need-add-j Inv-loop μ-loop
-add-j c = search needs
-
-loop-less : tie.Need-loop-less Inv-loop μ-loop
-loop-less c = search needs
 
 loop-again : tie.Need-loop-again Inv-loop μ-loop
 loop-again c =
@@ -82,13 +64,13 @@ is-one-spec =
     (tie.spec
     Inv-loop
     μ-loop
-    mark-at-requires
+    (λ c κs. search needs)
     loop-holds
-    add-mark-at
-    mark-at-requires-2
-    are-alike-requires
+    (λ c. search needs)
+    (λ c κs. search needs)
+    (λ c κs. search needs)
     returns
-    add-j
-    loop-less
+    (λ c. search needs)
+    (λ c. search needs)
     loop-again
     returns-2)

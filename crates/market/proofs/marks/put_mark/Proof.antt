@@ -32,24 +32,6 @@ start-out5 c = start (after-put-text (passed1 c .before))
 
 -- ---- Needs
 
-slice-aggregate-put-text : tie.Need-slice-aggregate-put-text
-slice-aggregate-put-text c = search needs
-
-put-text-requires : tie.Need-put-text-requires
-put-text-requires c κs = search needs
-
-has-code-requires : tie.Need-has-code-requires
-has-code-requires c κs = search needs
-
-slice-aggregate-put-text-2 : tie.Need-slice-aggregate-put-text-2
-slice-aggregate-put-text-2 c = search needs
-
-put-text-requires-2 : tie.Need-put-text-requires-2
-put-text-requires-2 c κs = search needs
-
-same-length : tie.Need-same-length
-same-length c = search needs
-
 returns : tie.Need-returns
 returns c =
     let chosen1 = taken1 (c .before) in
@@ -57,24 +39,6 @@ returns c =
     same (without-code (start at-put-text .args .mark) (start at-put-text .args .reason .now)
     (sym (chosen1 .before .has-code .ensures) ∙ not-true _ (chosen1 .if1 .taken))) (then (at-put-text .put-text .ensures)
     (c .before .before .put-text2 .ensures))
-
-cast-put-digits : tie.Need-cast-put-digits
-cast-put-digits c = search needs
-
-put-digits-requires : tie.Need-put-digits-requires
-put-digits-requires c κs = search needs
-
-put-field-requires : tie.Need-put-field-requires
-put-field-requires c κs = search needs
-
-slice-aggregate-put-text-3 : tie.Need-slice-aggregate-put-text-3
-slice-aggregate-put-text-3 c = search needs
-
-put-text-requires-3 : tie.Need-put-text-requires-3
-put-text-requires-3 c κs = search needs
-
-same-length-2 : tie.Need-same-length-2
-same-length-2 c = search needs
 
 returns-2 : tie.Need-returns-2
 returns-2 c =
@@ -88,17 +52,17 @@ pub put-mark-spec : {M : Type 1} → statement M
 put-mark-spec =
     tie.close
     (tie.spec
-    slice-aggregate-put-text
-    put-text-requires
-    has-code-requires
-    slice-aggregate-put-text-2
-    put-text-requires-2
-    same-length
+    (λ c. search needs)
+    (λ c κs. search needs)
+    (λ c κs. search needs)
+    (λ c. search needs)
+    (λ c κs. search needs)
+    (λ c. search needs)
     returns
-    cast-put-digits
-    put-digits-requires
-    put-field-requires
-    slice-aggregate-put-text-3
-    put-text-requires-3
-    same-length-2
+    (λ c. search needs)
+    (λ c κs. search needs)
+    (λ c κs. search needs)
+    (λ c. search needs)
+    (λ c κs. search needs)
+    (λ c. search needs)
     returns-2)

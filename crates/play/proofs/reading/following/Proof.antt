@@ -18,12 +18,6 @@ abbrev μ-loop : tie.MeasureT-loop
 loop-holds : tie.Need-loop-holds Inv-loop μ-loop
 loop-holds c = following-first ((c .before) .pre)
 
-passing-at-requires : tie.Need-passing-at-requires Inv-loop μ-loop
-passing-at-requires c κs = search needs
-
-add-n : tie.Need-add-n Inv-loop μ-loop
-add-n c = search needs
-
 -- the line of this turn, after the test that it can stand here
 abbrev passed : tie.Else1 Inv-loop μ-loop → tie.After-passing-at Inv-loop μ-loop
 passed c = c .before
@@ -71,8 +65,8 @@ following-spec =
     Inv-loop
     μ-loop
     loop-holds
-    passing-at-requires
-    add-n
+    (λ c κs. search needs)
+    (λ c. search needs)
     returns
     add-calls
     loop-less

@@ -5,9 +5,6 @@ use borrow.Author.Needs.{needs}
 use Rattle.play.proofs.reading.head_step.Statement.{statement}
 use Rattle.play.proofs.reading.head_step.Tie as tie
 
-head-ok-requires : tie.Need-head-ok-requires
-head-ok-requires c κs = search needs
-
 returns : tie.Need-returns
 unfolding headStep
 returns c = rw (sym (c .before .head-ok .ensures) ∙ c .if1 .taken)
@@ -17,4 +14,4 @@ unfolding headStep
 returns-2 c = rw (sym (c .before .head-ok .ensures) ∙ c .if1 .left)
 
 pub head-step-spec : {M : Type 1} → statement M
-head-step-spec = tie.close (tie.spec head-ok-requires returns returns-2)
+head-step-spec = tie.close (tie.spec (λ c κs. search needs) returns returns-2)

@@ -4,18 +4,6 @@ use borrow.Author.Needs.{needs}
 use Rattle.play.proofs.reading.lead_of.Statement.{statement}
 use Rattle.play.proofs.reading.lead_of.Tie as tie
 
-enum-told : tie.Need-enum-told
-enum-told c = search needs
-
-enum-known-step : tie.Need-enum-known-step
-enum-known-step c = search needs
-
-enum-told-2 : tie.Need-enum-told-2
-enum-told-2 c = search needs
-
-enum-known-step-2 : tie.Need-enum-known-step-2
-enum-known-step-2 c = search needs
-
 returns : tie.Need-returns
 unfolding leadOf
 returns c = rw (c .enum-told .given .1)
@@ -36,10 +24,10 @@ pub lead-of-spec : {M : Type 1} → statement M
 lead-of-spec =
     tie.close
     (tie.spec
-    enum-told
-    enum-known-step
-    enum-told-2
-    enum-known-step-2
+    (λ c. search needs)
+    (λ c. search needs)
+    (λ c. search needs)
+    (λ c. search needs)
     returns
     returns-2
     returns-3

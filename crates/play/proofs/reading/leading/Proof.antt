@@ -31,38 +31,8 @@ after-entry-of-table-after c = c .before .before .before .before
 
 -- ---- Needs
 
-none-requires : tie.Need-none-requires Inv-loop μ-loop
-none-requires c κs = search needs
-
 loop-holds : tie.Need-loop-holds Inv-loop μ-loop
 loop-holds c = rw (c .none .ensures) (leading-first _)
-
-line-at-requires : tie.Need-line-at-requires Inv-loop μ-loop
-line-at-requires c κs = search needs
-
-sub-entry-of : tie.Need-sub-entry-of Inv-loop μ-loop
-sub-entry-of c = search needs
-
-part-entry-of-start : tie.Need-part-entry-of-start Inv-loop μ-loop
-part-entry-of-start c = search needs
-
-part-entry-of-end : tie.Need-part-entry-of-end Inv-loop μ-loop
-part-entry-of-end c = search needs
-
-entry-of-requires : tie.Need-entry-of-requires Inv-loop μ-loop
-entry-of-requires c κs = search needs
-
-add-n : tie.Need-add-n Inv-loop μ-loop
-add-n c = search needs
-
-step-of-requires : tie.Need-step-of-requires Inv-loop μ-loop
-step-of-requires c κs = search needs
-
-goes-on-requires : tie.Need-goes-on-requires Inv-loop μ-loop
-goes-on-requires c κs = search needs
-
-lead-of-requires : tie.Need-lead-of-requires Inv-loop μ-loop
-lead-of-requires c κs = search needs
 
 returns : tie.Need-returns Inv-loop μ-loop
 unfolding itemOf
@@ -72,12 +42,6 @@ returns c =
     (leading-ends (at-loop at-entry-of .loop .inv) (at-entry-of .before .before .line-at .ensures) _
     (ap (λ (e : Entry). itemIn (e .line) (e .limits)) (at-entry-of .entry-of .ensures)) _ (c .before .before .before .step-of .ensures)
     (sym (c .before .before .goes-on .ensures) ∙ not-true _ (c .before .if1 .taken)))
-
-table-after-requires : tie.Need-table-after-requires Inv-loop μ-loop
-table-after-requires c κs = search needs
-
-loop-less : tie.Need-loop-less Inv-loop μ-loop
-loop-less c = search needs
 
 loop-again : tie.Need-loop-again Inv-loop μ-loop
 unfolding itemOf
@@ -97,19 +61,19 @@ leading-spec =
     (tie.spec
     Inv-loop
     μ-loop
-    none-requires
+    (λ c κs. search needs)
     loop-holds
-    line-at-requires
-    sub-entry-of
-    part-entry-of-start
-    part-entry-of-end
-    entry-of-requires
-    add-n
-    step-of-requires
-    goes-on-requires
-    lead-of-requires
+    (λ c κs. search needs)
+    (λ c. search needs)
+    (λ c. search needs)
+    (λ c. search needs)
+    (λ c κs. search needs)
+    (λ c. search needs)
+    (λ c κs. search needs)
+    (λ c κs. search needs)
+    (λ c κs. search needs)
     returns
-    table-after-requires
-    loop-less
+    (λ c κs. search needs)
+    (λ c. search needs)
     loop-again
     returns-2)

@@ -15,17 +15,8 @@ start c = c .before .before .before .before
 
 -- ---- Needs
 
-slice-aggregate-load : tie.Need-slice-aggregate-load
-slice-aggregate-load c = search needs
-
-load-requires : tie.Need-load-requires
-load-requires c κs = search needs
-
 returns : tie.Need-returns
 returns c = c .load .ensures ∙ ap (λ (t : List ℕ). loadAnswer t ((start c) .args .kind)) (built-in _ _ (c .before .before .if1 .taken))
-
-load-from-requires : tie.Need-load-from-requires
-load-from-requires c κs = search needs
 
 returns-2 : tie.Need-returns-2
 returns-2 c =
@@ -35,4 +26,4 @@ returns-2 c =
 
 pub limit-at-spec : {M : Type 1} → statement M
 limit-at-spec =
-    tie.close (tie.spec slice-aggregate-load load-requires returns load-from-requires returns-2)
+    tie.close (tie.spec (λ c. search needs) (λ c κs. search needs) returns (λ c κs. search needs) returns-2)

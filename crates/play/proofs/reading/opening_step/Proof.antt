@@ -12,21 +12,6 @@ after-limit-at c = c .before .before .before .before .before
 
 -- ---- Needs
 
-limit-at-requires : tie.Need-limit-at-requires
-limit-at-requires c κs = search needs
-
-enum-known-loaded : tie.Need-enum-known-loaded
-enum-known-loaded c = search needs
-
-head-with-requires : tie.Need-head-with-requires
-head-with-requires c κs = search needs
-
-head-step-requires : tie.Need-head-step-requires
-head-step-requires c κs = search needs
-
-enum-known-loaded-2 : tie.Need-enum-known-loaded-2
-enum-known-loaded-2 c = search needs
-
 returns : tie.Need-returns
 unfolding openingStep
 returns c =
@@ -41,10 +26,10 @@ pub opening-step-spec : {M : Type 1} → statement M
 opening-step-spec =
     tie.close
     (tie.spec
-    limit-at-requires
-    enum-known-loaded
-    head-with-requires
-    head-step-requires
-    enum-known-loaded-2
+    (λ c κs. search needs)
+    (λ c. search needs)
+    (λ c κs. search needs)
+    (λ c κs. search needs)
+    (λ c. search needs)
     returns
     returns-2)

@@ -4,20 +4,8 @@ use Rattle.play.proofs.Stepping.{passing-delivery}
 use Rattle.play.proofs.reading.passing_at.Statement.{statement}
 use Rattle.play.proofs.reading.passing_at.Tie as tie
 
-delivery-end-requires : tie.Need-delivery-end-requires
-delivery-end-requires c κs = search needs
-
 returns : tie.Need-returns
 returns c = passing-delivery (c .before .delivery-end .ensures (c .if1 .taken))
-
-read-from-requires : tie.Need-read-from-requires
-read-from-requires c κs = search needs
-
-is-outside-requires : tie.Need-is-outside-requires
-is-outside-requires c κs = search needs
-
-calls-at-requires : tie.Need-calls-at-requires
-calls-at-requires c κs = search needs
 
 returns-2 : tie.Need-returns-2
 returns-2 c = record {
@@ -30,4 +18,4 @@ returns-2 c = record {
 pub passing-at-spec : {M : Type 1} → statement M
 passing-at-spec =
     tie.close
-    (tie.spec delivery-end-requires returns read-from-requires is-outside-requires calls-at-requires returns-2)
+    (tie.spec (λ c κs. search needs) returns (λ c κs. search needs) (λ c κs. search needs) (λ c κs. search needs) returns-2)

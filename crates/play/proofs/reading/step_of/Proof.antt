@@ -6,27 +6,6 @@ use borrow.Author.Needs.{needs}
 use Rattle.play.proofs.reading.step_of.Statement.{statement}
 use Rattle.play.proofs.reading.step_of.Tie as tie
 
-enum-told : tie.Need-enum-told
-enum-told c = search needs
-
-enum-told-2 : tie.Need-enum-told-2
-enum-told-2 c = search needs
-
-table-step-requires : tie.Need-table-step-requires
-table-step-requires c κs = search needs
-
-enum-known-line : tie.Need-enum-known-line
-enum-known-line c = search needs
-
-opening-step-requires : tie.Need-opening-step-requires
-opening-step-requires c κs = search needs
-
-enum-told-3 : tie.Need-enum-told-3
-enum-told-3 c = search needs
-
-enum-told-4 : tie.Need-enum-told-4
-enum-told-4 c = search needs
-
 returns : tie.Need-returns
 unfolding itemIn
 returns c = rw (c .enum-told .given .1) (step-passed _)
@@ -51,13 +30,13 @@ pub step-of-spec : {M : Type 1} → statement M
 step-of-spec =
     tie.close
     (tie.spec
-    enum-told
-    enum-told-2
-    table-step-requires
-    enum-known-line
-    opening-step-requires
-    enum-told-3
-    enum-told-4
+    (λ c. search needs)
+    (λ c. search needs)
+    (λ c κs. search needs)
+    (λ c. search needs)
+    (λ c κs. search needs)
+    (λ c. search needs)
+    (λ c. search needs)
     returns
     returns-2
     returns-3

@@ -16,15 +16,6 @@ passed1 c = c .before .before .before
 returns : tie.Need-returns
 returns c = step-second _ _ (search needs) _ (c .if1 .taken)
 
-load-from-requires : tie.Need-load-from-requires
-load-from-requires c κs = search needs
-
-enum-told : tie.Need-enum-told
-enum-told c = search needs
-
-enum-known-loaded : tie.Need-enum-known-loaded
-enum-known-loaded c = search needs
-
 returns-2 : tie.Need-returns-2
 unfolding tableStep
 returns-2 c =
@@ -37,4 +28,4 @@ returns-3 c =
 
 pub table-step-spec : {M : Type 1} → statement M
 table-step-spec =
-    tie.close (tie.spec returns load-from-requires enum-told enum-known-loaded returns-2 returns-3)
+    tie.close (tie.spec returns (λ c κs. search needs) (λ c. search needs) (λ c. search needs) returns-2 returns-3)

@@ -4,11 +4,8 @@ use borrow.Author.Needs.{needs}
 use Rattle.publishing.proofs.tables.begin.Statement.{statement}
 use Rattle.publishing.proofs.tables.begin.Tie as tie
 
-first-requires : tie.Need-first-requires
-first-requires c κs = search needs
-
 returns : tie.Need-returns
 returns c = λ h b. progress-first h b (c .first .result) (c .first .ensures h b)
 
 pub begin-spec : {M : Type 1} → statement M
-begin-spec = tie.close (tie.spec first-requires returns)
+begin-spec = tie.close (tie.spec (λ c κs. search needs) returns)

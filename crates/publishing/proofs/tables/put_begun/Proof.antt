@@ -23,27 +23,9 @@ after-begins c = c .before .before .before .before
 
 -- ---- Needs
 
-enum-known-begins : tie.Need-enum-known-begins
-enum-known-begins c = search needs
-
-mul-put-span : tie.Need-mul-put-span
-mul-put-span c = search needs
-
-add-put-span : tie.Need-add-put-span
-add-put-span c = search needs
-
 put-span-requires : tie.Need-put-span-requires
 put-span-requires c κs =
     omega (arith, start (c .before .before) .pre, ap (λ (x : Begins). length (listOf x)) (c .before .before .begins .given .1))
-
-add-result : tie.Need-add-result
-add-result c = search needs
-
-enum-told : tie.Need-enum-told
-enum-told c = search needs
-
-same-length : tie.Need-same-length
-same-length c = search needs
 
 returns : tie.Need-returns
 returns c =
@@ -70,12 +52,12 @@ pub put-begun-spec : {M : Type 1} → statement M
 put-begun-spec =
     tie.close
     (tie.spec
-    enum-known-begins
-    mul-put-span
-    add-put-span
+    (λ c. search needs)
+    (λ c. search needs)
+    (λ c. search needs)
     put-span-requires
-    add-result
-    enum-told
-    same-length
+    (λ c. search needs)
+    (λ c. search needs)
+    (λ c. search needs)
     returns
     returns-2)

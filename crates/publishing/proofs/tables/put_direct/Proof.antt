@@ -117,15 +117,9 @@ loop-holds c =
 is-good-requires : tie.Need-is-good-requires Inv-loop μ-loop
 is-good-requires c κs = (start (c .before) .pre .direct .fitted, below c)
 
-mul-delivered : tie.Need-mul-delivered Inv-loop μ-loop
-mul-delivered c = search needs
-
 shared-slice-read-delivered : tie.Need-shared-slice-read-delivered Inv-loop μ-loop
 shared-slice-read-delivered c =
     let turned = turn (c .before .before) in omega (arith, below turned, start (turned .before) .pre .direct .fitted .values)
-
-delivered-requires : tie.Need-delivered-requires Inv-loop μ-loop
-delivered-requires c κs = search needs
 
 mul-put-slot : tie.Need-mul-put-slot Inv-loop μ-loop
 mul-put-slot c = let turned = turn (good c) in omega (arith, below turned, most (turned .before))
@@ -135,9 +129,6 @@ put-slot-requires c κs = let turned = turn (good c) in omega (arith, room turne
 
 add-requires : tie.Need-add-requires Inv-loop μ-loop
 add-requires c κs = counts (turn (good (c .before .before .before)))
-
-mul-if2 : tie.Need-mul-if2 Inv-loop μ-loop
-mul-if2 c = search needs
 
 shared-slice-read-if2 : tie.Need-shared-slice-read-if2 Inv-loop μ-loop
 shared-slice-read-if2 c =
@@ -153,16 +144,10 @@ returns c =
     let cause = sym (is .is-good .ensures) ∙ c .before .before .if1 .left in
     ran-end _ (lent at) (settled at) _ _ _ _ _ _ _ _ (at .loop .inv) (λ l. direct-none _ _ (settled at) _ cause (c .if2 .taken))
 
-mul-by-agreement : tie.Need-mul-by-agreement Inv-loop μ-loop
-mul-by-agreement c = search needs
-
 shared-slice-read-by-agreement : tie.Need-shared-slice-read-by-agreement Inv-loop μ-loop
 shared-slice-read-by-agreement c =
     let turned = turn (after-is-good-passed2 (c .before)) in
     omega (arith, below turned, start (turned .before) .pre .direct .settled .values)
-
-by-agreement-requires : tie.Need-by-agreement-requires Inv-loop μ-loop
-by-agreement-requires c κs = search needs
 
 mul-put-slot-2 : tie.Need-mul-put-slot-2 Inv-loop μ-loop
 mul-put-slot-2 c = let turned = turn (agreed c) in omega (arith, below turned, most (turned .before))
@@ -228,19 +213,19 @@ put-direct-spec =
     μ-loop
     loop-holds
     is-good-requires
-    mul-delivered
+    (λ c. search needs)
     shared-slice-read-delivered
-    delivered-requires
+    (λ c κs. search needs)
     mul-put-slot
     put-slot-requires
     add-requires
-    mul-if2
+    (λ c. search needs)
     shared-slice-read-if2
     same-length
     returns
-    mul-by-agreement
+    (λ c. search needs)
     shared-slice-read-by-agreement
-    by-agreement-requires
+    (λ c κs. search needs)
     mul-put-slot-2
     put-slot-requires-2
     outage-zero-requires

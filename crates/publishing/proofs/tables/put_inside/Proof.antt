@@ -178,9 +178,6 @@ put-direct-requires c κs =
           (whole .widths .low);
     }
 
-bare-requires : tie.Need-bare-requires Inv-loop μ-loop
-bare-requires c κs = search needs
-
 loop-less : tie.Need-loop-less Inv-loop μ-loop
 loop-less c =
     let run = put (ran c) in
@@ -313,7 +310,7 @@ put-inside-spec =
     μ-loop
     loop-holds
     put-direct-requires
-    bare-requires
+    (λ c κs. search needs)
     loop-less
     loop-again
     outage-zero-requires

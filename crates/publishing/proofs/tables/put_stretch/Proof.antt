@@ -83,9 +83,6 @@ put-inside-requires c κs =
       totals = ap (λ (p : Progress). p .totals) (s .pre .known);
     }
 
-same-length : tie.Need-same-length
-same-length c = search needs
-
 returns : tie.Need-returns
 returns c =
     let put = done c in
@@ -114,4 +111,4 @@ returns c =
 
 pub put-stretch-spec : {M : Type 1} → statement M
 put-stretch-spec =
-    tie.close (tie.spec enter-requires put-begun-requires put-inside-requires same-length returns)
+    tie.close (tie.spec enter-requires put-begun-requires put-inside-requires (λ c. search needs) returns)

@@ -65,9 +65,6 @@ place c = progress-place (start c .args .head) (lent (start c)) (c .loop .i) (c 
 slot-count-requires : tie.Need-slot-count-requires Inv-loop μ-loop
 slot-count-requires c κs = entry c .pre .0 .whole .lent .fitted .head
 
-begin-requires : tie.Need-begin-requires Inv-loop μ-loop
-begin-requires c κs = search needs
-
 loop-holds : tie.Need-loop-holds Inv-loop μ-loop
 loop-holds c =
     let s = entry (c .before .before) in
@@ -128,7 +125,7 @@ put-tables-spec =
     Inv-loop
     μ-loop
     slot-count-requires
-    begin-requires
+    (λ c κs. search needs)
     loop-holds
     put-stretch-requires
     loop-less

@@ -24,23 +24,8 @@ abbrev μ-loop : tie.MeasureT-loop
 loop-holds : tie.Need-loop-holds Inv-loop μ-loop
 loop-holds c = record { inside = omega arith; long = (c) .pre; known = refl }
 
-mul-fields : tie.Need-mul-fields Inv-loop μ-loop
-mul-fields c = omega arith
-
-array-read-fields : tie.Need-array-read-fields Inv-loop μ-loop
-array-read-fields c = omega arith
-
-mul-fields-2 : tie.Need-mul-fields-2 Inv-loop μ-loop
-mul-fields-2 c = omega arith
-
 slice-write-fields : tie.Need-slice-write-fields Inv-loop μ-loop
 slice-write-fields c = omega (arith, c .before .loop .inv .long)
-
-add-i : tie.Need-add-i Inv-loop μ-loop
-add-i c = omega arith
-
-loop-less : tie.Need-loop-less Inv-loop μ-loop
-loop-less c = omega arith
 
 loop-again : tie.Need-loop-again Inv-loop μ-loop
 loop-again c = let a = (c .before .before) .args in
@@ -59,9 +44,6 @@ loop-again c = let a = (c .before .before) .args in
           );
     }
 
-same-length : tie.Need-same-length Inv-loop μ-loop
-same-length c = search needs
-
 returns : tie.Need-returns Inv-loop μ-loop
 returns c = let a = (c .before .before) .args in
     let l : length (a .t2) ≡ 34 = search needs in
@@ -75,12 +57,12 @@ put-spec =
     Inv-loop
     μ-loop
     loop-holds
-    mul-fields
-    array-read-fields
-    mul-fields-2
+    (λ c. omega arith)
+    (λ c. omega arith)
+    (λ c. omega arith)
     slice-write-fields
-    add-i
-    loop-less
+    (λ c. omega arith)
+    (λ c. omega arith)
     loop-again
-    same-length
+    (λ c. search needs)
     returns)

@@ -26,12 +26,6 @@ passed3 c = c .before .before .before .before
 
 -- ---- Needs
 
-head-of-requires : tie.Need-head-of-requires
-head-of-requires c κs = search needs
-
-explain-requires : tie.Need-explain-requires
-explain-requires c κs = search needs
-
 returns : tie.Need-returns
 returns c = let a = (start (c .before .before)) .args in
     let h = headOf (a .year) (a .month) (a .day) (a .days) (a .interval) (a .limit) (a .tolerance) in
@@ -48,9 +42,6 @@ returns-2 c = let a = (start (after-explain c)) .args in
     refused-fields h b (a .slot) (a .fields .now) (c .before .before .before .explain .result)
     (rw (after-explain c .before .head-of .ensures) at (c .before .before .before .explain .ensures)) (c .before .if1 .left) (c .if2 .taken)
 
-cast-result : tie.Need-cast-result
-cast-result c = search needs
-
 returns-3 : tie.Need-returns-3
 returns-3 c =
     let at-explain = after-explain-passed2 (c .before .before .before) in
@@ -62,14 +53,8 @@ returns-3 c =
     (simp (at-explain .before .head-of .ensures) at (at-explain .explain .ensures)) (c .before .before .before .if2 .left)
     (c .before .if3 .taken)
 
-fields-of-requires : tie.Need-fields-of-requires
-fields-of-requires c κs = search needs
-
 put-requires : tie.Need-put-requires
 put-requires c κs = passed2 c .if2 .left
-
-same-length : tie.Need-same-length
-same-length c = search needs
 
 returns-4 : tie.Need-returns-4
 returns-4 c =
@@ -87,13 +72,13 @@ pub sawmauve-explain-spec : {M : Type 1} → statement M
 sawmauve-explain-spec =
     tie.close
     (tie.spec
-    head-of-requires
-    explain-requires
+    (λ c κs. search needs)
+    (λ c κs. search needs)
     returns
     returns-2
-    cast-result
+    (λ c. search needs)
     returns-3
-    fields-of-requires
+    (λ c κs. search needs)
     put-requires
-    same-length
+    (λ c. search needs)
     returns-4)

@@ -6,18 +6,6 @@ use borrow.Author.Needs.{needs}
 use Rattle.questions.proofs.logs.put_seven.Statement.{statement}
 use Rattle.questions.proofs.logs.put_seven.Tie as tie
 
-slice-write-fields : tie.Need-slice-write-fields
-slice-write-fields c = search needs
-
-slice-write-fields-2 : tie.Need-slice-write-fields-2
-slice-write-fields-2 c = search needs
-
-slice-write-fields-3 : tie.Need-slice-write-fields-3
-slice-write-fields-3 c = search needs
-
-slice-write-fields-4 : tie.Need-slice-write-fields-4
-slice-write-fields-4 c = search needs
-
 slice-write-fields-5 : tie.Need-slice-write-fields-5
 slice-write-fields-5 c = simp length-set (omega arith)
 
@@ -27,9 +15,6 @@ slice-write-fields-6 c = simp length-set (omega arith)
 slice-write-fields-7 : tie.Need-slice-write-fields-7
 slice-write-fields-7 c = simp length-set (omega arith)
 
-same-length : tie.Need-same-length
-same-length c = search needs
-
 returns : tie.Need-returns
 returns c = seven-set (c .args .fields .now) ((c) .pre)
 
@@ -37,12 +22,12 @@ pub put-seven-spec : {M : Type 1} → statement M
 put-seven-spec =
     tie.close
     (tie.spec
-    slice-write-fields
-    slice-write-fields-2
-    slice-write-fields-3
-    slice-write-fields-4
+    (λ c. search needs)
+    (λ c. search needs)
+    (λ c. search needs)
+    (λ c. search needs)
     slice-write-fields-5
     slice-write-fields-6
     slice-write-fields-7
-    same-length
+    (λ c. search needs)
     returns)

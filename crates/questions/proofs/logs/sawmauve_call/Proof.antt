@@ -14,15 +14,6 @@ after-line-of c = c .before .before .before
 returns : tie.Need-returns
 returns c = other-fields _ _ (c .if1 .taken)
 
-line-of-requires : tie.Need-line-of-requires
-line-of-requires c κs = search needs
-
-tell-line-requires : tie.Need-tell-line-requires
-tell-line-requires c κs = search needs
-
-same-length : tie.Need-same-length
-same-length c = search needs
-
 returns-2 : tie.Need-returns-2
 returns-2 c =
     fields-told _ _ (after-line-of (c .before) .before .if1 .left) _ (after-line-of (c .before) .line-of .ensures)
@@ -30,4 +21,4 @@ returns-2 c =
 
 pub sawmauve-call-spec : {M : Type 1} → statement M
 sawmauve-call-spec =
-    tie.close (tie.spec returns line-of-requires tell-line-requires same-length returns-2)
+    tie.close (tie.spec returns (λ c κs. search needs) (λ c κs. search needs) (λ c. search needs) returns-2)

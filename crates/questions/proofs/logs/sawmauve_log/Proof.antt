@@ -14,15 +14,6 @@ after-check c = c .before .before .before
 returns : tie.Need-returns
 returns c = other-figures _ _ (c .if1 .taken)
 
-check-requires : tie.Need-check-requires
-check-requires c κs = search needs
-
-tell-log-requires : tie.Need-tell-log-requires
-tell-log-requires c κs = search needs
-
-same-length : tie.Need-same-length
-same-length c = search needs
-
 returns-2 : tie.Need-returns-2
 returns-2 c =
     figures-told _ _ (after-check (c .before) .before .if1 .left) _ (after-check (c .before) .check .ensures)
@@ -30,4 +21,4 @@ returns-2 c =
 
 pub sawmauve-log-spec : {M : Type 1} → statement M
 sawmauve-log-spec =
-    tie.close (tie.spec returns check-requires tell-log-requires same-length returns-2)
+    tie.close (tie.spec returns (λ c κs. search needs) (λ c κs. search needs) (λ c. search needs) returns-2)

@@ -5,14 +5,8 @@ use borrow.Author.Needs.{needs}
 use Rattle.questions.proofs.logs.sawmauve_log_line.Statement.{statement}
 use Rattle.questions.proofs.logs.sawmauve_log_line.Tie as tie
 
-check-requires : tie.Need-check-requires
-check-requires c κs = search needs
-
-line-number-requires : tie.Need-line-number-requires
-line-number-requires c κs = search needs
-
 returns : tie.Need-returns
 returns c = c .line-number .ensures ∙ ap checkLine (c .before .check .ensures)
 
 pub sawmauve-log-line-spec : {M : Type 1} → statement M
-sawmauve-log-line-spec = tie.close (tie.spec check-requires line-number-requires returns)
+sawmauve-log-line-spec = tie.close (tie.spec (λ c κs. search needs) (λ c κs. search needs) returns)

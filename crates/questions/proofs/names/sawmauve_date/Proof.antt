@@ -15,9 +15,6 @@ passed1 c = c .before .before .before .before
 returns : tie.Need-returns
 returns c = no-day _ (c .if1 .taken)
 
-date-of-requires : tie.Need-date-of-requires
-date-of-requires c κs = search needs
-
 mul-result : tie.Need-mul-result
 mul-result c = let b = date-bounds _ _ (omega (arith, c .before .before .if1 .left)) (c .before .date-of .ensures) in omega arith
 
@@ -40,4 +37,4 @@ returns-2 c = day-told _ (omega (arith, passed1 c .if1 .left)) _ (c .before .bef
 pub sawmauve-date-spec : {M : Type 1} → statement M
 sawmauve-date-spec =
     tie.close
-    (tie.spec returns date-of-requires mul-result mul-result-2 add-result add-result-2 returns-2)
+    (tie.spec returns (λ c κs. search needs) mul-result mul-result-2 add-result add-result-2 returns-2)

@@ -16,17 +16,8 @@ after-is-date c = c .before .before .before .before
 
 -- ---- Needs
 
-head-of-requires : tie.Need-head-of-requires
-head-of-requires c κs = search needs
-
-head-ok-requires : tie.Need-head-ok-requires
-head-ok-requires c κs = search needs
-
 returns : tie.Need-returns
 returns c = bad-head _ _ (c .before .before .head-of .ensures) _ _ _ _ (sym (c .before .head-ok .ensures) ∙ not-true _ (c .if1 .taken))
-
-is-date-requires : tie.Need-is-date-requires
-is-date-requires c κs = search needs
 
 returns-2 : tie.Need-returns-2
 returns-2 c =
@@ -36,12 +27,6 @@ returns-2 c =
 
 day-number-requires : tie.Need-day-number-requires
 day-number-requires c κs = sym (c .before .is-date .ensures) ∙ not-false _ (c .if2 .left)
-
-slot-at-requires : tie.Need-slot-at-requires
-slot-at-requires c κs = search needs
-
-named-code-requires : tie.Need-named-code-requires
-named-code-requires c κs = search needs
 
 returns-3 : tie.Need-returns-3
 returns-3 c =
@@ -55,12 +40,12 @@ pub sawmauve-slot-spec : {M : Type 1} → statement M
 sawmauve-slot-spec =
     tie.close
     (tie.spec
-    head-of-requires
-    head-ok-requires
+    (λ c κs. search needs)
+    (λ c κs. search needs)
     returns
-    is-date-requires
+    (λ c κs. search needs)
     returns-2
     day-number-requires
-    slot-at-requires
-    named-code-requires
+    (λ c κs. search needs)
+    (λ c κs. search needs)
     returns-3)

@@ -18,12 +18,6 @@ after-simulate c =
 
 -- ---- Needs
 
-head-of-requires : tie.Need-head-of-requires
-head-of-requires c κs = search needs
-
-head-ok-requires : tie.Need-head-ok-requires
-head-ok-requires c κs = search needs
-
 returns : tie.Need-returns
 returns c =
     each (bad-head _ _ (c .before .before .head-of .ensures) _ _ _ _ _ (sym (c .before .head-ok .ensures) ∙ not-true _ (c .if1 .taken)))
@@ -33,29 +27,8 @@ returns-2 c =
     each (bad-report _ _ (c .before .before .before .head-of .ensures) _ _ _ _ _
     (sym (c .before .before .head-ok .ensures) ∙ not-false _ (c .before .if1 .left)) (c .if2 .taken))
 
-simulate-requires : tie.Need-simulate-requires
-simulate-requires c κs = search needs
-
 tell-requires : tie.Need-tell-requires
 tell-requires c κs = passed2 (after-simulate c) .if2 .left
-
-same-length : tie.Need-same-length
-same-length c = search needs
-
-same-length-2 : tie.Need-same-length-2
-same-length-2 c = search needs
-
-same-length-3 : tie.Need-same-length-3
-same-length-3 c = search needs
-
-same-length-4 : tie.Need-same-length-4
-same-length-4 c = search needs
-
-same-length-5 : tie.Need-same-length-5
-same-length-5 c = search needs
-
-same-length-6 : tie.Need-same-length-6
-same-length-6 c = search needs
 
 same-length-7 : tie.Need-same-length-7
 same-length-7 c = search needs
@@ -86,18 +59,18 @@ pub sawmauve-simulate-spec : {M : Type 1} → statement M
 sawmauve-simulate-spec =
     tie.close
     (tie.spec
-    head-of-requires
-    head-ok-requires
+    (λ c κs. search needs)
+    (λ c κs. search needs)
     returns
     returns-2
-    simulate-requires
+    (λ c κs. search needs)
     tell-requires
-    same-length
-    same-length-2
-    same-length-3
-    same-length-4
-    same-length-5
-    same-length-6
+    (λ c. search needs)
+    (λ c. search needs)
+    (λ c. search needs)
+    (λ c. search needs)
+    (λ c. search needs)
+    (λ c. search needs)
     same-length-7
     same-length-8
     same-length-9

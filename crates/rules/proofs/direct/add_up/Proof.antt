@@ -77,9 +77,6 @@ loop-holds c =
 is-good-requires : tie.Need-is-good-requires Inv-loop μ-loop
 is-good-requires c κs = (start (c .before) .pre .fitted, below c)
 
-mul-sum : tie.Need-mul-sum Inv-loop μ-loop
-mul-sum c = search needs
-
 shared-slice-read-sum : tie.Need-shared-slice-read-sum Inv-loop μ-loop
 shared-slice-read-sum c = omega (arith, below (c .before .before .before), start (turn (c .before .before)) .pre .fitted .values)
 
@@ -90,9 +87,6 @@ add-sum : tie.Need-add-sum Inv-loop μ-loop
 add-sum c =
     let at = turn (c .before .before) in
     omega (arith, c .shared-slice-known6 .given (at .loop .at), at .loop .inv .low, below (c .before .before .before), most at)
-
-mul-if2 : tie.Need-mul-if2 Inv-loop μ-loop
-mul-if2 c = search needs
 
 shared-slice-read-if2 : tie.Need-shared-slice-read-if2 Inv-loop μ-loop
 shared-slice-read-if2 c = omega (arith, below (c .before .before .before), start (turn (c .before .before)) .pre .settled .versions)
@@ -111,9 +105,6 @@ outage-zero-requires c κs =
       omega (arith, below (agreed c .before), fitted .versions),
       rw (fitted .versions) (at .loop .inv .outage),
     )
-
-mul-sum-2 : tie.Need-mul-sum-2 Inv-loop μ-loop
-mul-sum-2 c = search needs
 
 shared-slice-read-sum-2 : tie.Need-shared-slice-read-sum-2 Inv-loop μ-loop
 shared-slice-read-sum-2 c =
@@ -169,15 +160,15 @@ add-up-spec =
     μ-loop
     loop-holds
     is-good-requires
-    mul-sum
+    (λ c. search needs)
     shared-slice-read-sum
     cast-sum
     add-sum
-    mul-if2
+    (λ c. search needs)
     shared-slice-read-if2
     returns
     outage-zero-requires
-    mul-sum-2
+    (λ c. search needs)
     shared-slice-read-sum-2
     cast-sum-2
     add-sum-2

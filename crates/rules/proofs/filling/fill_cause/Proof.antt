@@ -25,24 +25,6 @@ other c = c .before .before
 
 -- ---- Needs
 
-line-on-requires : tie.Need-line-on-requires
-line-on-requires c κs = search needs
-
-mul-if1 : tie.Need-mul-if1
-mul-if1 c = search needs
-
-shared-slice-read-if1 : tie.Need-shared-slice-read-if1
-shared-slice-read-if1 c = search needs
-
-mul-by-agreement : tie.Need-mul-by-agreement
-mul-by-agreement c = search needs
-
-shared-slice-read-by-agreement : tie.Need-shared-slice-read-by-agreement
-shared-slice-read-by-agreement c = search needs
-
-by-agreement-requires : tie.Need-by-agreement-requires
-by-agreement-requires c κs = search needs
-
 returns : tie.Need-returns
 unfolding isAgreed shapeOf
 returns c =
@@ -85,12 +67,12 @@ pub fill-cause-spec : {M : Type 1} → statement M
 fill-cause-spec =
     tie.close
     (tie.spec
-    line-on-requires
-    mul-if1
-    shared-slice-read-if1
-    mul-by-agreement
-    shared-slice-read-by-agreement
-    by-agreement-requires
+    (λ c κs. search needs)
+    (λ c. search needs)
+    (λ c. search needs)
+    (λ c. search needs)
+    (λ c. search needs)
+    (λ c κs. search needs)
     returns
     unscaled-requires
     returns-2)

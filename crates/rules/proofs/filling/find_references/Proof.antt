@@ -114,9 +114,6 @@ inside c = omega (arith, c .before .weeks .inv .standing .near, start (c .before
 
 -- ---- Needs
 
-day-with-requires : tie.Need-day-with-requires Inv-weeks μ-weeks
-day-with-requires c κs = search needs
-
 mul-week : tie.Need-mul-week Inv-weeks μ-weeks
 mul-week c = let at = c .before in rw (at .day-with .ensures .1) (omega (arith, bounds (entry at)))
 
@@ -268,7 +265,7 @@ find-references-spec =
     (tie.spec
     Inv-weeks
     μ-weeks
-    day-with-requires
+    (λ c κs. search needs)
     mul-week
     way-back-requires
     add-begin

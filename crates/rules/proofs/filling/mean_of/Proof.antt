@@ -41,25 +41,10 @@ loop-holds : tie.Need-loop-holds Inv-loop μ-loop
 unfolding sumOf
 loop-holds c = search needs
 
-mul-sum : tie.Need-mul-sum Inv-loop μ-loop
-mul-sum c = omega arith
-
-array-read-sum : tie.Need-array-read-sum Inv-loop μ-loop
-array-read-sum c = search needs
-
-cast-sum : tie.Need-cast-sum Inv-loop μ-loop
-cast-sum c = search needs
-
 add-sum : tie.Need-add-sum Inv-loop μ-loop
 add-sum c =
     let e : Fits w32 (getD (c .before .before .before .args .found .values) (c .before .loop .i) 0) = search needs in
     omega arith
-
-add-i : tie.Need-add-i Inv-loop μ-loop
-add-i c = search needs
-
-loop-less : tie.Need-loop-less Inv-loop μ-loop
-loop-less c = omega arith
 
 loop-again : tie.Need-loop-again Inv-loop μ-loop
 loop-again c =
@@ -69,12 +54,6 @@ loop-again c =
       known = total-next (c .before .before .before .args .found .values) (c .before .loop .i) _ (c .before .loop .inv .known);
       small = omega arith;
     }
-
-rem-rest : tie.Need-rem-rest Inv-loop μ-loop
-rem-rest c = omega arith
-
-div-t14 : tie.Need-div-t14 Inv-loop μ-loop
-div-t14 c = omega arith
 
 cast-t15 : tie.Need-cast-t15 Inv-loop μ-loop
 cast-t15 c =
@@ -88,9 +67,6 @@ cast-t16 c =
     let p : 0 < c .before .before .before .args .found .count = omega arith in
     omega (arith, mod-lt (c .before .loop .sum) p)
 
-cast-t17 : tie.Need-cast-t17 Inv-loop μ-loop
-cast-t17 c = omega arith
-
 pub mean-of-spec : {M : Type 1} → statement M
 mean-of-spec =
     tie.close
@@ -98,16 +74,16 @@ mean-of-spec =
     Inv-loop
     μ-loop
     loop-holds
-    mul-sum
-    array-read-sum
-    cast-sum
+    (λ c. omega arith)
+    (λ c. search needs)
+    (λ c. search needs)
     add-sum
-    add-i
-    loop-less
+    (λ c. search needs)
+    (λ c. omega arith)
     loop-again
-    rem-rest
-    div-t14
+    (λ c. omega arith)
+    (λ c. omega arith)
     cast-t15
     cast-t16
-    cast-t17
+    (λ c. omega arith)
     returns)

@@ -37,12 +37,6 @@ values c = first-places _ _ _ (c .find-references .ensures .1) (c .find-referenc
 
 -- ---- Needs
 
-find-references-requires : tie.Need-find-references-requires
-find-references-requires c κs = search needs
-
-unshaped-requires : tie.Need-unshaped-requires
-unshaped-requires c κs = search needs
-
 returns : tie.Need-returns
 unfolding shapeOf
 returns c =
@@ -76,8 +70,8 @@ pub same-day-spec : {M : Type 1} → statement M
 same-day-spec =
     tie.close
     (tie.spec
-    find-references-requires
-    unshaped-requires
+    (λ c κs. search needs)
+    (λ c κs. search needs)
     returns
     mean-of-requires
     shape-of-requires

@@ -11,18 +11,9 @@ returns : tie.Need-returns
 returns c =
     shape-whole (c .before .before .before .args .mean .number) _ (c .before .before .before .pre .0) (c .before .before .before .pre .1)
 
-cast-number : tie.Need-cast-number
-cast-number c = search needs
-
-cast-sum : tie.Need-cast-sum
-cast-sum c = search needs
-
 mul-sum : tie.Need-mul-sum
 mul-sum c = let p : c .before .before .args .mean .mean ≤ 4_294_967_295 = search needs in
     omega (arith, mul-le-mul p (c .before .before .pre .1))
-
-cast-sum-2 : tie.Need-cast-sum-2
-cast-sum-2 c = search needs
 
 add-sum : tie.Need-add-sum
 add-sum c = let p : c .before .before .before .args .mean .mean ≤ 4_294_967_295 = search needs in
@@ -32,10 +23,7 @@ mul-result : tie.Need-mul-result
 mul-result c = let p : c .before .before .before .args .mean .mean ≤ 4_294_967_295 = search needs in
     omega (arith, mul-le-mul p (c .before .before .before .pre .1))
 
-div-result : tie.Need-div-result
-div-result c = search needs
-
 pub shape-of-spec : {M : Type 1} → statement M
 shape-of-spec =
     tie.close
-    (tie.spec cast-number cast-sum mul-sum cast-sum-2 add-sum mul-result div-result returns)
+    (tie.spec (λ c. search needs) (λ c. search needs) mul-sum (λ c. search needs) add-sum mul-result (λ c. search needs) returns)

@@ -26,9 +26,6 @@ passed1-same-day c = c .before .before
 
 -- ---- Needs
 
-unshaped-requires : tie.Need-unshaped-requires
-unshaped-requires c κs = search needs
-
 returns : tie.Need-returns
 unfolding ruledBy shapeOf
 returns c = (c .unshaped .ensures .0 ∙ rw (c .before .if1 .taken), rw (c .unshaped .ensures .0) (c .unshaped .ensures .1))
@@ -36,20 +33,11 @@ returns c = (c .unshaped .ensures .0 ∙ rw (c .before .if1 .taken), rw (c .unsh
 line-value-requires : tie.Need-line-value-requires
 line-value-requires c κs = start (c .before .before .before) .pre .2 (c .if2 .taken)
 
-cast-t15 : tie.Need-cast-t15
-cast-t15 c = search needs
-
-mul-t16 : tie.Need-mul-t16
-mul-t16 c = search needs
-
 returns-2 : tie.Need-returns-2
 unfolding ruledBy shapeOf
 returns-2 c =
     let line = start (passed1 (c .before) .before) .args .line in
     (simp (passed1 (c .before) .if1 .left, lt-ltb 0 (line .length) (c .before .if2 .taken)) (ap lineOf (c .line-value .ensures)), refl)
-
-same-day-requires : tie.Need-same-day-requires
-same-day-requires c κs = search needs
 
 returns-3 : tie.Need-returns-3
 unfolding ruledBy
@@ -62,4 +50,4 @@ returns-3 c =
 pub unscaled-spec : {M : Type 1} → statement M
 unscaled-spec =
     tie.close
-    (tie.spec unshaped-requires returns line-value-requires cast-t15 mul-t16 returns-2 same-day-requires returns-3)
+    (tie.spec (λ c κs. search needs) returns line-value-requires (λ c. search needs) (λ c. search needs) returns-2 (λ c κs. search needs) returns-3)

@@ -37,12 +37,6 @@ start c = c .before .before .before .before
 loop-holds : tie.Need-loop-holds Inv-loop μ-loop
 loop-holds c = record { inside = zero-le; before = before-first (c .args .table .now); rising = rw sub-zero }
 
-mul-limit : tie.Need-mul-limit Inv-loop μ-loop
-mul-limit c = search needs
-
-shared-slice-read-limit : tie.Need-shared-slice-read-limit Inv-loop μ-loop
-shared-slice-read-limit c = omega arith
-
 returns : tie.Need-returns Inv-loop μ-loop
 returns c =
     let l = c .before .before .before .loop in
@@ -56,12 +50,6 @@ returns-2 c =
     let table = at-loop (c .before) .before .args .table .now in
     sym (l .inv .rising ∙ all-fails (risesAt table) (l .i) (length table) (c .before .before .before .loop-test .taken)
     (too-high table (l .i) (l .last) (l .inv .before) (c .if2 .taken)))
-
-add-i : tie.Need-add-i Inv-loop μ-loop
-add-i c = omega arith
-
-loop-less : tie.Need-loop-less Inv-loop μ-loop
-loop-less c = omega arith
 
 loop-again : tie.Need-loop-again Inv-loop μ-loop
 loop-again c =
@@ -87,11 +75,11 @@ is-rising-spec =
     Inv-loop
     μ-loop
     loop-holds
-    mul-limit
-    shared-slice-read-limit
+    (λ c. search needs)
+    (λ c. omega arith)
     returns
     returns-2
-    add-i
-    loop-less
+    (λ c. omega arith)
+    (λ c. omega arith)
     loop-again
     returns-3)

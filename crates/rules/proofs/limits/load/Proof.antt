@@ -17,9 +17,6 @@ after-table-ok c = c .before .before .before
 
 -- ---- Needs
 
-table-ok-requires : tie.Need-table-ok-requires
-table-ok-requires c κs = search needs
-
 returns : tie.Need-returns
 unfolding loadAnswer
 returns c = rw (sym (c .before .table-ok .ensures) ∙ not-true _ (c .if1 .taken))
@@ -38,15 +35,6 @@ returns-3 c =
       lt-leb _ _ (c .if3 .taken),
     )
 
-sub-t6 : tie.Need-sub-t6
-sub-t6 c = search needs
-
-mul-t7 : tie.Need-mul-t7
-mul-t7 c = search needs
-
-shared-slice-read-t9 : tie.Need-shared-slice-read-t9
-shared-slice-read-t9 c = search needs
-
 returns-4 : tie.Need-returns-4
 unfolding loadAnswer
 returns-4 c =
@@ -60,11 +48,11 @@ pub load-spec : {M : Type 1} → statement M
 load-spec =
     tie.close
     (tie.spec
-    table-ok-requires
+    (λ c κs. search needs)
     returns
     returns-2
     returns-3
-    sub-t6
-    mul-t7
-    shared-slice-read-t9
+    (λ c. search needs)
+    (λ c. search needs)
+    (λ c. search needs)
     returns-4)

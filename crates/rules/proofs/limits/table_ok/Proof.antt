@@ -15,12 +15,9 @@ returns-2 : tie.Need-returns-2
 unfolding tableOk
 returns-2 c = simp (le-leb _ _ (c .before .if1 .left), lt-leb _ _ (c .if2 .taken))
 
-is-rising-requires : tie.Need-is-rising-requires
-is-rising-requires c κs = search needs
-
 returns-3 : tie.Need-returns-3
 unfolding tableOk
 returns-3 c = simp (le-leb _ _ (c .before .before .if1 .left), le-leb _ _ (c .before .if2 .left), c .is-rising .ensures, and-true)
 
 pub table-ok-spec : {M : Type 1} → statement M
-table-ok-spec = tie.close (tie.spec returns returns-2 is-rising-requires returns-3)
+table-ok-spec = tie.close (tie.spec returns returns-2 (λ c κs. search needs) returns-3)

@@ -56,9 +56,6 @@ inside c =
     (sym (c .before .before .before .is-good .ensures) ∙ not-false _ (c .before .before .if2 .left)) (c .before .length-within .result)
     (c .before .length-within .ensures) (c .if3 .left)
 
-bare-requires : tie.Need-bare-requires
-bare-requires c κs = search needs
-
 returns : tie.Need-returns
 returns c =
     let begun = start-bare c in
@@ -70,9 +67,6 @@ is-good-requires : tie.Need-is-good-requires
 is-good-requires c κs =
     (record { head = start c .pre .0 .head; values = omega arith; versions = omega arith; statuses = omega arith }, omega arith)
 
-bare-requires-2 : tie.Need-bare-requires-2
-bare-requires-2 c κs = search needs
-
 returns-2 : tie.Need-returns-2
 returns-2 c =
     let begun = start (c .before .before .before) in
@@ -80,12 +74,6 @@ returns-2 c =
     c .bare2 .ensures ∙ line-no-left (a .head) (slots (a .values .now) (a .versions .now) (a .statuses .now)) (a .agreed-versions .now)
     (a .at) (begun .pre .2) (begun .pre .3) (begun .pre .4) (c .before .before .before .if1 .left)
     (sym (c .before .before .is-good .ensures) ∙ not-true _ (c .before .if2 .taken))
-
-length-within-requires : tie.Need-length-within-requires
-length-within-requires c κs = search needs
-
-bare-requires-3 : tie.Need-bare-requires-3
-bare-requires-3 c κs = search needs
 
 returns-3 : tie.Need-returns-3
 returns-3 c =
@@ -103,12 +91,6 @@ add-after c = omega (arith, inside c)
 cast-t12 : tie.Need-cast-t12
 cast-t12 c = let b = count-high _ (bounded _ (start-passed3 c .pre .0 .head)) in
     record { fits = omega (arith, inside c) }
-
-mul-t13 : tie.Need-mul-t13
-mul-t13 c = search needs
-
-shared-slice-read-t15 : tie.Need-shared-slice-read-t15
-shared-slice-read-t15 c = search needs
 
 mul-t16 : tie.Need-mul-t16
 mul-t16 c = let l = inside (c .before) in search needs
@@ -129,18 +111,18 @@ pub begin-spec : {M : Type 1} → statement M
 begin-spec =
     tie.close
     (tie.spec
-    bare-requires
+    (λ c κs. search needs)
     returns
     is-good-requires
-    bare-requires-2
+    (λ c κs. search needs)
     returns-2
-    length-within-requires
-    bare-requires-3
+    (λ c κs. search needs)
+    (λ c κs. search needs)
     returns-3
     add-after
     cast-t12
-    mul-t13
-    shared-slice-read-t15
+    (λ c. search needs)
+    (λ c. search needs)
     mul-t16
     shared-slice-read-t18
     returns-4)

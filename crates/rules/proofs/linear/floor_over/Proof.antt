@@ -8,9 +8,6 @@ use Rattle.rules.proofs.linear.floor_over.Tie as tie
 small : (c : tie.Start) → c .args .m < 2 ^ 32
 small c = search needs
 
-cast-d : tie.Need-cast-d
-cast-d c = search needs
-
 div-q : tie.Need-div-q
 div-q c = (c .pre, quot-fits (c .args .z) (c .fits .z) (c .args .m) (small c) (c .pre))
 
@@ -27,4 +24,4 @@ returns-2 : tie.Need-returns-2
 returns-2 c = whole-read (c .before .args .z) (c .before .fits .z) (c .before .args .m) (small (c .before)) (c .before .pre) (c .if1 .left)
 
 pub floor-over-spec : {M : Type 1} → statement M
-floor-over-spec = tie.close (tie.spec cast-d div-q rem-if1 sub-result returns returns-2)
+floor-over-spec = tie.close (tie.spec (λ c. search needs) div-q rem-if1 sub-result returns returns-2)

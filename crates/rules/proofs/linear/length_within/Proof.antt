@@ -68,9 +68,6 @@ loop-holds c =
       level = rw add-one (run-not-zeroed (a .head) s (a .agreed-versions .now) _ (a .at) refl (begun .pre .3));
     }
 
-add-next : tie.Need-add-next Inv-loop μ-loop
-add-next c = omega arith
-
 returns : tie.Need-returns Inv-loop μ-loop
 returns c = let a = start (c .before .before .before) .args in
     sym (within-last (a .head) (slots (a .values .now) (a .versions .now) (a .statuses .now)) (a .agreed-versions .now) (a .at)
@@ -87,12 +84,6 @@ returns-2 c =
     sym (within-good (a .head) (slots (a .values .now) (a .versions .now) (a .statuses .now)) (a .agreed-versions .now) (a .at)
     (looped .loop .k) (looped .loop .inv .run) (c .before .before .before .loop-test .taken) (omega (arith, b .interval-low)) (omega arith)
     (sym (c .before .is-good .ensures) ∙ c .if2 .taken))
-
-mul-if3 : tie.Need-mul-if3 Inv-loop μ-loop
-mul-if3 c = search needs
-
-shared-slice-read-if3 : tie.Need-shared-slice-read-if3 Inv-loop μ-loop
-shared-slice-read-if3 c = omega arith
 
 returns-3 : tie.Need-returns-3 Inv-loop μ-loop
 returns-3 c =
@@ -117,12 +108,6 @@ returns-4 c =
     (at-loop (past2 .before) .loop .inv .run) (sym (past2 .before .is-good .ensures) ∙ past2 .if2 .left)
     (run-zeroed (a .head) s (a .agreed-versions .now) _ _
     (c .before .outage-zero .ensures ∙ zero-applies (a .head) s _ (start-outage-zero (c .before) .pre .0 .versions) _) (c .if4 .taken)))
-
-add-k : tie.Need-add-k Inv-loop μ-loop
-add-k c = omega arith
-
-loop-less : tie.Need-loop-less Inv-loop μ-loop
-loop-less c = omega arith
 
 loop-again : tie.Need-loop-again Inv-loop μ-loop
 loop-again c =
@@ -160,16 +145,16 @@ length-within-spec =
     div-most
     cast-most
     loop-holds
-    add-next
+    (λ c. omega arith)
     returns
     is-good-requires
     returns-2
-    mul-if3
-    shared-slice-read-if3
+    (λ c. search needs)
+    (λ c. omega arith)
     returns-3
     outage-zero-requires
     returns-4
-    add-k
-    loop-less
+    (λ c. omega arith)
+    (λ c. omega arith)
     loop-again
     returns-5)

@@ -14,15 +14,6 @@ start c = c .before .before .before .before .before
 
 -- ---- Needs
 
-mul-if1 : tie.Need-mul-if1
-mul-if1 c = search needs
-
-shared-slice-read-if1 : tie.Need-shared-slice-read-if1
-shared-slice-read-if1 c = search needs
-
-bare-requires : tie.Need-bare-requires
-bare-requires c κs = search needs
-
 returns : tie.Need-returns
 returns c =
     let a = start (c .before .before) .args in
@@ -47,4 +38,4 @@ returns-2 : tie.Need-returns-2
 returns-2 c = c .line-unagreed .ensures
 
 pub line-on-spec : {M : Type 1} → statement M
-line-on-spec = tie.close (tie.spec mul-if1 shared-slice-read-if1 bare-requires returns line-unagreed-requires returns-2)
+line-on-spec = tie.close (tie.spec (λ c. search needs) (λ c. search needs) (λ c κs. search needs) returns line-unagreed-requires returns-2)

@@ -20,9 +20,6 @@ passed1 c = c .before .before
 
 -- ---- Needs
 
-bare-requires : tie.Need-bare-requires
-bare-requires c κs = search needs
-
 returns : tie.Need-returns
 returns c =
     let begun = start (c .before .before) in
@@ -71,4 +68,4 @@ returns-3 c =
     (begun .pre .6) (c .before .if2 .left)
 
 pub line-unagreed-spec : {M : Type 1} → statement M
-line-unagreed-spec = tie.close (tie.spec bare-requires returns begin-requires returns-2 add-place returns-3)
+line-unagreed-spec = tie.close (tie.spec (λ c κs. search needs) returns begin-requires returns-2 add-place returns-3)

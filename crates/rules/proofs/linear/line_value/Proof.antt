@@ -11,26 +11,11 @@ start c = c .before .before .before .before
 
 -- ---- Needs
 
-cast-left : tie.Need-cast-left
-cast-left c = search needs
-
-cast-rise : tie.Need-cast-rise
-cast-rise c = search needs
-
 sub-rise : tie.Need-sub-rise
 sub-rise c = rise-fits (c .before .before .args .line) (c .before .before .pre)
 
-add-parts : tie.Need-add-parts
-add-parts c = search needs
-
-cast-floor-over : tie.Need-cast-floor-over
-cast-floor-over c = search needs
-
 mul-floor-over : tie.Need-mul-floor-over
 mul-floor-over c = risen-fits (start c .args .line) (start c .pre)
-
-floor-over-requires : tie.Need-floor-over-requires
-floor-over-requires c κs = search needs
 
 add-result : tie.Need-add-result
 add-result c = value-fits (start (c .before) .args .line) (start (c .before) .pre) _ (c .floor-over .ensures)
@@ -45,13 +30,13 @@ pub line-value-spec : {M : Type 1} → statement M
 line-value-spec =
     tie.close
     (tie.spec
-    cast-left
-    cast-rise
+    (λ c. search needs)
+    (λ c. search needs)
     sub-rise
-    add-parts
-    cast-floor-over
+    (λ c. search needs)
+    (λ c. search needs)
     mul-floor-over
-    floor-over-requires
+    (λ c κs. search needs)
     add-result
     cast-result
     returns)

@@ -16,9 +16,6 @@ past2 c = c .before .before
 abbrev start1 : tie.Else1 → tie.Start
 start1 c = c .before .before
 
-is-date-requires : tie.Need-is-date-requires
-is-date-requires c κs = search needs
-
 -- the first day is a date
 dated : (c : tie.Else1) → let h = start1 c .args .head in isDate (h .year) (h .month) (h .day) ≡ true
 dated c = sym (c .before .is-date .ensures) ∙ not-false _ (c .if1 .left)
@@ -46,4 +43,4 @@ returns-4 c =
     )
 
 pub are-days-spec : {M : Type 1} → statement M
-are-days-spec = tie.close (tie.spec is-date-requires returns returns-2 returns-3 ends-in-time-requires returns-4)
+are-days-spec = tie.close (tie.spec (λ c κs. search needs) returns returns-2 returns-3 ends-in-time-requires returns-4)

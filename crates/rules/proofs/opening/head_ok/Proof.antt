@@ -20,15 +20,9 @@ passed2 c = c .before .before .before
 
 -- ---- Needs
 
-is-interval-requires : tie.Need-is-interval-requires
-is-interval-requires c κs = search needs
-
 returns : tie.Need-returns
 unfolding headOk
 returns c = simp (sym (c .before .is-interval .ensures) ∙ not-true _ (c .if1 .taken))
-
-are-days-requires : tie.Need-are-days-requires
-are-days-requires c κs = search needs
 
 returns-2 : tie.Need-returns-2
 unfolding headOk
@@ -74,9 +68,9 @@ pub head-ok-spec : {M : Type 1} → statement M
 head-ok-spec =
     tie.close
     (tie.spec
-    is-interval-requires
+    (λ c κs. search needs)
     returns
-    are-days-requires
+    (λ c κs. search needs)
     returns-2
     returns-3
     returns-4

@@ -33,18 +33,6 @@ turn c = c .before .before .before .before
 loop-holds : tie.Need-loop-holds Inv-loop μ-loop
 loop-holds c = record { inside = omega arith; known = refl }
 
-mul-if1 : tie.Need-mul-if1 Inv-loop μ-loop
-mul-if1 c = search needs
-
-shared-slice-read-if1 : tie.Need-shared-slice-read-if1 Inv-loop μ-loop
-shared-slice-read-if1 c = omega arith
-
-shared-slice-read-outage-bit : tie.Need-shared-slice-read-outage-bit Inv-loop μ-loop
-shared-slice-read-outage-bit c = omega arith
-
-outage-bit-requires : tie.Need-outage-bit-requires Inv-loop μ-loop
-outage-bit-requires c κs = search needs
-
 returns : tie.Need-returns Inv-loop μ-loop
 returns c =
     let turned = turn c in
@@ -54,12 +42,6 @@ returns c =
     ∙ sym (after-delivered (a .versions .now) (a .statuses .now) (length (a .versions .now)) j (turned .loop-test .taken)
     (delivered (a .versions .now) (a .statuses .now) j (c .before .before .if1 .taken)))
     ∙ sym (turned .before .loop .inv .known)
-
-add-j : tie.Need-add-j Inv-loop μ-loop
-add-j c = omega arith
-
-loop-less : tie.Need-loop-less Inv-loop μ-loop
-loop-less c = omega arith
 
 loop-again : tie.Need-loop-again Inv-loop μ-loop
 loop-again c =
@@ -84,12 +66,12 @@ outage-after-spec =
     Inv-loop
     μ-loop
     loop-holds
-    mul-if1
-    shared-slice-read-if1
-    shared-slice-read-outage-bit
-    outage-bit-requires
+    (λ c. search needs)
+    (λ c. omega arith)
+    (λ c. omega arith)
+    (λ c κs. search needs)
     returns
-    add-j
-    loop-less
+    (λ c. omega arith)
+    (λ c. omega arith)
     loop-again
     returns-2)

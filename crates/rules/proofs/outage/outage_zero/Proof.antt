@@ -25,32 +25,14 @@ passed3 c = c .before .before .before .before
 
 -- ---- Needs
 
-mul-if1 : tie.Need-mul-if1
-mul-if1 c = search needs
-
-shared-slice-read-if1 : tie.Need-shared-slice-read-if1
-shared-slice-read-if1 c = search needs
-
 returns : tie.Need-returns
 returns c = sym (zero-none _ _ _ _ (delivered _ (start (c .before) .args .statuses .now) _ (c .if1 .taken)))
-
-outage-after-requires : tie.Need-outage-after-requires
-outage-after-requires c κs = search needs
 
 returns-2 : tie.Need-returns-2
 returns-2 c =
     c .outage-after .ensures
     ∙ sym (zero-first _ _ _ _ (c .before .if2 .taken)
     (gap _ (start (c .before .before .before) .args .statuses .now) _ (c .before .before .if1 .left)))
-
-sub-last : tie.Need-sub-last
-sub-last c = search needs
-
-mul-if3 : tie.Need-mul-if3
-mul-if3 c = search needs
-
-shared-slice-read-if3 : tie.Need-shared-slice-read-if3
-shared-slice-read-if3 c = search needs
 
 returns-3 : tie.Need-returns-3
 returns-3 c =
@@ -59,20 +41,11 @@ returns-3 c =
     let g = gap (a .versions .now) (a .statuses .now) (a .at) (c .before .before .before .if1 .left) in
     begun .pre .2 ∙ zero-kept _ _ _ _ _ (omega arith) (begun .pre .1) g (gap _ (a .statuses .now) _ (c .if3 .taken))
 
-shared-slice-read-outage-bit : tie.Need-shared-slice-read-outage-bit
-shared-slice-read-outage-bit c = search needs
-
-outage-bit-requires : tie.Need-outage-bit-requires
-outage-bit-requires c κs = search needs
-
 returns-4 : tie.Need-returns-4
 returns-4 c = let a = start-outage-bit (c .before) .args in
     let g = gap (a .versions .now) (a .statuses .now) (a .at) (passed1 c .if1 .left) in
     sym (zero-before _ _ _ _ _ (omega arith) (start-outage-bit (c .before) .pre .1) g
     (delivered _ (a .statuses .now) _ (c .before .before .before .if3 .left)) (sym (c .before .outage-bit .ensures) ∙ c .if4 .taken))
-
-outage-after-requires-2 : tie.Need-outage-after-requires-2
-outage-after-requires-2 c κs = search needs
 
 returns-5 : tie.Need-returns-5
 returns-5 c =
@@ -87,17 +60,17 @@ pub outage-zero-spec : {M : Type 1} → statement M
 outage-zero-spec =
     tie.close
     (tie.spec
-    mul-if1
-    shared-slice-read-if1
+    (λ c. search needs)
+    (λ c. search needs)
     returns
-    outage-after-requires
+    (λ c κs. search needs)
     returns-2
-    sub-last
-    mul-if3
-    shared-slice-read-if3
+    (λ c. search needs)
+    (λ c. search needs)
+    (λ c. search needs)
     returns-3
-    shared-slice-read-outage-bit
-    outage-bit-requires
+    (λ c. search needs)
+    (λ c κs. search needs)
     returns-4
-    outage-after-requires-2
+    (λ c κs. search needs)
     returns-5)

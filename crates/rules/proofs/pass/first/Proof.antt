@@ -6,15 +6,9 @@ use borrow.Author.Needs.{needs}
 use Rattle.rules.proofs.pass.first.Statement.{statement}
 use Rattle.rules.proofs.pass.first.Tie as tie
 
-bare-requires : tie.Need-bare-requires
-bare-requires c κs = search needs
-
-unscaled-to-requires : tie.Need-unscaled-to-requires
-unscaled-to-requires c κs = search needs
-
 returns : tie.Need-returns
 unfolding passAt walkAt carriedAt zeroBefore lineBefore
 returns c = λ h b. rw (c .unscaled-to .ensures, c .before .bare .ensures)
 
 pub first-spec : {M : Type 1} → statement M
-first-spec = tie.close (tie.spec bare-requires unscaled-to-requires returns)
+first-spec = tie.close (tie.spec (λ c κs. search needs) (λ c κs. search needs) returns)

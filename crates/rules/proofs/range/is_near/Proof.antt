@@ -17,24 +17,12 @@ start c = c .before .before .before .before .before
 
 -- ---- Needs
 
-cast-above : tie.Need-cast-above
-cast-above c = search needs
-
-above-requires : tie.Need-above-requires
-above-requires c κs = search needs
-
 returns : tie.Need-returns
 unfolding isNear
 returns c = let a = c .before .before .before .args in
     let p : leb (a .range .lowest - a .v) (a .tolerance) ≡ false =
     lt-leb (a .range .lowest - a .v) (a .tolerance) (omega (arith, c .before .above .ensures, c .if1 .taken)) in
     rw p
-
-cast-above-2 : tie.Need-cast-above-2
-cast-above-2 c = search needs
-
-above-requires-2 : tie.Need-above-requires-2
-above-requires-2 c κs = search needs
 
 returns-2 : tie.Need-returns-2
 unfolding isNear
@@ -46,4 +34,4 @@ returns-2 c = let a = start c .args in
 
 pub is-near-spec : {M : Type 1} → statement M
 is-near-spec =
-    tie.close (tie.spec cast-above above-requires returns cast-above-2 above-requires-2 returns-2)
+    tie.close (tie.spec (λ c. search needs) (λ c κs. search needs) returns (λ c. search needs) (λ c κs. search needs) returns-2)

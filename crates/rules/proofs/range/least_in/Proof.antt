@@ -5,12 +5,6 @@ use borrow.Author.Needs.{needs}
 use Rattle.rules.proofs.range.least_in.Statement.{statement}
 use Rattle.rules.proofs.range.least_in.Tie as tie
 
-cast-lowest : tie.Need-cast-lowest
-cast-lowest c = search needs
-
-cast-highest : tie.Need-cast-highest
-cast-highest c = search needs
-
 returns : tie.Need-returns
 unfolding leastIn
 returns c = simp (le-leb _ _ (c .if1 .taken))
@@ -24,4 +18,4 @@ unfolding leastIn
 returns-3 c = simp (lt-leb _ _ (c .before .if1 .left), lt-leb _ _ (c .if2 .left))
 
 pub least-in-spec : {M : Type 1} → statement M
-least-in-spec = tie.close (tie.spec cast-lowest cast-highest returns returns-2 returns-3)
+least-in-spec = tie.close (tie.spec (λ c. search needs) (λ c. search needs) returns returns-2 returns-3)

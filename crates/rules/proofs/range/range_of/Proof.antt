@@ -10,9 +10,6 @@ use borrow.Author.Needs.{needs}
 use Rattle.rules.proofs.range.range_of.Statement.{statement}
 use Rattle.rules.proofs.range.range_of.Tie as tie
 
-add-highest : tie.Need-add-highest
-add-highest c = search needs
-
 returns : tie.Need-returns
 unfolding rangeOf
 returns c = let a = c .before .args in
@@ -26,9 +23,6 @@ returns-2 c = let a = c .before .before .args in
     let z : a .g - a .u ≡ 0 = omega (arith, c .if2 .taken) in
     rw (p, z)
 
-sub-t6 : tie.Need-sub-t6
-sub-t6 c = search needs
-
 returns-3 : tie.Need-returns-3
 unfolding rangeOf
 returns-3 c = let a = c .before .before .args in
@@ -36,4 +30,4 @@ returns-3 c = let a = c .before .before .args in
     rw p
 
 pub range-of-spec : {M : Type 1} → statement M
-range-of-spec = tie.close (tie.spec add-highest returns returns-2 sub-t6 returns-3)
+range-of-spec = tie.close (tie.spec (λ c. search needs) returns returns-2 (λ c. search needs) returns-3)

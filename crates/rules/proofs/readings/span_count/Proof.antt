@@ -32,21 +32,6 @@ start c = c .before .before .before .before
 loop-holds : tie.Need-loop-holds Inv-loop μ-loop
 loop-holds c = record { inside = zero-le; few = zero-le; known = sym (count-none (c .args .reads .now)) }
 
-mul-if1 : tie.Need-mul-if1 Inv-loop μ-loop
-mul-if1 c = search needs
-
-shared-slice-read-if1 : tie.Need-shared-slice-read-if1 Inv-loop μ-loop
-shared-slice-read-if1 c = omega arith
-
-add-count : tie.Need-add-count Inv-loop μ-loop
-add-count c = omega arith
-
-add-d : tie.Need-add-d Inv-loop μ-loop
-add-d c = omega arith
-
-loop-less : tie.Need-loop-less Inv-loop μ-loop
-loop-less c = omega arith
-
 loop-again : tie.Need-loop-again Inv-loop μ-loop
 loop-again c = let r = start c .args .reads .now in
     let d = c .before .before .before .loop .d in
@@ -65,9 +50,6 @@ returns c = let r = c .before .before .before .args .reads .now in
     let e : c .before .before .loop .d ≡ length r = omega arith in
     omega (arith, c .before .before .loop .inv .known, ap (readCount r) e)
 
-sub-result : tie.Need-sub-result Inv-loop μ-loop
-sub-result c = omega arith
-
 returns-2 : tie.Need-returns-2 Inv-loop μ-loop
 returns-2 c = let r = c .before .before .before .args .reads .now in
     let e : c .before .before .loop .d ≡ length r = omega arith in
@@ -80,12 +62,12 @@ span-count-spec =
     Inv-loop
     μ-loop
     loop-holds
-    mul-if1
-    shared-slice-read-if1
-    add-count
-    add-d
-    loop-less
+    (λ c. search needs)
+    (λ c. omega arith)
+    (λ c. omega arith)
+    (λ c. omega arith)
+    (λ c. omega arith)
     loop-again
     returns
-    sub-result
+    (λ c. omega arith)
     returns-2)

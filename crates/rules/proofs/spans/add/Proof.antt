@@ -12,33 +12,6 @@ start c = c .before .before .before .before
 
 -- ---- Needs
 
-cast-value : tie.Need-cast-value
-cast-value c = search needs
-
-enum-told : tie.Need-enum-told
-enum-told c = search needs
-
-add-actual-requires : tie.Need-add-actual-requires
-add-actual-requires c κs = search needs
-
-enum-told-2 : tie.Need-enum-told-2
-enum-told-2 c = search needs
-
-add-t7 : tie.Need-add-t7
-add-t7 c = search needs
-
-add-t8 : tie.Need-add-t8
-add-t8 c = search needs
-
-enum-told-3 : tie.Need-enum-told-3
-enum-told-3 c = search needs
-
-add-actual-requires-2 : tie.Need-add-actual-requires-2
-add-actual-requires-2 c κs = search needs
-
-enum-told-4 : tie.Need-enum-told-4
-enum-told-4 c = search needs
-
 returns : tie.Need-returns
 returns c = c .add-actual .ensures ∙ added-actual _ _ _ (c .before .enum-told .given .1)
 
@@ -55,15 +28,15 @@ pub add-spec : {M : Type 1} → statement M
 add-spec =
     tie.close
     (tie.spec
-    cast-value
-    enum-told
-    add-actual-requires
-    enum-told-2
-    add-t7
-    add-t8
-    enum-told-3
-    add-actual-requires-2
-    enum-told-4
+    (λ c. search needs)
+    (λ c. search needs)
+    (λ c κs. search needs)
+    (λ c. search needs)
+    (λ c. search needs)
+    (λ c. search needs)
+    (λ c. search needs)
+    (λ c κs. search needs)
+    (λ c. search needs)
     returns
     returns-2
     returns-3

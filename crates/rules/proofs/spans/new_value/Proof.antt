@@ -5,12 +5,6 @@ use borrow.Author.Needs.{needs}
 use Rattle.rules.proofs.spans.new_value.Statement.{statement}
 use Rattle.rules.proofs.spans.new_value.Tie as tie
 
-share-of-requires : tie.Need-share-of-requires
-share-of-requires c κs = search needs
-
-share-of-requires-2 : tie.Need-share-of-requires-2
-share-of-requires-2 c κs = search needs
-
 sub-result : tie.Need-sub-result
 sub-result c =
     let a = c .before .before in
@@ -21,9 +15,6 @@ cast-result c =
     let a = c .before .before in
     omega (arith, share-high (a .args .t) (a .args .c) (a .args .e) (a .pre .2), c .before .share-of .ensures)
 
-returns : tie.Need-returns
-returns c = search needs
-
 pub new-value-spec : {M : Type 1} → statement M
 new-value-spec =
-    tie.close (tie.spec share-of-requires share-of-requires-2 sub-result cast-result returns)
+    tie.close (tie.spec (λ c κs. search needs) (λ c κs. search needs) sub-result cast-result (λ c. search needs))

@@ -5,19 +5,13 @@ use borrow.Author.Needs.{needs}
 use Rattle.rules.proofs.spans.scaling_of.Statement.{statement}
 use Rattle.rules.proofs.spans.scaling_of.Tie as tie
 
-sub-t4 : tie.Need-sub-t4
-sub-t4 c = search needs
-
 returns : tie.Need-returns
 unfolding scalingOf
 returns c = simp (eq-eqb _ _ (c .before .if1 .taken))
-
-sub-t5 : tie.Need-sub-t5
-sub-t5 c = search needs
 
 returns-2 : tie.Need-returns-2
 unfolding scalingOf
 returns-2 c = simp (ne-eqb _ _ (c .before .if1 .left))
 
 pub scaling-of-spec : {M : Type 1} → statement M
-scaling-of-spec = tie.close (tie.spec sub-t4 returns sub-t5 returns-2)
+scaling-of-spec = tie.close (tie.spec (λ c. search needs) returns (λ c. search needs) returns-2)

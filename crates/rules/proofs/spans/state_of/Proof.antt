@@ -18,9 +18,6 @@ returns-3 : tie.Need-returns-3
 unfolding stateBy
 returns-3 c = simp (c .before .before .before .if1 .left, c .before .before .if2 .taken, lt-leb _ _ (c .if3 .left))
 
-is-near-requires : tie.Need-is-near-requires
-is-near-requires c κs = search needs
-
 returns-4 : tie.Need-returns-4
 unfolding stateBy
 returns-4 c = simp (c .before .before .before .if1 .left, c .before .before .if2 .left, sym (c .before .is-near .ensures) ∙ c .if4 .taken)
@@ -31,4 +28,4 @@ returns-5 c = simp (c .before .before .before .if1 .left, c .before .before .if2
 
 pub state-of-spec : {M : Type 1} → statement M
 state-of-spec =
-    tie.close (tie.spec returns returns-2 returns-3 is-near-requires returns-4 returns-5)
+    tie.close (tie.spec returns returns-2 returns-3 (λ c κs. search needs) returns-4 returns-5)

@@ -153,9 +153,6 @@ add-up-requires c κs =
       outage = c .before .loop .inv .outage;
     }
 
-bare-requires : tie.Need-bare-requires Inv-loop μ-loop
-bare-requires c κs = search needs
-
 add-actual-requires : tie.Need-add-actual-requires Inv-loop μ-loop
 add-actual-requires c κs =
     let run = added (c .before .before) in
@@ -270,7 +267,7 @@ summarise-spec =
     loop-holds
     add-at
     add-up-requires
-    bare-requires
+    (λ c κs. search needs)
     add-actual-requires
     sub-k
     loop-less

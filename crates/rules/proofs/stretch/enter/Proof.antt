@@ -31,9 +31,6 @@ after-next-read-no-span2 c = c .before .before .before .before .before
 
 -- ---- Needs
 
-no-span-requires : tie.Need-no-span-requires
-no-span-requires c κs = search needs
-
 returns : tie.Need-returns
 returns c =
     let begun = start (c .before .before) in
@@ -66,9 +63,6 @@ next-read-requires c κs =
     let w = bounded (a .head) (begun .pre .0 .lent .fitted .head) in
     rw (c .slots-per-day .ensures, begun .pre .0 .reads) (omega (arith, day-below (a .head) w (a .walk .at) (begun .pre .1 .inside)))
 
-enum-known-next : tie.Need-enum-known-next
-enum-known-next c = search needs
-
 reach-requires : tie.Need-reach-requires
 reach-requires c κs =
     let at-next-read = after-next-read c in
@@ -91,18 +85,6 @@ reach-requires c κs =
       begun .pre .0,
       record { ordered = omega (arith, t .low); within = omega (arith, t .high, y); known = begun .pre .1 .known; at-first = k .0 },
     )
-
-enum-told : tie.Need-enum-told
-enum-told c = search needs
-
-slot-count-requires : tie.Need-slot-count-requires
-slot-count-requires c κs = search needs
-
-unscaled-to-requires : tie.Need-unscaled-to-requires
-unscaled-to-requires c κs = search needs
-
-no-span-requires-2 : tie.Need-no-span-requires-2
-no-span-requires-2 c κs = search needs
 
 returns-2 : tie.Need-returns-2
 returns-2 c =
@@ -147,17 +129,17 @@ pub enter-spec : {M : Type 1} → statement M
 enter-spec =
     tie.close
     (tie.spec
-    no-span-requires
+    (λ c κs. search needs)
     returns
     slots-per-day-requires
     div-day
     add-next-read
     next-read-requires
-    enum-known-next
+    (λ c. search needs)
     reach-requires
-    enum-told
-    slot-count-requires
-    unscaled-to-requires
-    no-span-requires-2
+    (λ c. search needs)
+    (λ c κs. search needs)
+    (λ c κs. search needs)
+    (λ c κs. search needs)
     returns-2
     returns-3)

@@ -23,9 +23,6 @@ unfolding fitOutcome fitNext
 returns c = let z : c .before .before .before .args .here .by .whole ≡ 0 = c .if1 .taken in
     rw (eq-eqb _ _ z, and-false (isS (c .before .before .before .args .slot .quality))) (refl, refl)
 
-is-substituted-requires : tie.Need-is-substituted-requires
-is-substituted-requires c κs = search needs
-
 returns-2 : tie.Need-returns-2
 unfolding fitOutcome fitNext
 returns-2 c =
@@ -35,9 +32,6 @@ returns-2 c =
 scale-requires : tie.Need-scale-requires
 scale-requires c κs =
     start (c .before) .pre .scales (sym (c .before .is-substituted .ensures) ∙ not-false _ (c .if2 .left)) (c .before .before .if1 .left)
-
-add-t13 : tie.Need-add-t13
-add-t13 c = search needs
 
 returns-3 : tie.Need-returns-3
 unfolding fitOutcome fitNext
@@ -49,4 +43,4 @@ returns-3 c =
 
 pub fit-spec : {M : Type 1} → statement M
 fit-spec =
-    tie.close (tie.spec returns is-substituted-requires returns-2 scale-requires add-t13 returns-3)
+    tie.close (tie.spec returns (λ c κs. search needs) returns-2 scale-requires (λ c. search needs) returns-3)

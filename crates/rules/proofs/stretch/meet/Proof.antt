@@ -25,12 +25,6 @@ after-slots-per-day c = c .before .before .before .before
 
 -- ---- Needs
 
-slots-per-day-requires : tie.Need-slots-per-day-requires
-slots-per-day-requires c κs = search needs
-
-sub-summarise : tie.Need-sub-summarise
-sub-summarise c = search needs
-
 mul-summarise : tie.Need-mul-summarise
 mul-summarise c =
     let begun = entry c in
@@ -103,8 +97,8 @@ pub meet-spec : {M : Type 1} → statement M
 meet-spec =
     tie.close
     (tie.spec
-    slots-per-day-requires
-    sub-summarise
+    (λ c κs. search needs)
+    (λ c. search needs)
     mul-summarise
     summarise-requires
     compare-requires

@@ -27,9 +27,6 @@ start-stretch c = start (c .before .before .before .before)
 
 -- ---- Needs
 
-mul-if1 : tie.Need-mul-if1
-mul-if1 c = search needs
-
 shared-slice-read-if1 : tie.Need-shared-slice-read-if1
 shared-slice-read-if1 c =
     let begun = start c in
@@ -45,12 +42,6 @@ mul-unscaled-to c =
     let p : begun .args .last ≤ 400 = omega (arith, b .days-high, begun .pre .1 .within) in
     let q : c .slots-per-day .result ≤ 288 = omega (arith, c .slots-per-day .ensures, b .day-high) in
     omega (arith, mul-le-mul p q)
-
-unscaled-to-requires : tie.Need-unscaled-to-requires
-unscaled-to-requires c κs = search needs
-
-no-span-requires : tie.Need-no-span-requires
-no-span-requires c κs = search needs
 
 returns : tie.Need-returns
 unfolding beginsWith stretchFrom
@@ -80,12 +71,12 @@ pub reach-spec : {M : Type 1} → statement M
 reach-spec =
     tie.close
     (tie.spec
-    mul-if1
+    (λ c. search needs)
     shared-slice-read-if1
     slots-per-day-requires
     mul-unscaled-to
-    unscaled-to-requires
-    no-span-requires
+    (λ c κs. search needs)
+    (λ c κs. search needs)
     returns
     meet-requires
     returns-2)

@@ -5,9 +5,6 @@ use borrow.Author.Needs.{needs}
 use Rattle.rules.proofs.stretch.stretch_by.Statement.{statement}
 use Rattle.rules.proofs.stretch.stretch_by.Tie as tie
 
-unscaled-to-requires : tie.Need-unscaled-to-requires
-unscaled-to-requires c κs = search needs
-
 returns : tie.Need-returns
 unfolding stretchBy
 returns c = rw (ne-eqb _ _ (c .before .if1 .taken)) (c .unscaled-to .ensures)
@@ -20,4 +17,4 @@ unfolding stretchBy
 returns-2 c = rw (eq-eqb _ _ (c .before .if1 .left), c .scaling-of .ensures)
 
 pub stretch-by-spec : {M : Type 1} → statement M
-stretch-by-spec = tie.close (tie.spec unscaled-to-requires returns scaling-of-requires returns-2)
+stretch-by-spec = tie.close (tie.spec (λ c κs. search needs) returns scaling-of-requires returns-2)

@@ -23,24 +23,6 @@ after-outage-zero c = c .before .before .before .before
 
 -- ---- Needs
 
-add-on : tie.Need-add-on
-add-on c = search needs
-
-is-good-requires : tie.Need-is-good-requires
-is-good-requires c κs = search needs
-
-bare-requires : tie.Need-bare-requires
-bare-requires c κs = search needs
-
-mul-delivered : tie.Need-mul-delivered
-mul-delivered c = search needs
-
-shared-slice-read-delivered : tie.Need-shared-slice-read-delivered
-shared-slice-read-delivered c = search needs
-
-delivered-requires : tie.Need-delivered-requires
-delivered-requires c κs = search needs
-
 returns : tie.Need-returns
 returns c = let a = start (after-is-good c) .args in
     let s = slots (a .values .now) (a .versions .now) (a .statuses .now) in
@@ -93,12 +75,12 @@ pub fill-spec : {M : Type 1} → statement M
 fill-spec =
     tie.close
     (tie.spec
-    add-on
-    is-good-requires
-    bare-requires
-    mul-delivered
-    shared-slice-read-delivered
-    delivered-requires
+    (λ c. search needs)
+    (λ c κs. search needs)
+    (λ c κs. search needs)
+    (λ c. search needs)
+    (λ c. search needs)
+    (λ c κs. search needs)
     returns
     outage-zero-requires
     fill-cause-requires

@@ -21,9 +21,6 @@ start-way-within c = c .before .before .before .before
 
 -- ---- Needs
 
-shared-slice-read-if1 : tie.Need-shared-slice-read-if1
-shared-slice-read-if1 c = search needs
-
 way-within-requires : tie.Need-way-within-requires
 way-within-requires c κs =
     let b = bounded (c .before .before .before .args .head) (c .before .before .before .pre .0) in
@@ -36,12 +33,6 @@ returns c =
     let e : getD (a .holidays .now) (a .day) 0 ≡ 0 = c .before .if1 .taken in
     rw (eq-eqb _ _ e) (c .way-within .ensures .0, c .way-within .ensures .1)
 
-first-day-requires : tie.Need-first-day-requires
-first-day-requires c κs = search needs
-
-cast-number : tie.Need-cast-number
-cast-number c = search needs
-
 add-number : tie.Need-add-number
 add-number c = omega (arith, bounded (start c .args .head) (start c .pre .0))
 
@@ -49,9 +40,6 @@ to-sunday-requires : tie.Need-to-sunday-requires
 to-sunday-requires c κs =
     let b = bounded (start c .args .head) (start c .pre .0) in
     omega arith
-
-cast-way-within : tie.Need-cast-way-within
-cast-way-within c = search needs
 
 way-within-requires-2 : tie.Need-way-within-requires-2
 way-within-requires-2 c κs =
@@ -70,13 +58,13 @@ pub way-back-spec : {M : Type 1} → statement M
 way-back-spec =
     tie.close
     (tie.spec
-    shared-slice-read-if1
+    (λ c. search needs)
     way-within-requires
     returns
-    first-day-requires
-    cast-number
+    (λ c κs. search needs)
+    (λ c. search needs)
     add-number
     to-sunday-requires
-    cast-way-within
+    (λ c. search needs)
     way-within-requires-2
     returns-2)

@@ -16,12 +16,6 @@ returns c =
     let first : c .before .before .args .i < c .before .before .args .n = omega arith in
     (rw (lt-ltb _ _ first), lit< tt)
 
-mul-value : tie.Need-mul-value
-mul-value c = search needs
-
-value-requires : tie.Need-value-requires
-value-requires c κs = search needs
-
 returns-2 : tie.Need-returns-2
 unfolding dayEarlier
 returns-2 c =
@@ -30,4 +24,4 @@ returns-2 c =
     (rw (le-ltb _ _ later) (c .value .ensures .0 ∙ table-value (a .table .now) (a .i - a .n)), c .value .ensures .1)
 
 pub day-earlier-spec : {M : Type 1} → statement M
-day-earlier-spec = tie.close (tie.spec returns mul-value value-requires returns-2)
+day-earlier-spec = tie.close (tie.spec returns (λ c. search needs) (λ c κs. search needs) returns-2)

@@ -31,36 +31,6 @@ turn c = c .before .before .before
 loop-holds : tie.Need-loop-holds Inv-loop μ-loop
 loop-holds c = replaced-none _ _
 
-mul-share : tie.Need-mul-share Inv-loop μ-loop
-mul-share c = search needs
-
-mul-share-2 : tie.Need-mul-share-2 Inv-loop μ-loop
-mul-share-2 c = search needs
-
-shared-slice-read-share : tie.Need-shared-slice-read-share Inv-loop μ-loop
-shared-slice-read-share c = search needs
-
-mul-share-3 : tie.Need-mul-share-3 Inv-loop μ-loop
-mul-share-3 c = search needs
-
-add-share : tie.Need-add-share Inv-loop μ-loop
-add-share c = search needs
-
-mul-share-4 : tie.Need-mul-share-4 Inv-loop μ-loop
-mul-share-4 c = search needs
-
-shared-slice-read-share-2 : tie.Need-shared-slice-read-share-2 Inv-loop μ-loop
-shared-slice-read-share-2 c = search needs
-
-share-requires : tie.Need-share-requires Inv-loop μ-loop
-share-requires c κs = search needs
-
-mul-totals : tie.Need-mul-totals Inv-loop μ-loop
-mul-totals c = search needs
-
-slice-read-totals : tie.Need-slice-read-totals Inv-loop μ-loop
-slice-read-totals c = search needs
-
 add-totals : tie.Need-add-totals Inv-loop μ-loop
 add-totals c =
     let turned = turn (c .before) in
@@ -68,23 +38,11 @@ add-totals c =
     let here : k < length (start turned .args .totals .now) = search needs in
     omega (arith, start turned .pre .fits k here, turned .before .loop .inv .left k (search needs), c .before .share .ensures .1)
 
-slice-write-totals : tie.Need-slice-write-totals Inv-loop μ-loop
-slice-write-totals c = search needs
-
-add-k : tie.Need-add-k Inv-loop μ-loop
-add-k c = search needs
-
-loop-less : tie.Need-loop-less Inv-loop μ-loop
-loop-less c = search needs
-
 loop-again : tie.Need-loop-again Inv-loop μ-loop
 loop-again c =
     let turned = turn (c .before) in
     replaced-next _ _ _ _ _ (turned .before .loop .inv) (turned .loop-test .taken)
     (ap₂ _+_ (turned .before .loop .inv .left (turned .before .loop .k) (search needs)) (c .before .share .ensures .0))
-
-same-length : tie.Need-same-length Inv-loop μ-loop
-same-length c = search needs
 
 returns : tie.Need-returns Inv-loop μ-loop
 unfolding withDay
@@ -97,20 +55,20 @@ add-day-spec =
     Inv-loop
     μ-loop
     loop-holds
-    mul-share
-    mul-share-2
-    shared-slice-read-share
-    mul-share-3
-    add-share
-    mul-share-4
-    shared-slice-read-share-2
-    share-requires
-    mul-totals
-    slice-read-totals
+    (λ c. search needs)
+    (λ c. search needs)
+    (λ c. search needs)
+    (λ c. search needs)
+    (λ c. search needs)
+    (λ c. search needs)
+    (λ c. search needs)
+    (λ c κs. search needs)
+    (λ c. search needs)
+    (λ c. search needs)
     add-totals
-    slice-write-totals
-    add-k
-    loop-less
+    (λ c. search needs)
+    (λ c. search needs)
+    (λ c. search needs)
     loop-again
-    same-length
+    (λ c. search needs)
     returns)

@@ -41,18 +41,12 @@ after-sum-of c = c .before .before .before
 
 -- ---- Needs
 
-clear-requires : tie.Need-clear-requires Inv-loop μ-loop
-clear-requires c κs = search needs
-
 loop-holds : tie.Need-loop-holds Inv-loop μ-loop
 loop-holds c =
     record {
       inside = search needs;
       known = c .before .before .clear .ensures ∙ before-none _ _ _ (entry c .args .totals .now) (entry c .pre .1);
     }
-
-cast-sum-of : tie.Need-cast-sum-of Inv-loop μ-loop
-cast-sum-of c = search needs
 
 mul-sum-of : tie.Need-mul-sum-of Inv-loop μ-loop
 mul-sum-of c =
@@ -79,12 +73,6 @@ add-day-requires c κs =
     before-room (a .file .now) (a .n) (a .pairs .now) bytes (fit .day) (l .day) (omega arith) (l .totals) (l .inv .known) _
     (c .before .sum-of .ensures .1)
 
-add-day : tie.Need-add-day Inv-loop μ-loop
-add-day c = search needs
-
-loop-less : tie.Need-loop-less Inv-loop μ-loop
-loop-less c = search needs
-
 loop-again : tie.Need-loop-again Inv-loop μ-loop
 loop-again c =
     let summed = after-sum-of (c .before) in
@@ -110,14 +98,14 @@ total-days-spec =
     (tie.spec
     Inv-loop
     μ-loop
-    clear-requires
+    (λ c κs. search needs)
     loop-holds
-    cast-sum-of
+    (λ c. search needs)
     mul-sum-of
     sum-of-requires
     add-day-requires
-    add-day
-    loop-less
+    (λ c. search needs)
+    (λ c. search needs)
     loop-again
     same-length
     returns)

@@ -5,14 +5,8 @@ use Rattle.file.proofs.Offsets.{slot-at}
 use Rattle.totals.proofs.days.value_at.Statement.{statement}
 use Rattle.totals.proofs.days.value_at.Tie as tie
 
-mul-number : tie.Need-mul-number
-mul-number c = search needs
-
-number-requires : tie.Need-number-requires
-number-requires c κs = search needs
-
 returns : tie.Need-returns
 returns c = rw (slot-at _ _) (c .number .ensures .0, omega (arith, c .number .ensures .1))
 
 pub value-at-spec : {M : Type 1} → statement M
-value-at-spec = tie.close (tie.spec mul-number number-requires returns)
+value-at-spec = tie.close (tie.spec (λ c. search needs) (λ c κs. search needs) returns)

@@ -31,40 +31,10 @@ at-loop c = c .before .before .before .before
 loop-holds : tie.Need-loop-holds Inv-loop μ-loop
 loop-holds c = record { inside = search needs; known = rw sub-zero }
 
-mul-pair-ok : tie.Need-mul-pair-ok Inv-loop μ-loop
-mul-pair-ok c = search needs
-
-mul-pair-ok-2 : tie.Need-mul-pair-ok-2 Inv-loop μ-loop
-mul-pair-ok-2 c = search needs
-
-shared-slice-read-pair-ok : tie.Need-shared-slice-read-pair-ok Inv-loop μ-loop
-shared-slice-read-pair-ok c = search needs
-
-mul-pair-ok-3 : tie.Need-mul-pair-ok-3 Inv-loop μ-loop
-mul-pair-ok-3 c = search needs
-
-add-pair-ok : tie.Need-add-pair-ok Inv-loop μ-loop
-add-pair-ok c = search needs
-
-mul-pair-ok-4 : tie.Need-mul-pair-ok-4 Inv-loop μ-loop
-mul-pair-ok-4 c = search needs
-
-shared-slice-read-pair-ok-2 : tie.Need-shared-slice-read-pair-ok-2 Inv-loop μ-loop
-shared-slice-read-pair-ok-2 c = search needs
-
-pair-ok-requires : tie.Need-pair-ok-requires Inv-loop μ-loop
-pair-ok-requires c κs = search needs
-
 returns : tie.Need-returns Inv-loop μ-loop
 returns c =
     sym (at-loop (c .before) .loop .inv .known
     ∙ all-fails _ (at-loop (c .before) .loop .k) _ (search needs) (sym (c .before .pair-ok .ensures) ∙ not-true _ (c .if1 .taken)))
-
-add-k : tie.Need-add-k Inv-loop μ-loop
-add-k c = search needs
-
-loop-less : tie.Need-loop-less Inv-loop μ-loop
-loop-less c = search needs
 
 loop-again : tie.Need-loop-again Inv-loop μ-loop
 loop-again c =
@@ -85,16 +55,16 @@ pairs-fit-spec =
     Inv-loop
     μ-loop
     loop-holds
-    mul-pair-ok
-    mul-pair-ok-2
-    shared-slice-read-pair-ok
-    mul-pair-ok-3
-    add-pair-ok
-    mul-pair-ok-4
-    shared-slice-read-pair-ok-2
-    pair-ok-requires
+    (λ c. search needs)
+    (λ c. search needs)
+    (λ c. search needs)
+    (λ c. search needs)
+    (λ c. search needs)
+    (λ c. search needs)
+    (λ c. search needs)
+    (λ c κs. search needs)
     returns
-    add-k
-    loop-less
+    (λ c. search needs)
+    (λ c. search needs)
     loop-again
     returns-2)

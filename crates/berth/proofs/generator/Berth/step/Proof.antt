@@ -11,21 +11,6 @@ start c = c .before .before .before .before
 
 -- ---- Needs
 
-draw-requires : tie.Need-draw-requires
-draw-requires c κs = search needs
-
-draw-requires-2 : tie.Need-draw-requires-2
-draw-requires-2 c κs = search needs
-
-cast-t8 : tie.Need-cast-t8
-cast-t8 c = search needs
-
-add-t10 : tie.Need-add-t10
-add-t10 c = search needs
-
-rem-t11 : tie.Need-rem-t11
-rem-t11 c = search needs
-
 cast-t12 : tie.Need-cast-t12
 cast-t12 c = value-fits _ _ (start c .fits .most)
 
@@ -36,4 +21,4 @@ returns c =
 
 pub step-spec : {M : Type 1} → statement M
 step-spec =
-    tie.close (tie.spec draw-requires draw-requires-2 cast-t8 add-t10 rem-t11 cast-t12 returns)
+    tie.close (tie.spec (λ c κs. search needs) (λ c κs. search needs) (λ c. search needs) (λ c. search needs) (λ c. search needs) cast-t12 returns)
