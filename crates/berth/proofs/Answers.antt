@@ -19,20 +19,20 @@ use Rattle.claim.proofs.WholeLists.{wrote as published-after}
 use Rattle.berth.specs.declared.Report.{Report}
 use Rattle.berth.specs.declared.Simulated.{Simulated}
 use Rattle.berth.specs.declared.Simulated.the-variants.{Run, Refused}
-use Rattle.berth.specs.Run.{trueTotal, callsOf, reportOf, runRules, simulateAnswer, simulateLists, simulateBytes}
+use Rattle.berth.specs.Run.{trueTotal, runCalls, reportOf, runRules, simulateAnswer, simulateLists, simulateBytes}
 use Rattle.berth.specs.Inner.Refusing.{fileSize}
 use Rattle.berth.proofs.Written.{file-size, state-back, sum-back, sum-high}
 
 module _ (h : Head) (seed loss : ℕ) (good : headOk h ≡ true) (out : List ℕ) (room : fileSize h ≤ length out) where
   abbrev file : List ℕ
-  file = plainFile h (callsOf h seed loss)
+  file = plainFile h (runCalls h seed loss)
 
   abbrev left : List ℕ
   left = file ++ drop (length file) out
 
-  pub wrote : {b : Book} {e : List ℕ} → b ≡ leftBy h (callsOf h seed loss) → e ≡ publishAfter h b out → e ≡ left
+  pub wrote : {b : Book} {e : List ℕ} → b ≡ leftBy h (runCalls h seed loss) → e ≡ publishAfter h b out → e ≡ left
   wrote p q =
-      q ∙ ap (λ (c : Book). publishAfter h c out) p ∙ published-after h good (callsOf h seed loss) out
+      q ∙ ap (λ (c : Book). publishAfter h c out) p ∙ published-after h good (runCalls h seed loss) out
       ∙ rw (le-ltb (length out) (length file) (omega (arith, file-size h seed loss good)))
 
   pub total-written : {e : List ℕ} → e ≡ left → num 8 e (6 * slotCount h + 34) ≤ 11_520_000_000_000
@@ -77,13 +77,13 @@ module _ (h : Head) (seed loss : ℕ) (b : Book) (out : List ℕ) where
     passes z =
         let t = unbroken z in
         let good = not-false _ (t 0) in
-        let room : length (plainFile h (callsOf h seed loss)) ≤ length out = ltb-false _ _ (t 2) in
+        let room : length (plainFile h (runCalls h seed loss)) ≤ length out = ltb-false _ _ (t 2) in
         (good, not-false _ (t 1), omega (arith, file-size h seed loss good))
 
     pub ran : n ≡ 0 → {r : Report} {b' : Book} {out' : List ℕ}
         → (r ≡ reportOf h seed loss)
-        × (b' ≡ leftBy h (callsOf h seed loss))
-        × (out' ≡ plainFile h (callsOf h seed loss) ++ drop (length (plainFile h (callsOf h seed loss))) out)
+        × (b' ≡ leftBy h (runCalls h seed loss))
+        × (out' ≡ plainFile h (runCalls h seed loss) ++ drop (length (plainFile h (runCalls h seed loss))) out)
         → Meant h seed loss b out (Run r) b' out'
     unfolding simulateAnswer simulateLists simulateBytes
     ran z made =

@@ -17,10 +17,11 @@ use Rattle.rules.specs.Spans.{isRead}
 use Rattle.rules.proofs.Bounds.{bounded}
 use Rattle.book.specs.Arguments.{Call}
 use Rattle.book.specs.Contents.{DialRead}
-use Rattle.book.specs.Plain.{Said, deliveries, keptReads, highest, contentWith, readVersion, readContent, slotVersion, slotContent, bookOf}
+use Rattle.book.specs.Plain.{Said, deliveries, keptReads, highestVersion, contentWith, readVersion, readContent, slotVersion, slotContent}
+use Rattle.book.specs.Plain.{bookOf}
 use Rattle.claim.specs.Claim.{plainOf}
 use Rattle.berth.specs.Steps.{lostAt, valueAt}
-use Rattle.berth.specs.Run.{callsOf}
+use Rattle.berth.specs.Run.{runCalls}
 use Rattle.berth.proofs.Heard.{reading, allCalls, heard-all, kept-run}
 use Rattle.berth.proofs.OneSpan.{Ends}
 
@@ -31,7 +32,7 @@ module _ (h : Head) (seed loss : ℕ) (good : headOk h ≡ true) where
   abbrev pub book : Cells
   book = bookOf h all
 
-  pub book-run : plainOf h (callsOf h seed loss) ≡ book
+  pub book-run : plainOf h (runCalls h seed loss) ≡ book
   book-run = ap (bookOf h) (kept-run h seed loss good)
 
   some-days : 0 < h .days
@@ -39,23 +40,23 @@ module _ (h : Head) (seed loss : ℕ) (good : headOk h ≡ true) where
 
   -- the reads of each boundary
   first-read : readVersion all 0 ≡ 1
-  unfolding keptReads highest
+  unfolding keptReads highestVersion
   first-read = rw (ne-eqb (h .days) 0 (λ e. omega (arith, some-days)), heard-all h seed loss good .unread 0)
 
   last-read : readVersion all (h .days) ≡ 1
-  unfolding keptReads highest
+  unfolding keptReads highestVersion
   last-read =
       rw (eq-eqb (h .days) (h .days) refl, ne-eqb 0 (h .days) (λ e. omega (arith, some-days)), heard-all h seed loss good .unread (h .days))
 
   none-read : (d : ℕ) → 0 < d → d < h .days → readVersion all d ≡ 0
-  unfolding keptReads highest
+  unfolding keptReads highestVersion
   none-read d p q = rw (ne-eqb (h .days) d (λ e. omega arith), ne-eqb 0 d (λ e. omega arith), heard-all h seed loss good .unread d)
 
-  read-at : (d : ℕ) → d ≤ h .days → getD (book .reads) d 0 ≡ readVersion all d
+  read-at : (d : ℕ) → d ≤ h .days → getD (book .readVersions) d 0 ≡ readVersion all d
   unfolding bookOf
   read-at d le = upTo-at (readVersion all) 0 (suc (h .days)) d (omega arith)
 
-  pub ends : Ends h (book .reads)
+  pub ends : Ends h (book .readVersions)
   unfolding isRead
   ends = record {
     first = rw (read-at 0 (omega arith), first-read);
@@ -65,7 +66,7 @@ module _ (h : Head) (seed loss : ℕ) (good : headOk h ≡ true) where
 
   -- every width is 0, and so is the reading at boundary 0
   width-none : (d : ℕ) → readContent all d .width ≡ 0
-  unfolding keptReads highest contentWith
+  unfolding keptReads highestVersion contentWith
   width-none d = rw (heard-all h seed loss good .unread d) (go (eqb (h .days) d) (eqb 0 d))
     where
       said : ℕ → Said DialRead
@@ -73,7 +74,7 @@ module _ (h : Head) (seed loss : ℕ) (good : headOk h ≡ true) where
 
       go : (s t : Bool)
           → (let l : List (Said DialRead) = cond s (said (reading h seed loss good) ∷ cond t (said 0 ∷ []) []) (cond t (said 0 ∷ []) []) in
-          contentWith (record { reading = 0; width = 0 }) (highest l) l .width ≡ 0)
+          contentWith (record { reading = 0; width = 0 }) (highestVersion l) l .width ≡ 0)
       go true true = refl
       go true false = refl
       go false true = refl
@@ -88,11 +89,11 @@ module _ (h : Head) (seed loss : ℕ) (good : headOk h ≡ true) where
       (either (ltb d (suc (h .days))))
 
   first-dial : readContent all 0 .reading ≡ 0
-  unfolding keptReads highest contentWith
+  unfolding keptReads highestVersion contentWith
   first-dial = rw (ne-eqb (h .days) 0 (λ e. omega (arith, some-days)), heard-all h seed loss good .unread 0)
 
   last-dial : readContent all (h .days) .reading ≡ reading h seed loss good
-  unfolding keptReads highest contentWith
+  unfolding keptReads highestVersion contentWith
   last-dial =
       rw (eq-eqb (h .days) (h .days) refl, ne-eqb 0 (h .days) (λ e. omega (arith, some-days)), heard-all h seed loss good .unread (h .days))
 
@@ -111,13 +112,13 @@ module _ (h : Head) (seed loss : ℕ) (good : headOk h ≡ true) where
     its-calls = heard-all h seed loss good .before i lt ∙ rw kept
 
     pub its-version : getD (book .slots .versions) i 0 ≡ 1
-    unfolding bookOf highest
+    unfolding bookOf highestVersion
     its-version = upTo-at (slotVersion all) 0 (slotCount h) i lt ∙ rw its-calls
 
     pub its-value : getD (book .slots .values) i 0 ≡ valueAt h seed loss i
-    unfolding bookOf highest contentWith
+    unfolding bookOf highestVersion contentWith
     its-value = upTo-at (λ k. slotContent all k .value) 0 (slotCount h) i lt ∙ rw its-calls
 
     pub its-status : getD (book .slots .statuses) i 0 ≡ 0
-    unfolding bookOf highest contentWith
+    unfolding bookOf highestVersion contentWith
     its-status = upTo-at (λ k. slotContent all k .status) 0 (slotCount h) i lt ∙ rw its-calls

@@ -15,9 +15,9 @@ use Rattle.book.specs.Answers.Answer.{stored}
 use Rattle.book.specs.Arguments.{Call, argumentRules}
 use Rattle.book.specs.Arguments.Call.{delivery, register}
 use Rattle.book.specs.Contents.{Measured}
-use Rattle.book.specs.Plain.{Said, deliveries, keptReads, agreements, named, highest, againstKept, plainAnswer, keep, keptOf}
+use Rattle.book.specs.Plain.{Said, deliveries, keptReads, agreements, named, highestVersion, againstKept, plainAnswer, keep, keptOf}
 use Rattle.berth.specs.Steps.{lostAt, valueAt}
-use Rattle.berth.specs.Run.{sentAt, sent, trueTotal, dialReads, callsOf}
+use Rattle.berth.specs.Run.{sentAt, sent, trueTotal, dialReads, runCalls}
 
 pub kept-append : (h : Head) (kept cs ds : List Call) → keptOf h kept (cs ++ ds) ≡ keptOf h (keptOf h kept cs) ds
 unfolding keptOf
@@ -27,13 +27,13 @@ kept-append h kept (c ∷ cs) ds = kept-append h (keep h kept c) cs ds
 -- a first delivery, and a first read of a boundary, is stored
 delivery-stored : (h : Head) (kept : List Call) (slot value : ℕ) → headOk h ≡ true → slot < slotCount h → deliveries slot kept ≡ []
     → plainAnswer h kept (delivery slot 1 value 0) ≡ stored
-unfolding plainAnswer argumentRules againstKept byVersion highest
+unfolding plainAnswer argumentRules againstKept byVersion highestVersion
 delivery-stored h kept slot value good lt e = rw (good, lt-leb _ _ lt, e)
 
 read-stored : (h : Head) (kept : List Call) (boundary reading : ℕ) → headOk h ≡ true → boundary ≤ h .days → reading ≤ 99_999_999
     → keptReads boundary kept ≡ []
     → plainAnswer h kept (register boundary 1 reading 0) ≡ stored
-unfolding plainAnswer argumentRules againstKept byVersion highest
+unfolding plainAnswer argumentRules againstKept byVersion highestVersion
 read-stored h kept boundary reading good le low e = rw (good, le-ltb _ _ le, le-ltb _ _ low, e)
 
 module _ (h : Head) (seed loss : ℕ) where
@@ -118,8 +118,8 @@ module _ (h : Head) (seed loss : ℕ) where
     unfolding keptReads
     unread-last = rw (ne-eqb 0 (h .days) (λ e. omega (arith, days-some)), heard-all .unread (h .days))
 
-    pub kept-run : keptOf h [] (callsOf h seed loss) ≡ allCalls
-    unfolding callsOf dialReads keptOf keep
+    pub kept-run : keptOf h [] (runCalls h seed loss) ≡ allCalls
+    unfolding runCalls dialReads keptOf keep
     kept-run =
         kept-append h [] (sent h seed loss (slotCount h)) (dialReads h (trueTotal h seed loss))
         ∙ rw (

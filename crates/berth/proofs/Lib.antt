@@ -8,4 +8,3 @@ pub mod Lists
 pub mod Differences
 pub mod Answers
 pub mod Without
-pub mod Bounds

@@ -12,7 +12,7 @@ use Rattle.book.specs.Opening.{opened, openAnswer, openAfter}
 use Rattle.book.specs.Filling.{deliverAfter, countsAfter, registerAfter, after, afterAll}
 use Rattle.claim.specs.Claim.{leftBy}
 use Rattle.berth.specs.Steps.{berthAfter, lostAt, valueAt}
-use Rattle.berth.specs.Run.{sentAt, sent, trueTotal, dialReads, callsOf}
+use Rattle.berth.specs.Run.{sentAt, sent, trueTotal, dialReads, runCalls}
 use Rattle.berth.specs.Inner.Sending.{Sent, sentOne, sentFrom}
 
 after-append : (h : Head) (b : Book) (cs ds : List Call) → afterAll h b (cs ++ ds) ≡ afterAll h (afterAll h b cs) ds
@@ -63,8 +63,8 @@ module _ (h : Head) (seed loss : ℕ) (b : Book) where
 -- a book o that was opened, with the lists s after the deliveries and r after the reads
 pub run-lists : (h : Head) (seed loss : ℕ) (o : Book) (s : Sent) (r : Reads) (total : ℕ) → o ≡ opened h
     → total ≡ trueTotal h seed loss → s ≡ sentFrom h seed loss (sentIn o) (slotCount h) → r ≡ dialAfter h (readsOf (o .cells)) total
-    → withDial (withSent o s) r ≡ leftBy h (callsOf h seed loss)
-unfolding callsOf
+    → withDial (withSent o s) r ≡ leftBy h (runCalls h seed loss)
+unfolding runCalls
 run-lists h seed loss o s r total e t p q =
     rw (q, p, t, e)
     (sym (after-append h (opened h) (sent h seed loss (slotCount h)) (dialReads h (trueTotal h seed loss))

@@ -16,15 +16,15 @@ pub record Ends (h : Head) (r : List ℕ) : Type 0 where
   pub last : isRead r (h .days) ≡ true
   pub none : (d : ℕ) → 0 < d → d < h .days → isRead r d ≡ false
 
-module _ (h : Head) (good : headOk h ≡ true) (b : Cells) (ends : Ends h (b .reads)) where
-  next-end : (d : ℕ) → d < h .days → nextRead (b .reads) (d + 1) (h .days - d) ≡ some (h .days)
+module _ (h : Head) (good : headOk h ≡ true) (b : Cells) (ends : Ends h (b .readVersions)) where
+  next-end : (d : ℕ) → d < h .days → nextRead (b .readVersions) (d + 1) (h .days - d) ≡ some (h .days)
   next-end d lt =
-      next-found (b .reads) (h .days - d) (d + 1) (h .days)
+      next-found (b .readVersions) (h .days - d) (d + 1) (h .days)
       (record { low = omega arith; high = omega arith; here = ends .last; before = λ x p q. ends .none x (omega arith) q })
 
-  last-start : (d : ℕ) → d < h .days → lastRead (b .reads) d ≡ some 0
+  last-start : (d : ℕ) → d < h .days → lastRead (b .readVersions) d ≡ some 0
   last-start d lt =
-      last-found (b .reads) d 0 (record { low = omega arith; here = ends .first; after = λ x p q. ends .none x p (omega arith) })
+      last-found (b .readVersions) d 0 (record { low = omega arith; here = ends .first; after = λ x p q. ends .none x p (omega arith) })
 
   none-from : (k d : ℕ) → 0 < d → d + k ≤ h .days → spansFrom h b d k ≡ []
   unfolding spansFrom spanFrom

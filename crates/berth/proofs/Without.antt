@@ -20,7 +20,7 @@ use Rattle.rules.specs.Inner.Walks.{actualOf}
 use Rattle.rules.proofs.Bounds.{bounded}
 use Rattle.rules.proofs.Outages.{filled-good}
 use Rattle.rules.proofs.Ranges.{apart}
-use Rattle.rules.proofs.Sharp.{sharp-dial}
+use Rattle.rules.proofs.WidthsZero.{sharp-dial}
 use Rattle.file.specs.Layout.{total, figuresOf}
 use Rattle.file.proofs.Lists.{total-sum}
 use Rattle.publishing.specs.Publishing.{published}

@@ -24,7 +24,7 @@ use Rattle.publishing.proofs.Publishing.{agreed-low, widths-low}
 use Rattle.publishing.proofs.Totals.{sum-low}
 use Rattle.claim.specs.Claim.{plainOf, plainFile}
 use Rattle.claim.proofs.WholeLists.{sound}
-use Rattle.berth.specs.Run.{callsOf}
+use Rattle.berth.specs.Run.{runCalls}
 use Rattle.berth.specs.Inner.Refusing.{fileSize}
 use Rattle.berth.proofs.Booked.{book-run, ends}
 use Rattle.berth.proofs.OneSpan.{one-span}
@@ -35,7 +35,7 @@ num-first p q k at le = sym (num-take (p ++ q) (length p) k at le) ∙ ap (λ (l
 
 module _ (h : Head) (seed loss : ℕ) (good : headOk h ≡ true) where
   abbrev cs : List Call
-  cs = callsOf h seed loss
+  cs = runCalls h seed loss
 
   abbrev b : Cells
   b = plainOf h cs

@@ -40,13 +40,13 @@ unfoldable pub dialReads : Head → ℕ → List Call
 dialReads h total = register 0 1 0 0 ∷ register (h .days) 1 (total % dialModulus) 0 ∷ []
 
 -- the calls of a run
-unfoldable pub callsOf : Head → ℕ → ℕ → List Call
-callsOf h seed loss = sent h seed loss (slotCount h) ++ dialReads h (trueTotal h seed loss)
+unfoldable pub runCalls : Head → ℕ → ℕ → List Call
+runCalls h seed loss = sent h seed loss (slotCount h) ++ dialReads h (trueTotal h seed loss)
 
 -- "that span's state and, as a signed number, the published total minus the true total", and the true total
 unfoldable pub reportOf : Head → ℕ → ℕ → Report
 reportOf h seed loss =
-    let book = plainOf h (callsOf h seed loss) in
+    let book = plainOf h (runCalls h seed loss) in
     record {
       state = stateOf h book 0 (h .days);
       difference = pos (figuresOf (published h book) .sum) -ℤ pos (trueTotal h seed loss);
@@ -57,7 +57,7 @@ reportOf h seed loss =
 -- the run's calls; `fit` says that the lists have their lengths
 abbrev pub runRules : Head → ℕ → ℕ → Bool → ℕ → List Rule
 runRules h seed loss fit room =
-    rule 1 (not (headOk h)) ∷ rule 2 (not fit) ∷ rule 7 (ltb room (length (plainFile h (callsOf h seed loss))))
+    rule 1 (not (headOk h)) ∷ rule 2 (not fit) ∷ rule 7 (ltb room (length (plainFile h (runCalls h seed loss))))
     ∷ rule 20 (eqb seed 0) ∷ rule 21 (ltb 1000 loss) ∷ []
 
 unfoldable pub simulateAnswer : Head → ℕ → ℕ → Book → List ℕ → Simulated
@@ -74,8 +74,8 @@ bytesWith (Refused n) file out = out
 
 -- the lists are those that the calls of the run leave
 unfoldable pub simulateLists : Head → ℕ → ℕ → Book → List ℕ → Book
-simulateLists h seed loss b out = listsWith (simulateAnswer h seed loss b out) (leftBy h (callsOf h seed loss)) b
+simulateLists h seed loss b out = listsWith (simulateAnswer h seed loss b out) (leftBy h (runCalls h seed loss)) b
 
 -- the file is the plain book's; bytes after it stay
 unfoldable pub simulateBytes : Head → ℕ → ℕ → Book → List ℕ → List ℕ
-simulateBytes h seed loss b out = bytesWith (simulateAnswer h seed loss b out) (plainFile h (callsOf h seed loss)) out
+simulateBytes h seed loss b out = bytesWith (simulateAnswer h seed loss b out) (plainFile h (runCalls h seed loss)) out

@@ -14,7 +14,7 @@ ghost use Rattle.rules.specs.Opening.{headOk};
 ghost use Rattle.book.specs.Cells.{bookFits};
 ghost use Rattle.book.specs.Lent.{lentBook};
 ghost use Rattle.claim.specs.Claim.{leftBy, plainFile};
-ghost use Rattle.berth.specs.Run.{trueTotal, callsOf, reportOf, simulateAnswer, simulateLists, simulateBytes};
+ghost use Rattle.berth.specs.Run.{trueTotal, runCalls, reportOf, simulateAnswer, simulateLists, simulateBytes};
 ghost use Rattle.berth.specs.Inner.Refusing.{fileSize};
 
 // That span's state, the published total minus the true total, and the true total, of which a reader may want the share.
@@ -31,7 +31,7 @@ pub enum Simulated {
 }
 
 // Opens the lists and makes every call of the run; the true total.
-fn fill(
+fn make_calls(
     head: Head,
     seed: u32,
     loss: u32,
@@ -40,20 +40,20 @@ fn fill(
     statuses: &mut [u8],
     holidays: &mut [u8],
     readings: &mut [u32],
-    reads: &mut [u32],
+    read_versions: &mut [u32],
     agreed: &mut [u32],
     agreed_versions: &mut [u32],
     counts: &mut [u16],
     widths: &mut [u16],
 ) -> u64
     requires { ⌜
-        (let book = lentBook values versions statuses holidays readings reads agreed «agreed_versions» counts widths in
+        (let book = lentBook values versions statuses holidays readings «read_versions» agreed «agreed_versions» counts widths in
         (headOk head ≡ true) × (bookFits head book ≡ true))
         ⌝ }
     ensures { λ r. ⌜
         (r ≡ trueTotal head seed loss)
-        × (lentBook (values .exit) (versions .exit) (statuses .exit) (holidays .exit) (readings .exit) (reads .exit)
-        (agreed .exit) («agreed_versions» .exit) (counts .exit) (widths .exit) ≡ leftBy head (callsOf head seed loss))
+        × (lentBook (values .exit) (versions .exit) (statuses .exit) (holidays .exit) (readings .exit) («read_versions» .exit)
+        (agreed .exit) («agreed_versions» .exit) (counts .exit) (widths .exit) ≡ leftBy head (runCalls head seed loss))
         ⌝ }
 {
     book::open(
@@ -63,14 +63,14 @@ fn fill(
         statuses,
         holidays,
         readings,
-        reads,
+        read_versions,
         agreed,
         agreed_versions,
         counts,
         widths,
     );
     let total = sending::send_all(head, seed, loss, values, versions, statuses, counts);
-    sending::read_dial(head, readings, reads, widths, total);
+    sending::read_dial(head, readings, read_versions, widths, total);
     total
 }
 
@@ -84,7 +84,7 @@ fn run(
     statuses: &mut [u8],
     holidays: &mut [u8],
     readings: &mut [u32],
-    reads: &mut [u32],
+    read_versions: &mut [u32],
     agreed: &mut [u32],
     agreed_versions: &mut [u32],
     counts: &mut [u16],
@@ -93,18 +93,19 @@ fn run(
 ) -> Report
     requires { ⌜
         (headOk head ≡ true)
-        × (bookFits head (lentBook values versions statuses holidays readings reads agreed «agreed_versions» counts widths) ≡ true)
+        × (bookFits head (lentBook values versions statuses holidays readings «read_versions» agreed «agreed_versions» counts widths)
+        ≡ true)
         × (fileSize head ≤ length (now out))
         ⌝ }
     ensures { λ r. ⌜
         (r ≡ reportOf head seed loss)
-        × (lentBook (values .exit) (versions .exit) (statuses .exit) (holidays .exit) (readings .exit) (reads .exit)
-        (agreed .exit) («agreed_versions» .exit) (counts .exit) (widths .exit) ≡ leftBy head (callsOf head seed loss))
+        × (lentBook (values .exit) (versions .exit) (statuses .exit) (holidays .exit) (readings .exit) («read_versions» .exit)
+        (agreed .exit) («agreed_versions» .exit) (counts .exit) (widths .exit) ≡ leftBy head (runCalls head seed loss))
         × (now (out .exit)
-        ≡ plainFile head (callsOf head seed loss) ++ drop (length (plainFile head (callsOf head seed loss))) (now (out .entry)))
+        ≡ plainFile head (runCalls head seed loss) ++ drop (length (plainFile head (runCalls head seed loss))) (now (out .entry)))
         ⌝ }
 {
-    let total = fill(
+    let total = make_calls(
         head,
         seed,
         loss,
@@ -113,7 +114,7 @@ fn run(
         statuses,
         holidays,
         readings,
-        reads,
+        read_versions,
         agreed,
         agreed_versions,
         counts,
@@ -126,7 +127,7 @@ fn run(
         statuses,
         holidays,
         readings,
-        reads,
+        read_versions,
         agreed,
         agreed_versions,
         counts,
@@ -146,7 +147,7 @@ pub fn simulate(
     statuses: &mut [u8],
     holidays: &mut [u8],
     readings: &mut [u32],
-    reads: &mut [u32],
+    read_versions: &mut [u32],
     agreed: &mut [u32],
     agreed_versions: &mut [u32],
     counts: &mut [u16],
@@ -154,10 +155,10 @@ pub fn simulate(
     out: &mut [u8],
 ) -> Simulated
     ensures { λ r. ⌜
-        (let book = lentBook (values .entry) (versions .entry) (statuses .entry) (holidays .entry) (readings .entry) (reads .entry)
-        (agreed .entry) («agreed_versions» .entry) (counts .entry) (widths .entry) in
+        (let book = lentBook (values .entry) (versions .entry) (statuses .entry) (holidays .entry) (readings .entry)
+        («read_versions» .entry) (agreed .entry) («agreed_versions» .entry) (counts .entry) (widths .entry) in
         (r ≡ simulateAnswer head seed loss book (now (out .entry)))
-        × (lentBook (values .exit) (versions .exit) (statuses .exit) (holidays .exit) (readings .exit) (reads .exit)
+        × (lentBook (values .exit) (versions .exit) (statuses .exit) (holidays .exit) (readings .exit) («read_versions» .exit)
         (agreed .exit) («agreed_versions» .exit) (counts .exit) (widths .exit)
         ≡ simulateLists head seed loss book (now (out .entry)))
         × (now (out .exit) ≡ simulateBytes head seed loss book (now (out .entry))))
@@ -172,7 +173,7 @@ pub fn simulate(
         statuses,
         holidays,
         readings,
-        reads,
+        read_versions,
         agreed,
         agreed_versions,
         counts,
@@ -191,7 +192,7 @@ pub fn simulate(
         statuses,
         holidays,
         readings,
-        reads,
+        read_versions,
         agreed,
         agreed_versions,
         counts,

@@ -24,7 +24,7 @@ fn file_size(head: Head) -> usize
 }
 
 // 7, 20, 21, or 0.
-fn beside_lists(head: Head, seed: u32, loss: u32, room: usize) -> u8
+fn refusal_past_lengths(head: Head, seed: u32, loss: u32, room: usize) -> u8
     requires { ⌜ headOk head ≡ true ⌝ }
     ensures { λ r. ⌜ r ≡ firstBroken (rule 7 (ltb room (fileSize head)) ∷ rule 20 (eqb seed 0) ∷ rule 21 (ltb 1000 loss) ∷ []) ⌝ }
 {
@@ -50,7 +50,7 @@ pub fn refusal(
     statuses: &[u8],
     holidays: &[u8],
     readings: &[u32],
-    reads: &[u32],
+    read_versions: &[u32],
     agreed: &[u32],
     agreed_versions: &[u32],
     counts: &[u16],
@@ -58,8 +58,8 @@ pub fn refusal(
     out: &[u8],
 ) -> u8
     ensures { λ r. ⌜
-        (let book = lentBook (values .entry) (versions .entry) (statuses .entry) (holidays .entry) (readings .entry) (reads .entry)
-        (agreed .entry) («agreed_versions» .entry) (counts .entry) (widths .entry) in
+        (let book = lentBook (values .entry) (versions .entry) (statuses .entry) (holidays .entry) (readings .entry)
+        («read_versions» .entry) (agreed .entry) («agreed_versions» .entry) (counts .entry) (widths .entry) in
         r ≡ firstBroken (runRules head seed loss (bookFits head book) (length (now (out .entry)))))
         ⌝ }
 {
@@ -73,7 +73,7 @@ pub fn refusal(
         statuses.len(),
         holidays.len(),
         readings.len(),
-        reads.len(),
+        read_versions.len(),
         agreed.len(),
         agreed_versions.len(),
         counts.len(),
@@ -82,5 +82,5 @@ pub fn refusal(
     if !fit {
         return 2;
     }
-    beside_lists(head, seed, loss, out.len())
+    refusal_past_lengths(head, seed, loss, out.len())
 }

@@ -87,17 +87,26 @@ pub fn send_all(
 pub fn read_dial(
     head: Head,
     readings: &mut [u32],
-    reads: &mut [u32],
+    read_versions: &mut [u32],
     widths: &mut [u16],
     total: u64,
 )
     ensures { λ _. ⌜
-        (lentReads (readings .exit) (reads .exit) (widths .exit)
-        ≡ registerAfter head (registerAfter head (lentReads (readings .entry) (reads .entry) (widths .entry)) 0 1 0 0)
+        (lentReads (readings .exit) («read_versions» .exit) (widths .exit)
+        ≡ registerAfter head (registerAfter head (lentReads (readings .entry) («read_versions» .entry) (widths .entry)) 0 1 0 0)
         (head .days) 1 (total % dialModulus) 0)
         ⌝ }
 {
-    book::register(head, readings, reads, widths, 0, 1, 0, 0);
+    book::register(head, readings, read_versions, widths, 0, 1, 0, 0);
     let reading = (total % 100_000_000) as u32;
-    book::register(head, readings, reads, widths, head.days, 1, reading, 0);
+    book::register(
+        head,
+        readings,
+        read_versions,
+        widths,
+        head.days,
+        1,
+        reading,
+        0,
+    );
 }

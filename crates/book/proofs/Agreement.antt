@@ -23,7 +23,7 @@ use Rattle.book.specs.Cells.{readsOf, allLong, slotsFit, daysFit, readsF
 use Rattle.book.specs.Opening.{opened}
 use Rattle.book.specs.Filling.{inputRules, againstSlot, againstDay, againstBoundary, againstAgreed, againstDelivery, deliverAnswer}
 use Rattle.book.specs.Filling.{holidayAnswer, registerAnswer, agreeAnswer, answer, after, answers, afterAll}
-use Rattle.book.specs.Plain.{deliveries, keptReads, agreements, named, highest, contentWith, againstKept, plainAnswer, keep}
+use Rattle.book.specs.Plain.{deliveries, keptReads, agreements, named, highestVersion, contentWith, againstKept, plainAnswer, keep}
 use Rattle.book.specs.Plain.{plainAnswers, keptOf, bookOf, deliveredOn, countsOf, listsOf}
 use Rattle.book.specs.Contents.{dialRead, readAt}
 use Rattle.book.proofs.Tables.{upTo-zero}
@@ -71,7 +71,8 @@ against-day h kept day ok lt = simp upTo-at (rw (day-clean h kept ok day) (go (n
     go false = refl
 
 against-boundary : (h : Head) (kept : List Call) (boundary version reading width : ℕ) → Kept h kept → boundary < suc (h .days)
-    → againstBoundary (getD (bookOf h kept .reads) boundary 0) (readAt (readsOf (bookOf h kept)) boundary) version (dialRead reading width)
+    → againstBoundary (getD (bookOf h kept .readVersions) boundary 0) (readAt (readsOf (bookOf h kept)) boundary) version
+    (dialRead reading width)
     ≡ againstKept kept (register boundary version reading width)
 unfolding againstBoundary againstKept bookOf
 against-boundary h kept boundary version reading width ok lt = simp upTo-at (rw (read-clean h kept ok boundary))
@@ -139,7 +140,7 @@ after-agrees h kept c ok =
 
 -- nothing is kept of a book that was only opened
 opened-cells : (h : Head) → opened h .cells ≡ bookOf h []
-unfolding opened bookOf deliveries keptReads agreements named highest contentWith
+unfolding opened bookOf deliveries keptReads agreements named highestVersion contentWith
 opened-cells h = simp (upTo-zero 0)
 
 opened-book : (h : Head) → opened h ≡ listsOf h []

@@ -36,19 +36,20 @@ cleared-all d list i c le =
     c .cells ∙ rw (drop-of-length-le d {i = i} over, append-nil, e)
 
 -- ten lists of zeros are those of an opened book
-pub opened-lists : (h : Head) {values versions statuses holidays readings reads agreed agreed-versions counts widths : List ℕ}
+pub opened-lists : (h : Head) {values versions statuses holidays readings readVersions agreed agreed-versions counts widths : List ℕ}
     → values ≡ replicate (slotCount h) 0 → versions ≡ replicate (slotCount h) 0 → statuses ≡ replicate (slotCount h) 0
-    → holidays ≡ replicate (h .days) 0 → readings ≡ replicate (suc (h .days)) 0 → reads ≡ replicate (suc (h .days)) 0
+    → holidays ≡ replicate (h .days) 0 → readings ≡ replicate (suc (h .days)) 0 → readVersions ≡ replicate (suc (h .days)) 0
     → agreed ≡ replicate (slotCount h) 0 → agreed-versions ≡ replicate (slotCount h) 0
     → counts ≡ replicate (h .days) 0 → widths ≡ replicate (suc (h .days)) 0
-    → book (cells (slots values versions statuses) holidays readings reads (agreedLists agreed agreed-versions) widths) counts ≡ opened h
+    → book (cells (slots values versions statuses) holidays readings readVersions (agreedLists agreed agreed-versions) widths) counts
+    ≡ opened h
 unfolding opened
-opened-lists h values versions statuses holidays readings reads agreed agreed-versions counts widths = λ t. record {
+opened-lists h values versions statuses holidays readings readVersions agreed agreed-versions counts widths = λ t. record {
   cells = record {
     slots = record { values = values t; versions = versions t; statuses = statuses t };
     holidays = holidays t;
     readings = readings t;
-    reads = reads t;
+    readVersions = readVersions t;
     agreed = record { values = agreed t; versions = agreed-versions t };
     widths = widths t;
   };

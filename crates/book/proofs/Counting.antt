@@ -18,13 +18,13 @@ use Rattle.base.proofs.Sums.{sum-cong, sum-none}
 use Rattle.rules.specs.declared.Head.{Head}
 use Rattle.rules.specs.Opening.{slotsPerDay, slotCount}
 use Rattle.rules.proofs.Bounds.{Bounded}
-use Rattle.rules.proofs.Small.{cond-small}
+use Rattle.rules.proofs.ValueBounds.{cond-small}
 use Rattle.book.specs.Answers.{Answer, isAccepted, isStored, byVersion}
 use Rattle.book.specs.Arguments.{Call}
 use Rattle.book.specs.Arguments.Call.{delivery}
 use Rattle.book.specs.Cells.{deliveredIn}
 use Rattle.book.specs.Filling.{countsWith, isFull}
-use Rattle.book.specs.Plain.{deliveries, highest, slotVersion, slotContent, bookOf, deliveredOn, countsOf}
+use Rattle.book.specs.Plain.{deliveries, highestVersion, slotVersion, slotContent, bookOf, deliveredOn, countsOf}
 use Rattle.book.proofs.Tables.{upTo-zero, upTo-same, upTo-filed}
 use Rattle.book.proofs.Said.{ruled, step}
 use Rattle.book.proofs.Next.{same-measured}
@@ -208,7 +208,7 @@ module _ (versions : List ℕ) (a : ℕ) where
 
 -- nothing is delivered in a book that was only opened
 pub counts-none : (h : Head) → replicate (h .days) 0 ≡ countsOf h []
-unfolding countsOf deliveredOn deliveries highest
+unfolding countsOf deliveredOn deliveries highestVersion
 counts-none h =
     upTo-zero 0 (h .days)
     ∙ upTo-same (λ d. sum (λ i. one 0) (d * slotsPerDay h) (slotsPerDay h)) (λ d. 0) (h .days)

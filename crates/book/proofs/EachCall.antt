@@ -44,13 +44,14 @@ module _ (h : Head) (b : Cells) (counts : List ℕ) (call : Call) (a : Answer) w
         λ t. record { cells = withHolidays b (p t); counts = counts },
       )
 
-  pub registered : (boundary version reading width : ℕ) (readings reads widths : List ℕ) → call ≡ Register boundary version reading width
+  pub registered : (boundary version reading width : ℕ) (readings readVersions widths : List ℕ) → call ≡ Register boundary version reading
+      width
       → a ≡ registerAnswer h (readsOf b) boundary version reading width
-      → readLists readings reads widths ≡ registerAfter h (readsOf b) boundary version reading width
+      → readLists readings readVersions widths ≡ registerAfter h (readsOf b) boundary version reading width
       → (a ≡ answer h (book b counts) (callMeant call))
-      × (book (withReads b (readLists readings reads widths)) counts ≡ after h (book b counts) (callMeant call))
+      × (book (withReads b (readLists readings readVersions widths)) counts ≡ after h (book b counts) (callMeant call))
   unfolding answer after
-  registered boundary version reading width readings reads widths k e p =
+  registered boundary version reading width readings readVersions widths k e p =
       rw k (
         e,
         λ t. record { cells = withReads b (p t); counts = counts },

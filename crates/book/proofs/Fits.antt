@@ -25,7 +25,7 @@ pub record Lengths (h : Head) (b : Cells) : Type 0 where
   pub statuses : length (b .slots .statuses) ≡ slotCount h
   pub holidays : length (b .holidays) ≡ h .days
   pub readings : length (b .readings) ≡ suc (h .days)
-  pub reads : length (b .reads) ≡ suc (h .days)
+  pub readVersions : length (b .readVersions) ≡ suc (h .days)
   pub agreed : length (b .agreed .values) ≡ slotCount h
   pub agreedVersions : length (b .agreed .versions) ≡ slotCount h
   pub widths : length (b .widths) ≡ suc (h .days)
@@ -35,18 +35,18 @@ unfolding cellsFit slotsFit daysFit readsFit agreedFits
 lengths-of h b fit =
     let slots = long _ _ (passed (cellsFits h b) fit 0) in
     let days = long _ _ (passed (cellsFits h b) fit 1) in
-    let reads = long _ _ (passed (cellsFits h b) fit 2) in
+    let readVersions = long _ _ (passed (cellsFits h b) fit 2) in
     let agreed = long _ _ (passed (cellsFits h b) fit 3) in
     record {
       values = slots 0;
       versions = slots 1;
       statuses = slots 2;
       holidays = days 0;
-      readings = reads 0;
-      reads = reads 1;
+      readings = readVersions 0;
+      readVersions = readVersions 1;
       agreed = agreed 0;
       agreedVersions = agreed 1;
-      widths = reads 2;
+      widths = readVersions 2;
     }
 
 -- the cells of lists that fit do, and the counts are D long

@@ -18,7 +18,7 @@ use Rattle.book.specs.Cells.{Book, withSlots, withHolidays, withReads, w
 use Rattle.book.specs.Filling.{storedIn, slotsWith, countsWith, deliverAfter, countsAfter, holidayAfter, registerAfter, agreeAfter}
 use Rattle.book.specs.Filling.{answer, after}
 use Rattle.book.specs.Contents.{Measured, DialRead}
-use Rattle.book.specs.Plain.{Said, deliveries, keptReads, agreements, named, highest, slotVersion, slotContent, readVersion}
+use Rattle.book.specs.Plain.{Said, deliveries, keptReads, agreements, named, highestVersion, slotVersion, slotContent, readVersion}
 use Rattle.book.specs.Plain.{readContent, againstKept, bookOf}
 use Rattle.book.specs.Lent.{readLists}
 use Rattle.book.proofs.Tables.{upTo-filed}
@@ -30,7 +30,8 @@ filedIn a b (delivery slot version value status) = withSlots b (slotsWith a (b .
 filedIn a b (holiday day) = withHolidays b (storedIn a (b .holidays) day 1)
 filedIn a b (register boundary version reading width) =
     withReads b
-    (readLists (storedIn a (b .readings) boundary reading) (storedIn a (b .reads) boundary version) (storedIn a (b .widths) boundary width))
+    (readLists (storedIn a (b .readings) boundary reading) (storedIn a (b .readVersions) boundary version)
+    (storedIn a (b .widths) boundary width))
 filedIn a b (agreed slot version value) =
     withAgreed b (agreedLists (storedIn a (b .agreed .values) slot value) (storedIn a (b .agreed .versions) slot version))
 
@@ -131,11 +132,11 @@ days-next h kept day =
 
 -- a table of agreed values, when one accepted call more is for place j
 numbers-next : (of next : ℕ → List (Said ℕ)) (j : ℕ) (s : Said ℕ) (n : ℕ)
-    → isAccepted (byVersion (highest (of j)) (s .version) (eqb (latest 0 (of j)) (s .content))) ≡ true
+    → isAccepted (byVersion (highestVersion (of j)) (s .version) (eqb (latest 0 (of j)) (s .content))) ≡ true
     → next j ≡ s ∷ of j → ((i : ℕ) → (j ≡ i → ⊥) → next i ≡ of i) → (m : ℕ → ℕ → ℕ)
-    → upTo (λ i. m (highest (next i)) (latest 0 (next i))) 0 n
-    ≡ storedIn (byVersion (highest (of j)) (s .version) (eqb (latest 0 (of j)) (s .content)))
-    (upTo (λ i. m (highest (of i)) (latest 0 (of i))) 0 n) j (m (s .version) (s .content))
+    → upTo (λ i. m (highestVersion (next i)) (latest 0 (next i))) 0 n
+    ≡ storedIn (byVersion (highestVersion (of j)) (s .version) (eqb (latest 0 (of j)) (s .content)))
+    (upTo (λ i. m (highestVersion (of i)) (latest 0 (of i))) 0 n) j (m (s .version) (s .content))
 numbers-next of next j s n ok here there m =
     said-filed 0 of next j s (eqb (latest 0 (of j)) (s .content)) (λ e. sym (eqb-true _ _ e)) ok here there m n
 
@@ -149,7 +150,7 @@ book-next h kept (delivery slot version value status) ok =
       slots = record { values = column (λ v a. a .value) t; versions = column (λ v a. v) t; statuses = column (λ v a. a .status) t };
       holidays = bookOf h kept .holidays;
       readings = bookOf h kept .readings;
-      reads = bookOf h kept .reads;
+      readVersions = bookOf h kept .readVersions;
       agreed = bookOf h kept .agreed;
       widths = bookOf h kept .widths;
     }
@@ -157,7 +158,7 @@ book-next h kept (holiday day) ok = λ t. record {
   slots = bookOf h kept .slots;
   holidays = days-next h kept day t;
   readings = bookOf h kept .readings;
-  reads = bookOf h kept .reads;
+  readVersions = bookOf h kept .readVersions;
   agreed = bookOf h kept .agreed;
   widths = bookOf h kept .widths;
 }
@@ -167,7 +168,7 @@ book-next h kept (register boundary version reading width) ok =
       slots = bookOf h kept .slots;
       holidays = bookOf h kept .holidays;
       readings = column (λ v a. a .reading) t;
-      reads = column (λ v a. v) t;
+      readVersions = column (λ v a. v) t;
       agreed = bookOf h kept .agreed;
       widths = column (λ v a. a .width) t;
     }
@@ -180,7 +181,7 @@ book-next h kept (agreed slot version value) ok =
       slots = bookOf h kept .slots;
       holidays = bookOf h kept .holidays;
       readings = bookOf h kept .readings;
-      reads = bookOf h kept .reads;
+      readVersions = bookOf h kept .readVersions;
       agreed = record { values = column (λ v a. a) t; versions = column (λ v a. v) t };
       widths = bookOf h kept .widths;
     }

@@ -27,7 +27,7 @@ number-sound a place version number inside some small = rw (lt-leb _ _ inside, n
 pub read-sound : (r : Reads) (boundary version reading width : ℕ) → boundary < length (r .readings) → (version ≡ 0 → ⊥)
     → reading ≤ 99_999_999 → width ≤ 9999
     → readAnswer r boundary version reading width
-    ≡ againstBoundary (getD (r .reads) boundary 0) (readAt r boundary) version (dialRead reading width)
+    ≡ againstBoundary (getD (r .readVersions) boundary 0) (readAt r boundary) version (dialRead reading width)
 unfolding readAnswer
 read-sound r boundary version reading width inside some small narrow =
     rw (lt-leb _ _ inside, ne-eqb _ _ some, le-ltb _ _ small, le-ltb _ _ narrow)

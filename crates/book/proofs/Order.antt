@@ -11,7 +11,7 @@ use Rattle.book.specs.Answers.{isAccepted, byVersion}
 use Rattle.book.specs.Arguments.{Call}
 use Rattle.book.specs.Arguments.Call.{delivery, holiday, register, agreed}
 use Rattle.book.specs.Contents.{Measured, DialRead}
-use Rattle.book.specs.Plain.{Said, deliveries, keptReads, agreements, named, highest, slotVersion, slotContent, readVersion}
+use Rattle.book.specs.Plain.{Said, deliveries, keptReads, agreements, named, highestVersion, slotVersion, slotContent, readVersion}
 use Rattle.book.specs.Plain.{readContent, agreedVersion, agreedContent, againstKept, plainAnswer, keptOf, bookOf}
 use Rattle.book.proofs.Tables.{upTo-same}
 use Rattle.book.proofs.Said.{latest, AllFair, fair-next, ruled, ruled-same, same-said, highest-within}
@@ -22,7 +22,7 @@ use Rattle.book.proofs.Next.{same-measured, same-read}
 
 -- where an accepted call may be in front: with the content before, where it has the highest version before
 fair-if : {A : Type 0} (zeros : A) (t : Bool) (s : Said A) (ss : List (Said A))
-    → (t ≡ true → (0 < s .version) × (s .version ≡ highest ss → s .content ≡ latest zeros ss))
+    → (t ≡ true → (0 < s .version) × (s .version ≡ highestVersion ss → s .content ≡ latest zeros ss))
     → AllFair zeros ss → AllFair zeros (cond t (s ∷ ss) ss)
 fair-if zeros true s ss here fair = fair-next zeros s ss (here refl .0) (here refl .1) fair
 fair-if zeros false s ss here fair = fair
@@ -167,7 +167,7 @@ module _ (h : Head) (kept other : List Call) (ok : Kept h other) (sub : Within k
     };
     holidays = upTo-same _ _ (h .days) (λ d. ap (λ (t : Bool). cond t 1 0) (same-day d)) t;
     readings = upTo-same _ _ (suc (h .days)) (λ d. ap (λ (a : DialRead). a .reading) (same-boundary d .1)) t;
-    reads = upTo-same _ _ (suc (h .days)) (λ d. same-boundary d .0) t;
+    readVersions = upTo-same _ _ (suc (h .days)) (λ d. same-boundary d .0) t;
     agreed = record {
       values = upTo-same _ _ (slotCount h) (λ i. same-agreed i .1) t;
       versions = upTo-same _ _ (slotCount h) (λ i. same-agreed i .0) t;

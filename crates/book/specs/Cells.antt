@@ -14,24 +14,24 @@ use Rattle.rules.specs.Lent.{cells}
 -- the lent lists of boundaries, the widths last (02, W10)
 pub record Reads : Type 0 where
   pub readings : List ℕ
-  pub reads : List ℕ
+  pub readVersions : List ℕ
   pub widths : List ℕ
 
 abbrev pub readsOf : Cells → Reads
-readsOf b = record { readings = b .readings; reads = b .reads; widths = b .widths }
+readsOf b = record { readings = b .readings; readVersions = b .readVersions; widths = b .widths }
 
 -- cells with other slots, holidays, reads or agreed lists
 abbrev pub withSlots : Cells → Slots → Cells
-withSlots b s = cells s (b .holidays) (b .readings) (b .reads) (b .agreed) (b .widths)
+withSlots b s = cells s (b .holidays) (b .readings) (b .readVersions) (b .agreed) (b .widths)
 
 abbrev pub withHolidays : Cells → List ℕ → Cells
-withHolidays b holidays = cells (b .slots) holidays (b .readings) (b .reads) (b .agreed) (b .widths)
+withHolidays b holidays = cells (b .slots) holidays (b .readings) (b .readVersions) (b .agreed) (b .widths)
 
 abbrev pub withReads : Cells → Reads → Cells
-withReads b r = cells (b .slots) (b .holidays) (r .readings) (r .reads) (b .agreed) (r .widths)
+withReads b r = cells (b .slots) (b .holidays) (r .readings) (r .readVersions) (b .agreed) (r .widths)
 
 abbrev pub withAgreed : Cells → Agreed → Cells
-withAgreed b a = cells (b .slots) (b .holidays) (b .readings) (b .reads) a (b .widths)
+withAgreed b a = cells (b .slots) (b .holidays) (b .readings) (b .readVersions) a (b .widths)
 
 -- the lent lists of a book: the cells that the rules read, and the counts of delivered slots (02, W6)
 pub record Book : Type 0 where
@@ -51,7 +51,7 @@ unfoldable pub daysFit : Head → List ℕ → Bool
 daysFit h holidays = allLong (h .days) (length holidays ∷ [])
 
 unfoldable pub readsFit : Head → Reads → Bool
-readsFit h r = allLong (suc (h .days)) (length (r .readings) ∷ length (r .reads) ∷ length (r .widths) ∷ [])
+readsFit h r = allLong (suc (h .days)) (length (r .readings) ∷ length (r .readVersions) ∷ length (r .widths) ∷ [])
 
 unfoldable pub agreedFits : Head → Agreed → Bool
 agreedFits h a = allLong (slotCount h) (length (a .values) ∷ length (a .versions) ∷ [])
@@ -97,7 +97,7 @@ abbrev pub dayFaultAt : List ℕ → ℕ → Bool
 dayFaultAt holidays day = dayFault (getD holidays day 0)
 
 abbrev pub readFaultAt : Reads → ℕ → Bool
-readFaultAt r boundary = readFault (getD (r .reads) boundary 0) (getD (r .readings) boundary 0) (getD (r .widths) boundary 0)
+readFaultAt r boundary = readFault (getD (r .readVersions) boundary 0) (getD (r .readings) boundary 0) (getD (r .widths) boundary 0)
 
 abbrev pub agreedFaultAt : Agreed → ℕ → Bool
 agreedFaultAt a i = agreedFault (getD (a .versions) i 0) (getD (a .values) i 0)

@@ -90,12 +90,12 @@ holidayAfter h holidays day = storedIn (holidayAnswer h holidays day) holidays d
 unfoldable pub registerAnswer : Head → Reads → ℕ → ℕ → ℕ → ℕ → Answer
 registerAnswer h r boundary version reading width =
     unless refused (inputRules h (readsFit h r) (register boundary version reading width))
-    (againstBoundary (getD (r .reads) boundary 0) (readAt r boundary) version (dialRead reading width))
+    (againstBoundary (getD (r .readVersions) boundary 0) (readAt r boundary) version (dialRead reading width))
 
 unfoldable pub registerAfter : Head → Reads → ℕ → ℕ → ℕ → ℕ → Reads
 registerAfter h r boundary version reading width = record {
   readings = storedIn (registerAnswer h r boundary version reading width) (r .readings) boundary reading;
-  reads = storedIn (registerAnswer h r boundary version reading width) (r .reads) boundary version;
+  readVersions = storedIn (registerAnswer h r boundary version reading width) (r .readVersions) boundary version;
   widths = storedIn (registerAnswer h r boundary version reading width) (r .widths) boundary width;
 }
 

@@ -6,14 +6,14 @@ use Rattle.rules.specs.Lent.{lentCells}
 use Rattle.book.specs.Cells.{Reads, Book}
 
 abbrev pub readLists : List ℕ → List ℕ → List ℕ → Reads
-readLists readings reads widths = record { readings = readings; reads = reads; widths = widths }
+readLists readings readVersions widths = record { readings = readings; readVersions = readVersions; widths = widths }
 
 abbrev pub lentReads : RefT (List ℕ) → RefT (List ℕ) → RefT (List ℕ) → Reads
-lentReads readings reads widths = readLists (now readings) (now reads) (now widths)
+lentReads readings readVersions widths = readLists (now readings) (now readVersions) (now widths)
 
 abbrev pub lentBook : RefT (List ℕ) → RefT (List ℕ) → RefT (List ℕ) → RefT (List ℕ) → RefT (List ℕ) → RefT (List ℕ) → RefT (List ℕ)
     → RefT (List ℕ) → RefT (List ℕ) → RefT (List ℕ) → Book
-lentBook values versions statuses holidays readings reads agreed agreedVersions counts widths = record {
-  cells = lentCells values versions statuses holidays readings reads agreed agreedVersions widths;
+lentBook values versions statuses holidays readings readVersions agreed agreedVersions counts widths = record {
+  cells = lentCells values versions statuses holidays readings readVersions agreed agreedVersions widths;
   counts = now counts;
 }

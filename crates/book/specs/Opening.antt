@@ -18,7 +18,7 @@ opened h = record {
     slots = record { values = replicate (slotCount h) 0; versions = replicate (slotCount h) 0; statuses = replicate (slotCount h) 0 };
     holidays = replicate (h .days) 0;
     readings = replicate (suc (h .days)) 0;
-    reads = replicate (suc (h .days)) 0;
+    readVersions = replicate (suc (h .days)) 0;
     agreed = record { values = replicate (slotCount h) 0; versions = replicate (slotCount h) 0 };
     widths = replicate (suc (h .days)) 0;
   };

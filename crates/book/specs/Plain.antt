@@ -58,9 +58,9 @@ named d (register boundary version reading width ∷ kept) = named d kept
 named d (agreed slot version value ∷ kept) = named d kept
 
 -- h: the highest version among them, 0 if there are none
-unfoldable pub highest : {A : Type 0} → List (Said A) → ℕ
-highest [] = 0
-highest (s ∷ ss) = max (s .version) (highest ss)
+unfoldable pub highestVersion : {A : Type 0} → List (Said A) → ℕ
+highestVersion [] = 0
+highestVersion (s ∷ ss) = max (s .version) (highestVersion ss)
 
 -- the content of the kept call with this version, zeros if there is none
 unfoldable pub contentWith : {A : Type 0} → A → ℕ → List (Said A) → A
@@ -69,20 +69,20 @@ contentWith zeros version (s ∷ ss) = cond (eqb (s .version) version) (s .conte
 
 -- the version and content of a slot's, or a boundary's, kept call with the highest version
 abbrev pub slotVersion : List Call → ℕ → ℕ
-slotVersion kept i = highest (deliveries i kept)
+slotVersion kept i = highestVersion (deliveries i kept)
 
 abbrev pub slotContent : List Call → ℕ → Measured
 slotContent kept i = contentWith (measured 0 0) (slotVersion kept i) (deliveries i kept)
 
 abbrev pub readVersion : List Call → ℕ → ℕ
-readVersion kept d = highest (keptReads d kept)
+readVersion kept d = highestVersion (keptReads d kept)
 
 abbrev pub readContent : List Call → ℕ → DialRead
 readContent kept d = contentWith (dialRead 0 0) (readVersion kept d) (keptReads d kept)
 
 -- "with a highest version of their own" (02, W1)
 abbrev pub agreedVersion : List Call → ℕ → ℕ
-agreedVersion kept i = highest (agreements i kept)
+agreedVersion kept i = highestVersion (agreements i kept)
 
 abbrev pub agreedContent : List Call → ℕ → ℕ
 agreedContent kept i = contentWith 0 (agreedVersion kept i) (agreements i kept)
@@ -123,7 +123,7 @@ bookOf h kept = record {
   };
   holidays = upTo (λ d. cond (named d kept) 1 0) 0 (h .days);
   readings = upTo (λ d. readContent kept d .reading) 0 (suc (h .days));
-  reads = upTo (readVersion kept) 0 (suc (h .days));
+  readVersions = upTo (readVersion kept) 0 (suc (h .days));
   agreed = record {
     values = upTo (agreedContent kept) 0 (slotCount h);
     versions = upTo (agreedVersion kept) 0 (slotCount h);

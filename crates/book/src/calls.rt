@@ -28,14 +28,14 @@ pub enum Call {
     },
 }
 
-pub fn fill(
+pub fn make(
     head: Head,
     values: &mut [u32],
     versions: &mut [u32],
     statuses: &mut [u8],
     holidays: &mut [u8],
     readings: &mut [u32],
-    reads: &mut [u32],
+    read_versions: &mut [u32],
     agreed: &mut [u32],
     agreed_versions: &mut [u32],
     counts: &mut [u16],
@@ -44,10 +44,10 @@ pub fn fill(
 ) -> Received
     ensures { λ r. ⌜
         (let book =
-        lentBook (values .entry) (versions .entry) (statuses .entry) (holidays .entry) (readings .entry) (reads .entry)
+        lentBook (values .entry) (versions .entry) (statuses .entry) (holidays .entry) (readings .entry) («read_versions» .entry)
         (agreed .entry) («agreed_versions» .entry) (counts .entry) (widths .entry) in
         (receivedMeant r ≡ answer head book (callMeant call))
-        × (lentBook (values .exit) (versions .exit) (statuses .exit) (holidays .exit) (readings .exit) (reads .exit)
+        × (lentBook (values .exit) (versions .exit) (statuses .exit) (holidays .exit) (readings .exit) («read_versions» .exit)
         (agreed .exit) («agreed_versions» .exit) (counts .exit) (widths .exit)
         ≡ after head book (callMeant call)))
         ⌝ }
@@ -78,7 +78,7 @@ pub fn fill(
         } => crate::register(
             head,
             readings,
-            reads,
+            read_versions,
             widths,
             boundary,
             version,

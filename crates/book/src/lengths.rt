@@ -48,14 +48,14 @@ pub fn delivery_fits(
 }
 
 // The lists of a register read (02, W10).
-pub fn reads_fit(head: Head, readings: usize, reads: usize, widths: usize) -> bool
-    ensures { λ r. ⌜ r ≡ allLong (suc (head .days)) (readings ∷ reads ∷ widths ∷ []) ⌝ }
+pub fn reads_fit(head: Head, readings: usize, read_versions: usize, widths: usize) -> bool
+    ensures { λ r. ⌜ r ≡ allLong (suc (head .days)) (readings ∷ «read_versions» ∷ widths ∷ []) ⌝ }
 {
     let n = head.days as usize + 1;
     if readings != n {
         return false;
     }
-    if reads != n {
+    if read_versions != n {
         return false;
     }
     widths == n
@@ -80,7 +80,7 @@ fn cells_fit(
     statuses: usize,
     holidays: usize,
     readings: usize,
-    reads: usize,
+    read_versions: usize,
     agreed: usize,
     agreed_versions: usize,
     widths: usize,
@@ -90,7 +90,7 @@ fn cells_fit(
         r ≡ every
         (allLong (slotCount head) (values ∷ versions ∷ statuses ∷ [])
         ∷ allLong (head .days) (holidays ∷ [])
-        ∷ allLong (suc (head .days)) (readings ∷ reads ∷ widths ∷ [])
+        ∷ allLong (suc (head .days)) (readings ∷ «read_versions» ∷ widths ∷ [])
         ∷ allLong (slotCount head) (agreed ∷ «agreed_versions» ∷ [])
         ∷ [])
         ⌝ }
@@ -101,7 +101,7 @@ fn cells_fit(
     if !days_fit(head, holidays) {
         return false;
     }
-    if !reads_fit(head, readings, reads, widths) {
+    if !reads_fit(head, readings, read_versions, widths) {
         return false;
     }
     agreed_fit(head, agreed, agreed_versions)
@@ -115,7 +115,7 @@ pub fn book_fits(
     statuses: usize,
     holidays: usize,
     readings: usize,
-    reads: usize,
+    read_versions: usize,
     agreed: usize,
     agreed_versions: usize,
     counts: usize,
@@ -126,7 +126,7 @@ pub fn book_fits(
         r ≡ (every
         (allLong (slotCount head) (values ∷ versions ∷ statuses ∷ [])
         ∷ allLong (head .days) (holidays ∷ [])
-        ∷ allLong (suc (head .days)) (readings ∷ reads ∷ widths ∷ [])
+        ∷ allLong (suc (head .days)) (readings ∷ «read_versions» ∷ widths ∷ [])
         ∷ allLong (slotCount head) (agreed ∷ «agreed_versions» ∷ [])
         ∷ [])
         && allLong (head .days) (counts ∷ []))
@@ -139,7 +139,7 @@ pub fn book_fits(
         statuses,
         holidays,
         readings,
-        reads,
+        read_versions,
         agreed,
         agreed_versions,
         widths,

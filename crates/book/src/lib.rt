@@ -37,7 +37,7 @@ pub fn open(
     statuses: &mut [u8],
     holidays: &mut [u8],
     readings: &mut [u32],
-    reads: &mut [u32],
+    read_versions: &mut [u32],
     agreed: &mut [u32],
     agreed_versions: &mut [u32],
     counts: &mut [u16],
@@ -45,10 +45,10 @@ pub fn open(
 ) -> Performed
     ensures { λ r. ⌜
         (let book =
-        lentBook (values .entry) (versions .entry) (statuses .entry) (holidays .entry) (readings .entry) (reads .entry)
+        lentBook (values .entry) (versions .entry) (statuses .entry) (holidays .entry) (readings .entry) («read_versions» .entry)
         (agreed .entry) («agreed_versions» .entry) (counts .entry) (widths .entry) in
         (openedMeant r ≡ openAnswer head book)
-        × (lentBook (values .exit) (versions .exit) (statuses .exit) (holidays .exit) (readings .exit) (reads .exit)
+        × (lentBook (values .exit) (versions .exit) (statuses .exit) (holidays .exit) (readings .exit) («read_versions» .exit)
         (agreed .exit) («agreed_versions» .exit) (counts .exit) (widths .exit)
         ≡ openAfter head book))
         ⌝ }
@@ -63,7 +63,7 @@ pub fn open(
         statuses.len(),
         holidays.len(),
         readings.len(),
-        reads.len(),
+        read_versions.len(),
         agreed.len(),
         agreed_versions.len(),
         counts.len(),
@@ -77,7 +77,7 @@ pub fn open(
     zeros::clear_bytes(statuses);
     zeros::clear_bytes(holidays);
     zeros::clear_words(readings);
-    zeros::clear_words(reads);
+    zeros::clear_words(read_versions);
     zeros::clear_words(agreed);
     zeros::clear_words(agreed_versions);
     zeros::clear_counts(counts);
@@ -165,7 +165,7 @@ pub fn holiday(head: Head, holidays: &mut [u8], day: u32) -> Received
 pub fn register(
     head: Head,
     readings: &mut [u32],
-    reads: &mut [u32],
+    read_versions: &mut [u32],
     widths: &mut [u16],
     boundary: u32,
     version: u32,
@@ -173,19 +173,27 @@ pub fn register(
     width: u32,
 ) -> Received
     ensures { λ r. ⌜
-        (let before = lentReads (readings .entry) (reads .entry) (widths .entry) in
+        (let before = lentReads (readings .entry) («read_versions» .entry) (widths .entry) in
         (receivedMeant r ≡ registerAnswer head before boundary version reading width)
-        × (lentReads (readings .exit) (reads .exit) (widths .exit)
+        × (lentReads (readings .exit) («read_versions» .exit) (widths .exit)
         ≡ registerAfter head before boundary version reading width))
         ⌝ }
 {
     if !opening::head_ok(head) {
         return Received::Refused(1);
     }
-    if !lengths::reads_fit(head, readings.len(), reads.len(), widths.len()) {
+    if !lengths::reads_fit(head, readings.len(), read_versions.len(), widths.len()) {
         return Received::Refused(2);
     }
-    registers::file_register(readings, reads, widths, boundary, version, reading, width)
+    registers::file_register(
+        readings,
+        read_versions,
+        widths,
+        boundary,
+        version,
+        reading,
+        width,
+    )
 }
 
 pub fn agree(

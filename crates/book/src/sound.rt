@@ -60,8 +60,8 @@ fn bad_day(holidays: &[u8]) -> bool
 fn bad_read(readings: &[u32], versions: &[u32], widths: &[u16]) -> bool
     requires { ⌜ (length (now versions) ≡ length (now readings)) × (length (now widths) ≡ length (now readings)) ⌝ }
     ensures { λ r. ⌜
-        (let reads = lentReads (readings .entry) (versions .entry) (widths .entry) in
-        r ≡ any (readFaultAt reads) 0 (length (reads .readings)))
+        (let dial = lentReads (readings .entry) (versions .entry) (widths .entry) in
+        r ≡ any (readFaultAt dial) 0 (length (dial .readings)))
         ⌝ }
 {
     let mut i = 0;
@@ -94,15 +94,16 @@ fn cells_ok(
     statuses: &[u8],
     holidays: &[u8],
     readings: &[u32],
-    reads: &[u32],
+    read_versions: &[u32],
     agreed: &[u32],
     agreed_versions: &[u32],
     widths: &[u16],
 ) -> bool
-    requires { ⌜ cellsFit head (lentCells values versions statuses holidays readings reads agreed «agreed_versions» widths) ≡ true ⌝ }
+    requires { ⌜ cellsFit head (lentCells values versions statuses holidays readings «read_versions» agreed «agreed_versions» widths)
+        ≡ true ⌝ }
     ensures { λ r. ⌜
         r ≡ cellsOk head
-        (lentCells (values .entry) (versions .entry) (statuses .entry) (holidays .entry) (readings .entry) (reads .entry)
+        (lentCells (values .entry) (versions .entry) (statuses .entry) (holidays .entry) (readings .entry) («read_versions» .entry)
         (agreed .entry) («agreed_versions» .entry) (widths .entry))
         ⌝ }
 {
@@ -112,7 +113,7 @@ fn cells_ok(
     if bad_day(holidays) {
         return false;
     }
-    if bad_read(readings, reads, widths) {
+    if bad_read(readings, read_versions, widths) {
         return false;
     }
     !bad_agreed(agreed, agreed_versions)
@@ -158,7 +159,7 @@ pub fn book_ok(
     statuses: &[u8],
     holidays: &[u8],
     readings: &[u32],
-    reads: &[u32],
+    read_versions: &[u32],
     agreed: &[u32],
     agreed_versions: &[u32],
     counts: &[u16],
@@ -166,11 +167,12 @@ pub fn book_ok(
 ) -> bool
     requires { ⌜
         (headOk head ≡ true)
-        × (bookFits head (lentBook values versions statuses holidays readings reads agreed «agreed_versions» counts widths) ≡ true)
+        × (bookFits head (lentBook values versions statuses holidays readings «read_versions» agreed «agreed_versions» counts widths)
+        ≡ true)
         ⌝ }
     ensures { λ r. ⌜
         r ≡ bookOk head
-        (lentBook (values .entry) (versions .entry) (statuses .entry) (holidays .entry) (readings .entry) (reads .entry)
+        (lentBook (values .entry) (versions .entry) (statuses .entry) (holidays .entry) (readings .entry) («read_versions» .entry)
         (agreed .entry) («agreed_versions» .entry) (counts .entry) (widths .entry))
         ⌝ }
 {
@@ -181,7 +183,7 @@ pub fn book_ok(
         statuses,
         holidays,
         readings,
-        reads,
+        read_versions,
         agreed,
         agreed_versions,
         widths,

@@ -55,7 +55,7 @@ day e rest u v = record {
   };
   holidays = 0 ∷ [];
   readings = 0 ∷ 110 ∷ [];
-  reads = 1 ∷ 1 ∷ [];
+  readVersions = 1 ∷ 1 ∷ [];
   agreed = record { values = []; versions = [] };
   widths = u ∷ v ∷ [];
 }
@@ -77,7 +77,7 @@ agreedDay = record {
   };
   holidays = 0 ∷ [];
   readings = 0 ∷ 690 ∷ [];
-  reads = 1 ∷ 1 ∷ [];
+  readVersions = 1 ∷ 1 ∷ [];
   agreed = record { values = 0 ∷ 600 ∷ 700 ∷ []; versions = 0 ∷ 1 ∷ 1 ∷ [] };
   widths = [];
 }

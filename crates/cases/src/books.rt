@@ -130,7 +130,7 @@ fn fill_row(
     statuses: &mut [u8],
     holidays: &mut [u8],
     readings: &mut [u32],
-    reads: &mut [u32],
+    read_versions: &mut [u32],
     agreed: &mut [u32],
     agreed_versions: &mut [u32],
     counts: &mut [u16],
@@ -154,7 +154,7 @@ fn fill_row(
     book::register(
         head,
         readings,
-        reads,
+        read_versions,
         widths,
         row[1],
         row[2],
@@ -163,14 +163,14 @@ fn fill_row(
     );
 }
 
-fn fill(
+fn fill_rows(
     head: Head,
     values: &mut [u32],
     versions: &mut [u32],
     statuses: &mut [u8],
     holidays: &mut [u8],
     readings: &mut [u32],
-    reads: &mut [u32],
+    read_versions: &mut [u32],
     agreed: &mut [u32],
     agreed_versions: &mut [u32],
     counts: &mut [u16],
@@ -187,7 +187,7 @@ fn fill(
             statuses,
             holidays,
             readings,
-            reads,
+            read_versions,
             agreed,
             agreed_versions,
             counts,
@@ -205,7 +205,7 @@ fn fill_and_publish(
     statuses: &mut [u8],
     holidays: &mut [u8],
     readings: &mut [u32],
-    reads: &mut [u32],
+    read_versions: &mut [u32],
     agreed: &mut [u32],
     agreed_versions: &mut [u32],
     counts: &mut [u16],
@@ -213,14 +213,14 @@ fn fill_and_publish(
     rows: &[[u32; 5]],
     file: &mut [u8],
 ) -> Published {
-    fill(
+    fill_rows(
         head,
         values,
         versions,
         statuses,
         holidays,
         readings,
-        reads,
+        read_versions,
         agreed,
         agreed_versions,
         counts,
@@ -234,7 +234,7 @@ fn fill_and_publish(
         statuses,
         holidays,
         readings,
-        reads,
+        read_versions,
         agreed,
         agreed_versions,
         counts,
@@ -251,7 +251,7 @@ fn publish_lent(
     statuses: &mut [u8],
     holidays: &mut [u8],
     readings: &mut [u32],
-    reads: &mut [u32],
+    read_versions: &mut [u32],
     agreed: &mut [u32],
     agreed_versions: &mut [u32],
     counts: &mut [u16],
@@ -266,7 +266,7 @@ fn publish_lent(
         statuses,
         holidays,
         readings,
-        reads,
+        read_versions,
         agreed,
         agreed_versions,
         counts,
@@ -282,7 +282,7 @@ fn publish_lent(
         statuses,
         holidays,
         readings,
-        reads,
+        read_versions,
         agreed,
         agreed_versions,
         counts,
@@ -299,7 +299,7 @@ pub fn publish_rows(head: Head, rows: &[[u32; 5]], file: &mut [u8]) -> Published
     let mut statuses = [0u8; 17808];
     let mut holidays = [0u8; 371];
     let mut readings = [0u32; 372];
-    let mut reads = [0u32; 372];
+    let mut read_versions = [0u32; 372];
     let mut agreed = [0u32; 17808];
     let mut agreed_versions = [0u32; 17808];
     let mut counts = [0u16; 371];
@@ -313,7 +313,7 @@ pub fn publish_rows(head: Head, rows: &[[u32; 5]], file: &mut [u8]) -> Published
         &mut statuses[..n],
         &mut holidays[..d],
         &mut readings[..d + 1],
-        &mut reads[..d + 1],
+        &mut read_versions[..d + 1],
         &mut agreed[..n],
         &mut agreed_versions[..n],
         &mut counts[..d],

@@ -17,7 +17,7 @@ use Rattle.book.specs.Arguments.{Call, argumentRules}
 use Rattle.book.specs.Arguments.Call.{delivery}
 use Rattle.book.specs.Cells.{allLong, slotsFit, daysFit, readsFit, agreedFits, cellsFit, countsFit, bookFits}
 use Rattle.book.specs.Opening.{opened, openAnswer}
-use Rattle.book.specs.Plain.{deliveries, keptReads, highest, contentWith, againstKept, plainAnswer, keep, keptOf, bookOf}
+use Rattle.book.specs.Plain.{deliveries, keptReads, highestVersion, contentWith, againstKept, plainAnswer, keep, keptOf, bookOf}
 use Rattle.claim.specs.Claim.{plainOf, ConflictMatters}
 use Rattle.claim.proofs.WholeLists.{claim}
 
@@ -47,7 +47,7 @@ turned a b x (List·Memᴰ·tail (List·Memᴰ·tail m)) = absurd (List·Memᴰ�
 published-first : (outcomeAt day (plainOf day (five ∷ six ∷ [])) 0 .value ≡ 5)
     × (outcomeAt day (plainOf day (six ∷ five ∷ [])) 0 .value ≡ 6)
 unfolding outcomeAt between lastRead nextRead isRead filledAt goodAt causeAt causeOf isGap timeChangeBit partialBit upTo bookOf keptOf keep
-    plainAnswer againstKept deliveries keptReads highest contentWith argumentRules byVersion headOk intervalOk firstDay slotsPerDay
+    plainAnswer againstKept deliveries keptReads highestVersion contentWith argumentRules byVersion headOk intervalOk firstDay slotsPerDay
     slotCount leap monthLengths monthLength yearLength daysBeforeMonth daysBeforeYear dayNumber isDate sum
 published-first = (refl, refl)
 

@@ -1,4 +1,4 @@
 pub mod Last
-pub mod Accepted
+pub mod AcceptedCall
 pub mod WholeLists
 pub mod Conflict

@@ -19,7 +19,7 @@ use Rattle.rules.specs.declared.Head.{Head}
 use Rattle.rules.specs.declared.Outcome.{Outcome}
 use Rattle.rules.specs.declared.Span.{Span}
 use Rattle.rules.specs.Opening.{Cells, dayTests, headTests, headOk, firstDay, slotsPerDay, slotCount}
-use Rattle.rules.specs.Spans.{outcomeAt, noSpan, outcomes, spans}
+use Rattle.rules.specs.Spans.{outcomeAt, noOutcome, noSpan, outcomes, spans}
 use Rattle.book.specs.Arguments.{Call}
 use Rattle.book.specs.Answers.{Answer}
 use Rattle.book.specs.Answers.Answer.{done, refused}
@@ -32,7 +32,6 @@ use Rattle.book.proofs.Order.{order-does-not-matter}
 use Rattle.book.proofs.AnyOrder.{any-order}
 use Rattle.book.proofs.Soundness.{book-sound}
 use Rattle.publishing.specs.declared.Published.the-variants.{Length, Refused}
-use Rattle.file.specs.Contents.{noSlot}
 use Rattle.file.specs.Layout.{Content, fileOf}
 use Rattle.publishing.specs.Publishing.{published, fileLength, bytesAfter, publishAnswer, publishAfter}
 use Rattle.publishing.specs.Inner.Publishing.{Sound}
@@ -40,8 +39,8 @@ use Rattle.file.proofs.Content.{length-file}
 use Rattle.publishing.proofs.Files.{files-equal}
 use Rattle.publishing.proofs.EveryFile.{sound-book}
 use Rattle.claim.proofs.Last.{answer-last}
-use Rattle.claim.proofs.Accepted.{kept-of, accepted-of}
-use Rattle.claim.specs.Claim.{leftBy, plainOf, plainFile, SameOutcomes, Accepted, NoConflict, SameCalls, Claim, WholeLists}
+use Rattle.claim.proofs.AcceptedCall.{kept-of, accepted-of}
+use Rattle.claim.specs.Claim.{leftBy, plainOf, plainFile, SameOutcomes, AcceptedCall, NoConflict, SameCalls, Claim, WholeLists}
 
 -- the file's length as publishing computes it
 long : (h : Head) (b : Cells) → fileLength h b ≡ length (fileOf (published h b))
@@ -75,9 +74,9 @@ unfolding firstDay
 same-date h g y m d = rw (y, m, d)
 
 module _ (h g : Head) (b c : Cells) where
-  slot-of : (k : Head) (x : Cells) (i : ℕ) → i < slotCount k → getD (outcomes k x) i noSlot ≡ outcomeAt k x i
+  slot-of : (k : Head) (x : Cells) (i : ℕ) → i < slotCount k → getD (outcomes k x) i noOutcome ≡ outcomeAt k x i
   unfolding outcomes
-  slot-of k x i l = rw zero-add at (getD-upTo (outcomeAt k x) noSlot 0 (slotCount k) i l)
+  slot-of k x i l = rw zero-add at (getD-upTo (outcomeAt k x) noOutcome 0 (slotCount k) i l)
 
   same-slots : slotCount h ≡ slotCount g → ((i : ℕ) → i < slotCount h → outcomeAt h b i ≡ outcomeAt g c i) → outcomes h b ≡ outcomes g c
   unfolding outcomes
@@ -115,7 +114,7 @@ module _ (h g : Head) (b c : Cells) where
         day = date .2;
         days = days;
         interval = interval;
-        slots = λ i l. sym (slot-of h b i l) ∙ ap (λ (os : List Outcome). getD os i noSlot) slots ∙ slot-of g c i (omega arith);
+        slots = λ i l. sym (slot-of h b i l) ∙ ap (λ (os : List Outcome). getD os i noOutcome) slots ∙ slot-of g c i (omega arith);
         spanCount = ap length all;
         eachSpan = λ j l. ap (λ (ss : List Span). getD ss j noSpan) all;
       }
@@ -144,7 +143,8 @@ module _ (h g : Head) (b c : Book) (cs ds : List Call) (p : openAnswer h b ≡ d
   plain k x es e = rw (opens k x e .1) (answers-agree k es)
 
   -- 4
-  one-set : h ≡ g → ((x : Call) → Accepted h (openAfter h b) cs x ↔ Accepted g (openAfter g c) ds x) → plainFile h cs ≡ plainFile g ds
+  one-set : h ≡ g → ((x : Call) → AcceptedCall h (openAfter h b) cs x ↔ AcceptedCall g (openAfter g c) ds x) → plainFile h cs ≡ plainFile g
+      ds
   one-set one same =
       let ours = kept-of h (openAfter h b) cs (plain h b cs p) in
       let theirs = accepted-of g (openAfter g c) ds (plain g c ds q) in

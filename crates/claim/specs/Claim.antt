@@ -43,7 +43,7 @@ pub record SameOutcomes (h g : Head) (b c : Cells) : Type 0 where
   pub eachSpan : (j : ℕ) → j < length (spans h b) → getD (spans h b) j noSpan ≡ getD (spans g c) j noSpan
 
 -- "Stored, late and repeat are the accepted calls": x stands in the list at a place that answered one of these, from the lists b on
-pub record Accepted (h : Head) (b : Book) (cs : List Call) (x : Call) : Type 0 where
+pub record AcceptedCall (h : Head) (b : Book) (cs : List Call) (x : Call) : Type 0 where
   pub place : ℕ
   pub inside : place < length cs
   pub call : getD cs place x ≡ x
@@ -71,7 +71,7 @@ pub record Claim (h g : Head) (b c : Book) (cs ds : List Call) : Type 0 where
   -- 3. two files are equal exactly when first day, days, interval, all outcomes and all spans are, also under two heads
   pub equal-exactly : (plainFile h cs ≡ plainFile g ds) ↔ SameOutcomes h g (plainOf h cs) (plainOf g ds)
   -- 4. under one head equal accepted calls give equal files, in whatever order and however often
-  pub order-free : h ≡ g → ((x : Call) → Accepted h (openAfter h b) cs x ↔ Accepted g (openAfter g c) ds x)
+  pub order-free : h ≡ g → ((x : Call) → AcceptedCall h (openAfter h b) cs x ↔ AcceptedCall g (openAfter g c) ds x)
       → plainFile h cs ≡ plainFile g ds
   -- 5. under one head, where no call of one list is answered 10, every list with the same calls gives the same file
   pub any-order : h ≡ g → NoConflict h (openAfter h b) cs → SameCalls cs ds → plainFile h cs ≡ plainFile g ds

@@ -1,2 +1,2 @@
-pub mod Forms
+pub mod PackedForm
 pub mod ThereAndBack

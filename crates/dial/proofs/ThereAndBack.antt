@@ -12,7 +12,7 @@ use Rattle.base.specs.declared.Performed.the-variants as performed
 use Rattle.dial.specs.declared.Unpacked.the-variants as unpacked
 use Rattle.dial.specs.Dial.{form, aboveNine, readingOf, packRules, packAnswer, bytesAfter, packAfter, unpackRules, unpackAnswer}
 use Rattle.dial.specs.Claim.{OneForm, AcceptsExactly, PackedThenUnpacked, UnpackedThenPacked}
-use Rattle.dial.proofs.Forms.{form-packed, packed-digits, reading-packed, reading-low, packed-reading}
+use Rattle.dial.proofs.PackedForm.{form-packed, packed-digits, reading-packed, reading-low, packed-reading}
 
 -- the form of a reading is read as that reading
 form-read : (reading : ℕ) → reading ≤ 99_999_999 → unpackAnswer (form reading) ≡ unpacked.Reading reading

@@ -8,11 +8,11 @@ use lib.ListN.{getD}
 use Rattle.base.proofs.Lists.{getD-upTo}
 use Rattle.rules.specs.declared.Head.{Head}
 use Rattle.rules.specs.Opening.{Cells, headOk, slotCount}
-use Rattle.rules.specs.Spans.{outcomeAt, outcomes}
+use Rattle.rules.specs.Spans.{outcomeAt, noOutcome, outcomes}
 use Rattle.book.specs.Cells.{Book, bookFits, bookOk}
 use Rattle.publishing.specs.Publishing.{published}
 use Rattle.explain.specs.declared.Explanation.{Explanation}
-use Rattle.explain.specs.Explain.{explanationOf, noOutcome, explainRefusal, explainAnswer}
+use Rattle.explain.specs.Explain.{explanationOf, explainRefusal, explainAnswer}
 use Rattle.explain.specs.Inner.Telling.{refusedBy}
 
 module _ (h : Head) (b : Book) (slot : ℕ) where

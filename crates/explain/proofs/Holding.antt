@@ -19,7 +19,7 @@ use Rattle.rules.specs.Inner.Summaries.{summaryOf, scalingOf}
 use Rattle.rules.specs.Inner.Stretches.{scalingAt, spanStretch, stretchOf, stretchOn, stretchAt}
 use Rattle.rules.proofs.Bounds.{Bounded}
 use Rattle.rules.proofs.Boundaries.{last-tells, next-tells}
-use Rattle.rules.proofs.Meeting.{compared-advance, summary, weights, compared-is}
+use Rattle.rules.proofs.SpanSums.{compared-advance, summary, weights, compared-is}
 use Rattle.explain.specs.declared.Spanned.{Spanned}
 use Rattle.explain.specs.Explain.{noneSpanned, spannedBy, earlier, later}
 use Rattle.explain.specs.Inner.Holding.{unscaled, scalingWith, spannedWith, Between}
@@ -126,21 +126,22 @@ module _ (h : Head) (b : Cells) (i : ℕ) where
   abbrev d : ℕ
   d = i / slotsPerDay h
 
-  pub outside-first : lastRead (b .reads) d ≡ none
+  pub outside-first : lastRead (b .readVersions) d ≡ none
       → (noneSpanned ≡ spannedBy h b (earlier b d) (later h b d)) × (unscaled ≡ stretchAt h b i .by)
   unfolding spannedBy stretchAt stretchOn stretchOf
-  outside-first e = rw e (refl, go (nextRead (b .reads) (d + 1) (h .days - d)))
+  outside-first e = rw e (refl, go (nextRead (b .readVersions) (d + 1) (h .days - d)))
     where
       go : (l : Option ℕ) → unscaled ≡ stretchOf h b none l i .by
       go (some last) = refl
       go none = refl
 
-  pub outside-last : (first : ℕ) → lastRead (b .reads) d ≡ some first → nextRead (b .reads) (d + 1) (h .days - d) ≡ none
+  pub outside-last : (first : ℕ) → lastRead (b .readVersions) d ≡ some first → nextRead (b .readVersions) (d + 1) (h .days - d) ≡ none
       → (noneSpanned ≡ spannedBy h b (earlier b d) (later h b d)) × (unscaled ≡ stretchAt h b i .by)
   unfolding spannedBy stretchAt stretchOn stretchOf
   outside-last first e f = rw (e, f) (refl, refl)
 
-  pub inside-both : (first last : ℕ) → lastRead (b .reads) d ≡ some first → nextRead (b .reads) (d + 1) (h .days - d) ≡ some last
+  pub inside-both : (first last : ℕ) → lastRead (b .readVersions) d ≡ some first → nextRead (b .readVersions) (d + 1) (h .days - d) ≡ some
+      last
       → (spannedBy h b (some first) (some last) ≡ spannedBy h b (earlier b d) (later h b d))
       × (spanStretch h b first last i ≡ stretchAt h b i)
   unfolding stretchAt stretchOn stretchOf

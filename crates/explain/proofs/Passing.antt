@@ -11,7 +11,7 @@ use lib.Dec.{ltb}
 use Rattle.base.proofs.Logic.{either}
 use Rattle.rules.specs.declared.Head.{Head}
 use Rattle.rules.specs.declared.walk.Walk.{Walk}
-use Rattle.rules.specs.declared.linear.Line.{Line}
+use Rattle.rules.specs.declared.linear.StraightLine.{StraightLine}
 use Rattle.rules.specs.Opening.{Slots, slotCount}
 use Rattle.rules.specs.Tests.{goodAt}
 use Rattle.rules.specs.Inner.Walks.{zeroAt, zeroBefore, bareLine, lineAt, lineBefore, walkAt}
@@ -49,7 +49,8 @@ module _ (h : Head) (s : Slots) where
     unfolding lineBefore
     line-next k = rw add-one
 
-  pub walk-are : (v : List ℕ) (i : ℕ) (outage : Bool) (line : Line) → outage ≡ zeroBefore (s .versions) (s .statuses) (slotCount h) i
+  pub walk-are : (v : List ℕ) (i : ℕ) (outage : Bool) (line : StraightLine) → outage ≡ zeroBefore (s .versions) (s .statuses) (slotCount h)
+      i
       → line ≡ lineBefore h s v i
       → record { at = i; outage = outage; line = line } ≡ walkAt h s v i
   unfolding walkAt

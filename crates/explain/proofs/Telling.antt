@@ -22,7 +22,7 @@ use Rattle.rules.specs.Spans.{isS, lastRead, nextRead, filled, shape, start, sl
 use Rattle.rules.specs.Inner.Lent.{WidthsLow}
 use Rattle.rules.specs.Inner.Walks.{lineAt, lineThrough, walkAt}
 use Rattle.rules.specs.Inner.Summaries.{scaledBy}
-use Rattle.rules.specs.Inner.Stretches.{spanStretch, stretchOf, stretchOn, stretchAt, fitOutcome, fitNext, Scalable, beginsAt}
+use Rattle.rules.specs.Inner.Stretches.{spanStretch, stretchOf, stretchOn, stretchAt, fitOutcome, fitNext, Scalable}
 use Rattle.rules.proofs.Bounds.{Bounded}
 use Rattle.rules.proofs.Lines.{walk-line}
 use Rattle.rules.proofs.Places.{span-end}
@@ -120,12 +120,12 @@ module _ (h : Head) (w : Bounded h) (b : Cells) (i : ℕ) where
 
   pub shares-are : told (stretchAt h b i .by) ≡ sharesBy h b (earlier b d) (later h b d) i
   unfolding stretchAt stretchOn stretchOf sharesBy start
-  shares-are = go (lastRead (b .reads) d) (nextRead (b .reads) (d + 1) (h .days - d)) refl refl
+  shares-are = go (lastRead (b .readVersions) d) (nextRead (b .readVersions) (d + 1) (h .days - d)) refl refl
     where
-      go : (f l : Option ℕ) → lastRead (b .reads) d ≡ f → nextRead (b .reads) (d + 1) (h .days - d) ≡ l
+      go : (f l : Option ℕ) → lastRead (b .readVersions) d ≡ f → nextRead (b .readVersions) (d + 1) (h .days - d) ≡ l
           → told (stretchOf h b f l i .by) ≡ sharesBy h b f l i
       go (some first) (some last) p q =
-          let t = between-read h w (b .reads) i first last p q in
+          let t = between-read h w (b .readVersions) i first last p q in
           shares-span first last (t .from) (rw (span-end h b first last (omega (arith, t .ordered))) (t .to))
       go (some first) none p q = shares-none _ refl
       go none (some last) p q = shares-none _ refl

@@ -8,14 +8,12 @@ use lib.ListN.{getD, length}
 use Rattle.base.specs.Refusals.{firstBroken}
 use Rattle.base.specs.Refusals.Rule.{rule}
 use Rattle.rules.specs.declared.Head.{Head}
-use Rattle.rules.specs.declared.Outcome.{Outcome}
-use Rattle.rules.specs.declared.Quality.the-variants.{N}
-use Rattle.rules.specs.declared.linear.Line.{Line}
+use Rattle.rules.specs.declared.linear.StraightLine.{StraightLine}
 use Rattle.rules.specs.declared.tests.Cause.the-variants as cause
 use Rattle.rules.specs.Opening.{Slots, Agreed, Cells, headOk, slotsPerDay, slotCount}
 use Rattle.rules.specs.Tests.{causeAt, goodAt}
 use Rattle.rules.specs.Filling.{isOutageZero, isAgreed, runBefore, runStart, runLength, isLinear, references, filledAt}
-use Rattle.rules.specs.Spans.{isS, lastRead, nextRead, range, actualSum, R, stateOf, T, E, P, C, outcomeAt}
+use Rattle.rules.specs.Spans.{isS, lastRead, nextRead, range, actualSum, R, stateOf, T, E, P, C, outcomeAt, noOutcome}
 use Rattle.book.specs.Cells.{Book, bookFits, bookOk}
 use Rattle.explain.specs.declared.Rule.{Rule}
 use Rattle.explain.specs.declared.Rule.the-variants.{Delivered, Agreed as Settled, OutageZero, Linear, SameDay, Nothing}
@@ -52,10 +50,10 @@ isSameDay SameDay = true
 isSameDay Nothing = false
 
 -- for a line l, r, j and g (02, W2)
-abbrev pub noLine : Line
+abbrev pub noLine : StraightLine
 noLine = record { place = 0; length = 0; left = 0; right = 0 }
 
-unfoldable pub lineOf : Rule → Head → Slots → List ℕ → ℕ → Line
+unfoldable pub lineOf : Rule → Head → Slots → List ℕ → ℕ → StraightLine
 lineOf applied h s agreed i =
     cond (isLine applied)
     (record {
@@ -112,10 +110,10 @@ sharesBy h b none last i = noShares
 
 -- the boundaries with a reading between which a day lies, if there are such
 abbrev pub earlier : Cells → ℕ → Option ℕ
-earlier b d = lastRead (b .reads) d
+earlier b d = lastRead (b .readVersions) d
 
 abbrev pub later : Head → Cells → ℕ → Option ℕ
-later h b d = nextRead (b .reads) (d + 1) (h .days - d)
+later h b d = nextRead (b .readVersions) (d + 1) (h .days - d)
 
 -- slot i: its cause, the rule that applied, the outcome before scaling, and so on up to its outcome
 unfoldable pub explanationOf : Head → Cells → ℕ → Explanation
@@ -134,9 +132,6 @@ explanationOf h b i =
     }
 
 -- of a refused call: no cause, no rule, values 0, quality N
-abbrev pub noOutcome : Outcome
-noOutcome = record { value = 0; quality = N; method = 0 }
-
 abbrev pub nothingTold : Explanation
 nothingTold = record {
   cause = cause.Nothing;

@@ -100,7 +100,7 @@ pub fn fill_slot(
         ⌝ }
 {
     let here = fills_before(head, values, versions, statuses, agreed_versions, at);
-    walk::fill(
+    walk::fill_at(
         head,
         values,
         versions,

@@ -30,18 +30,18 @@ pub struct Held {
 }
 
 // The last boundary up to `day` that has a reading.
-fn last_read(reads: &[u32], day: usize) -> Next
-    requires { ⌜ day < length (now reads) ⌝ }
-    ensures { λ r. ⌜ nextMeant r ≡ lastRead (now (reads .entry)) day ⌝ }
+fn last_read(read_versions: &[u32], day: usize) -> Next
+    requires { ⌜ day < length (now «read_versions») ⌝ }
+    ensures { λ r. ⌜ nextMeant r ≡ lastRead (now («read_versions» .entry)) day ⌝ }
 {
     let mut d = day;
     while 0 < d {
-        if reads[d] != 0 {
+        if read_versions[d] != 0 {
             return Next::At(d);
         }
         d -= 1;
     }
-    if reads[0] != 0 {
+    if read_versions[0] != 0 {
         return Next::At(0);
     }
     Next::Nowhere
@@ -238,18 +238,18 @@ pub fn hold(
     statuses: &[u8],
     holidays: &[u8],
     readings: &[u32],
-    reads: &[u32],
+    read_versions: &[u32],
     agreed: &[u32],
     agreed_versions: &[u32],
     widths: &[u16],
     slot: usize,
 ) -> Held
     requires { ⌜
-        Whole head (lentCells values versions statuses holidays readings reads agreed «agreed_versions» widths)
+        Whole head (lentCells values versions statuses holidays readings «read_versions» agreed «agreed_versions» widths)
         × (slot < slotCount head)
         ⌝ }
     ensures { λ r. ⌜
-        (let b = lentCells (values .entry) (versions .entry) (statuses .entry) (holidays .entry) (readings .entry) (reads .entry)
+        (let b = lentCells (values .entry) (versions .entry) (statuses .entry) (holidays .entry) (readings .entry) («read_versions» .entry)
         (agreed .entry) («agreed_versions» .entry) (widths .entry) in
         let d = slot / slotsPerDay head in
         (r .span ≡ spannedBy head b (earlier b d) (later head b d))
@@ -257,10 +257,10 @@ pub fn hold(
         ⌝ }
 {
     let day = slot / opening::slots_per_day(head);
-    let Next::At(first) = last_read(reads, day) else {
+    let Next::At(first) = last_read(read_versions, day) else {
         return outside();
     };
-    let Next::At(last) = readings::next_read(reads, day + 1) else {
+    let Next::At(last) = readings::next_read(read_versions, day + 1) else {
         return outside();
     };
     between(

@@ -10,7 +10,7 @@ use rules::Outcome;
 use rules::Quality;
 use rules::filling::References;
 use rules::linear;
-use rules::linear::Line;
+use rules::linear::StraightLine;
 use rules::opening;
 use rules::tests;
 use rules::tests::Cause;
@@ -18,11 +18,12 @@ ghost use mathlib.Core.Bool.{true};
 ghost use mathlib.Core.Path.{_≡_};
 ghost use Prim.Native.Nat.{_<_};
 ghost use Rattle.rules.specs.Opening.{headOk, slotCount};
+ghost use Rattle.rules.specs.Spans.{noOutcome};
 ghost use Rattle.rules.specs.Lent.{lentCells};
 ghost use Rattle.rules.specs.Inner.Lent.{Whole};
 ghost use Rattle.book.specs.Cells.{bookFits};
 ghost use Rattle.book.specs.Lent.{lentBook};
-ghost use Rattle.explain.specs.Explain.{explanationOf, noOutcome, explainAnswer};
+ghost use Rattle.explain.specs.Explain.{explanationOf, explainAnswer};
 ghost use Rattle.explain.specs.Inner.Telling.{refusedBy};
 
 // The rule that applied: a good slot is delivered; the others stand in the order in which they are tried.
@@ -61,7 +62,7 @@ pub struct Explanation {
     pub cause: Cause,
     pub rule: Rule,
     pub filled: Outcome,
-    pub line: Line,
+    pub line: StraightLine,
     pub found: References,
     pub span: Spanned,
     pub shares: Shares,
@@ -82,18 +83,18 @@ fn tell(
     statuses: &[u8],
     holidays: &[u8],
     readings: &[u32],
-    reads: &[u32],
+    read_versions: &[u32],
     agreed: &[u32],
     agreed_versions: &[u32],
     widths: &[u16],
     slot: usize,
 ) -> Explanation
     requires { ⌜
-        Whole head (lentCells values versions statuses holidays readings reads agreed «agreed_versions» widths)
+        Whole head (lentCells values versions statuses holidays readings «read_versions» agreed «agreed_versions» widths)
         × (slot < slotCount head)
         ⌝ }
     ensures { λ r. ⌜
-        (let b = lentCells (values .entry) (versions .entry) (statuses .entry) (holidays .entry) (readings .entry) (reads .entry)
+        (let b = lentCells (values .entry) (versions .entry) (statuses .entry) (holidays .entry) (readings .entry) («read_versions» .entry)
         (agreed .entry) («agreed_versions» .entry) (widths .entry) in
         r ≡ explanationOf head b slot)
         ⌝ }
@@ -132,7 +133,7 @@ fn tell(
         statuses,
         holidays,
         readings,
-        reads,
+        read_versions,
         agreed,
         agreed_versions,
         widths,
@@ -179,7 +180,7 @@ fn explain_fitted(
     statuses: &[u8],
     holidays: &[u8],
     readings: &[u32],
-    reads: &[u32],
+    read_versions: &[u32],
     agreed: &[u32],
     agreed_versions: &[u32],
     counts: &[u16],
@@ -187,12 +188,12 @@ fn explain_fitted(
     slot: usize,
 ) -> Explained
     requires { ⌜
-        (let book = lentBook values versions statuses holidays readings reads agreed «agreed_versions» counts widths in
+        (let book = lentBook values versions statuses holidays readings «read_versions» agreed «agreed_versions» counts widths in
         (headOk head ≡ true) × (bookFits head book ≡ true) × (slot < slotCount head))
         ⌝ }
     ensures { λ r. ⌜
-        (let book = lentBook (values .entry) (versions .entry) (statuses .entry) (holidays .entry) (readings .entry) (reads .entry)
-        (agreed .entry) («agreed_versions» .entry) (counts .entry) (widths .entry) in
+        (let book = lentBook (values .entry) (versions .entry) (statuses .entry) (holidays .entry) (readings .entry)
+        («read_versions» .entry) (agreed .entry) («agreed_versions» .entry) (counts .entry) (widths .entry) in
         r ≡ explainAnswer head book slot)
         ⌝ }
 {
@@ -203,7 +204,7 @@ fn explain_fitted(
         statuses,
         holidays,
         readings,
-        reads,
+        read_versions,
         agreed,
         agreed_versions,
         counts,
@@ -220,7 +221,7 @@ fn explain_fitted(
             statuses,
             holidays,
             readings,
-            reads,
+            read_versions,
             agreed,
             agreed_versions,
             widths,
@@ -237,7 +238,7 @@ pub fn explain(
     statuses: &[u8],
     holidays: &[u8],
     readings: &[u32],
-    reads: &[u32],
+    read_versions: &[u32],
     agreed: &[u32],
     agreed_versions: &[u32],
     counts: &[u16],
@@ -245,8 +246,8 @@ pub fn explain(
     slot: u32,
 ) -> Explained
     ensures { λ r. ⌜
-        (let book = lentBook (values .entry) (versions .entry) (statuses .entry) (holidays .entry) (readings .entry) (reads .entry)
-        (agreed .entry) («agreed_versions» .entry) (counts .entry) (widths .entry) in
+        (let book = lentBook (values .entry) (versions .entry) (statuses .entry) (holidays .entry) (readings .entry)
+        («read_versions» .entry) (agreed .entry) («agreed_versions» .entry) (counts .entry) (widths .entry) in
         r ≡ explainAnswer head book slot)
         ⌝ }
 {
@@ -260,7 +261,7 @@ pub fn explain(
         statuses,
         holidays,
         readings,
-        reads,
+        read_versions,
         agreed,
         agreed_versions,
         counts,
@@ -278,7 +279,7 @@ pub fn explain(
         statuses,
         holidays,
         readings,
-        reads,
+        read_versions,
         agreed,
         agreed_versions,
         counts,

@@ -9,7 +9,7 @@ use rules::Quality;
 use rules::filling;
 use rules::filling::References;
 use rules::linear;
-use rules::linear::Line;
+use rules::linear::StraightLine;
 use rules::spans;
 use rules::spans::Scaling;
 use rules::stretch;
@@ -76,7 +76,7 @@ fn is_line(rule: Rule) -> bool
 }
 
 // The line, where the rule is linear.
-fn line_by(rule: Rule, line: Line) -> Line
+fn line_by(rule: Rule, line: StraightLine) -> StraightLine
     ensures { λ r. ⌜ r ≡ cond (isLine rule) line noLine ⌝ }
 {
     if !is_line(rule) {

@@ -15,12 +15,12 @@ use Rattle.base.proofs.Sums.{sum-cong}
 use Rattle.rules.specs.declared.Outcome.{Outcome}
 use Rattle.rules.specs.declared.Quality.{Quality}
 use Rattle.rules.specs.declared.Quality.the-variants.{A, S, F, N}
-use Rattle.rules.specs.Spans.{isA, isS, isF, isN}
+use Rattle.rules.specs.Spans.{isA, isS, isF, isN, noOutcome}
 use Rattle.file.specs.declared.Verdict.the-variants.{Accepted}
 use Rattle.file.specs.Layout.{Content, letter, total, one, row, ranged, spanWidth, trailerRow, figuresOf, tablesOf, fileOf}
 use Rattle.file.specs.Reader.{figures, fileSlots, layoutFits, countOf, tablesAt, trailerOk, tablesOk, figuresOk, readFile, partOf}
 use Rattle.file.specs.Reader.{tablesPart}
-use Rattle.file.specs.Contents.{WellFormed, slot, noSlot, recordsOf}
+use Rattle.file.specs.Contents.{WellFormed, slot, recordsOf}
 use Rattle.file.proofs.Rows.{length-row}
 use Rattle.file.proofs.Lists.{total-sum, total-le}
 use Rattle.file.proofs.Head.{slots-le}
@@ -34,7 +34,7 @@ use Rattle.file.proofs.Answers.{accepted-with}
 -- a figure of a content, as a sum over its slots
 total-slots : (f : Content) (g : Outcome → ℕ) → total g (f .slots) ≡ sum (λ i. g (slot f i)) 0 (length (f .slots))
 total-slots f g =
-    ap (total g) (sym (upTo-list (f .slots) noSlot (slot f) 0 (λ i l. ap (slot f) (zero-add i))))
+    ap (total g) (sym (upTo-list (f .slots) noOutcome (slot f) 0 (λ i l. ap (slot f) (zero-add i))))
     ∙ total-sum g (slot f) 0 (length (f .slots))
 
 -- a quality's test, and that of its letter
@@ -72,7 +72,7 @@ module _ (f : Content) (w : WellFormed f) where
   few = rw (w .slots) (slots-le (f .first) (f .days) (f .interval) (w .head))
 
   count-le : (p : Quality → Bool) → total (one p) (f .slots) ≤ 115_200
-  count-le p = omega (arith, few, total-le (one p) 1 noSlot (f .slots) (λ i l. bit-le (p (slot f i .quality))))
+  count-le p = omega (arith, few, total-le (one p) 1 noOutcome (f .slots) (λ i l. bit-le (p (slot f i .quality))))
 
   count-lt : (p : Quality → Bool) → total (one p) (f .slots) < 256 ^ 4
   count-lt p = omega (arith, count-le p)
@@ -81,7 +81,7 @@ module _ (f : Content) (w : WellFormed f) where
   filled-lt = omega (arith, count-le isS, count-le isF)
 
   sum-lt : total (λ o. o .value) (f .slots) < 256 ^ 8
-  sum-lt = omega (arith, few, total-le (λ o. o .value) (2 ^ 32) noSlot (f .slots) (λ i l. omega (arith, w .values i l)))
+  sum-lt = omega (arith, few, total-le (λ o. o .value) (2 ^ 32) noOutcome (f .slots) (λ i l. omega (arith, w .values i l)))
 
   figures-back : figures (fileOf f) ≡ figuresOf f
   unfolding figures figuresOf

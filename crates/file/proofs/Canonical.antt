@@ -14,7 +14,7 @@ use Rattle.base.proofs.Logic.{passed}
 use Rattle.base.proofs.Sums.{all-at}
 use Rattle.rules.specs.declared.Quality.{Quality}
 use Rattle.rules.specs.declared.Quality.the-variants.{A, S, F, N}
-use Rattle.rules.specs.Spans.{isA, isS, isF, isN, noSpan}
+use Rattle.rules.specs.Spans.{isA, isS, isF, isN, noOutcome, noSpan}
 use Rattle.file.specs.declared.Figures.{Figures}
 use Rattle.file.specs.declared.slots.SlotRecord.{SlotRecord}
 use Rattle.file.specs.declared.Verdict.{Verdict}
@@ -24,7 +24,7 @@ use Rattle.file.specs.Layout.{spanTableBytes, trailerWidths, trailerRow,
 use Rattle.file.specs.Reader.{fieldAt, slotAt, spanAt, trailerAt, trailerField, figures, layoutFits, fileSlots, tablesAt, countOf}
 use Rattle.file.specs.Reader.{trailerTests, tableTests, figureTests, spanTests, spanOk, trailerOk, tablesOk, figuresOk, readFile}
 use Rattle.file.specs.Reader.{partOf, tablesPart}
-use Rattle.file.specs.Contents.{Bytes, WellFormed, slot, span, noSlot, slotRecord, spanRecord, recordsOf, outcomeOf, spanOfRecord}
+use Rattle.file.specs.Contents.{Bytes, WellFormed, slot, span, slotRecord, spanRecord, recordsOf, outcomeOf, spanOfRecord}
 use Rattle.file.specs.Contents.{contentOf}
 use Rattle.file.specs.Claim.{Exactly, Canonical}
 use Rattle.file.proofs.Offsets.{value-lt}
@@ -83,7 +83,7 @@ module _ (bs : List ℕ) (b : Bytes bs) (p : Passed bs (figures bs)) where
 
   slot-is : (i : ℕ) → i < n → slot f i ≡ outcomeOf (slotAt bs i)
   unfolding contentOf
-  slot-is i l = getD-upTo _ noSlot 0 n i l ∙ ap (λ (x : ℕ). outcomeOf (slotAt bs x)) (zero-add i)
+  slot-is i l = getD-upTo _ noOutcome 0 n i l ∙ ap (λ (x : ℕ). outcomeOf (slotAt bs x)) (zero-add i)
 
   span-is : (j : ℕ) → j < m → span f j ≡ spanOfRecord (spanAt r bs (6 * n) j)
   unfolding contentOf

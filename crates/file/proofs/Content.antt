@@ -9,10 +9,10 @@ use lib.Dec.{lit<}
 use lib.ListN.{length, length-append}
 use Rattle.base.specs.Lists.{upTo}
 use Rattle.base.proofs.Lists.{upTo-list}
-use Rattle.rules.specs.Spans.{noSpan}
+use Rattle.rules.specs.Spans.{noOutcome, noSpan}
 use Rattle.file.specs.Layout.{Content, row, table, slotRow, ranged, spanRow, spanWidth, trailerRow, figuresOf, tablesOf, fileOf}
 use Rattle.file.specs.Reader.{num, slotAt, spanAt, trailerAt, trailerField, figures, distance, fileSlots}
-use Rattle.file.specs.Contents.{Bytes, slot, span, noSlot, slotRecord, spanRecord, outcomeOf, spanOfRecord, contentOf}
+use Rattle.file.specs.Contents.{Bytes, slot, span, slotRecord, spanRecord, outcomeOf, spanOfRecord, contentOf}
 use Rattle.file.proofs.Numbers.{num-skip}
 use Rattle.file.proofs.Rows.{before, field, field-at, length-row, length-table, table-field, joined-bytes, row-bytes, table-bytes}
 use Rattle.file.proofs.Fitting.{Fitting}
@@ -69,7 +69,7 @@ module _ (f : Content) where
       → field (slotRow (slot f i)) j .1 < 256 ^ field (slotRow (slot f i)) j .0
       → num (field (slotRow (slot f i)) j .0) (fileOf f) (6 * i + before (slotRow (slot f i)) j) ≡ field (slotRow (slot f i)) j .1
   unfolding slotPart
-  slot-field i j l m fit = rw parts (table-field slotRow 6 (λ x. refl) (f .slots) noSlot (spanPart ++ row trailer) i j l m fit)
+  slot-field i j l m fit = rw parts (table-field slotRow 6 (λ x. refl) (f .slots) noOutcome (spanPart ++ row trailer) i j l m fit)
 
   pub span-field : (i : ℕ) → i < length (f .spans) → Stands r (span f i) (fileOf f) (6 * length (f .slots) + w * i)
   unfolding spanPart
@@ -143,7 +143,7 @@ module _ (f : Content) (h : Fitting f) where
 
   slots-list : (n : ℕ) → n ≡ length (f .slots) → upTo (λ i. outcomeOf (slotAt (fileOf f) i)) 0 n ≡ f .slots
   slots-list n e =
-      rw e (upTo-list (f .slots) noSlot _ 0 (λ i l.
+      rw e (upTo-list (f .slots) noOutcome _ 0 (λ i l.
       ap (λ (x : ℕ). outcomeOf (slotAt (fileOf f) x)) (zero-add i) ∙ ap outcomeOf (slot-back i l)
       ∙ (λ k. record { value = slot f i .value; quality = quality-back (slot f i .quality) k; method = slot f i .method })))
 

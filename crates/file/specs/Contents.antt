@@ -11,7 +11,7 @@ use Rattle.rules.specs.declared.Outcome.{Outcome}
 use Rattle.rules.specs.declared.Quality.{Quality}
 use Rattle.rules.specs.declared.Quality.the-variants.{A, S, F, N}
 use Rattle.rules.specs.declared.Span.{Span}
-use Rattle.rules.specs.Spans.{isF, noSpan}
+use Rattle.rules.specs.Spans.{isF, noOutcome, noSpan}
 use Rattle.file.specs.declared.Figures.{Figures}
 use Rattle.file.specs.declared.slots.SlotRecord.{SlotRecord}
 use Rattle.file.specs.declared.spans.SpanRecord.{SpanRecord}
@@ -23,11 +23,8 @@ abbrev pub Bytes : List ℕ → Type 0
 Bytes bs = (i : ℕ) → getD bs i 0 < 256
 
 -- slot i and span j of a content
-abbrev pub noSlot : Outcome
-noSlot = record { value = 0; quality = N; method = 0 }
-
 abbrev pub slot : Content → ℕ → Outcome
-slot f i = getD (f .slots) i noSlot
+slot f i = getD (f .slots) i noOutcome
 
 abbrev pub span : Content → ℕ → Span
 span f j = getD (f .spans) j noSpan

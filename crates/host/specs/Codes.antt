@@ -48,5 +48,5 @@ figuresIn (verdict.Refused n) held = held
 unfoldable pub readAnswer : List ℕ → List ℕ → ℕ
 readAnswer bytes held = cond (eqb (length held) 9) (readCode (readFile bytes)) 2
 
-unfoldable pub figuresAfter : List ℕ → List ℕ → List ℕ
-figuresAfter bytes held = cond (eqb (length held) 9) (figuresIn (readFile bytes) held) held
+unfoldable pub readAfter : List ℕ → List ℕ → List ℕ
+readAfter bytes held = cond (eqb (length held) 9) (figuresIn (readFile bytes) held) held

@@ -7,7 +7,7 @@ ghost use lib.ListN.{length};
 ghost use Rattle.book.specs.Lent.{lentBook};
 ghost use Rattle.publishing.specs.Publishing.{publishAnswer, publishAfter};
 ghost use Rattle.file.specs.Reader.{readFile, tablesPart};
-ghost use Rattle.host.specs.Codes.{headOf, publishCode, readCode, readAnswer, figuresAfter};
+ghost use Rattle.host.specs.Codes.{headOf, publishCode, readCode, readAnswer, readAfter};
 
 // The length, which is above 31, or the refusal's number.
 fn published_code(published: Published) -> u64
@@ -33,7 +33,7 @@ pub extern "C" fn sawmauve_publish(
     statuses: &[u8],
     holidays: &[u8],
     readings: &[u32],
-    reads: &[u32],
+    read_versions: &[u32],
     agreed: &[u32],
     agreed_versions: &[u32],
     counts: &[u16],
@@ -42,7 +42,7 @@ pub extern "C" fn sawmauve_publish(
 ) -> u64
     ensures { λ r. ⌜
         (let head = headOf year month day days interval limit tolerance in
-        let book = lentBook (values .entry) (versions .entry) (statuses .entry) (holidays .entry) (readings .entry) (reads .entry)
+        let book = lentBook (values .entry) (versions .entry) (statuses .entry) (holidays .entry) (readings .entry) («read_versions» .entry)
         (agreed .entry) («agreed_versions» .entry) (counts .entry) (widths .entry) in
         (r ≡ publishCode (publishAnswer head book (now (out .entry))))
         × (now (out .exit) ≡ publishAfter head book (now (out .entry))))
@@ -56,7 +56,7 @@ pub extern "C" fn sawmauve_publish(
         statuses,
         holidays,
         readings,
-        reads,
+        read_versions,
         agreed,
         agreed_versions,
         counts,
@@ -87,7 +87,7 @@ pub extern "C" fn sawmauve_check(bytes: &[u8]) -> u32
 pub extern "C" fn sawmauve_read(bytes: &[u8], figures: &mut [u64]) -> u32
     ensures { λ r. ⌜
         (r ≡ readAnswer (now (bytes .entry)) (now (figures .entry)))
-        × (now (figures .exit) ≡ figuresAfter (now (bytes .entry)) (now (figures .entry)))
+        × (now (figures .exit) ≡ readAfter (now (bytes .entry)) (now (figures .entry)))
         ⌝ }
 {
     if figures.len() != 9 {

@@ -65,7 +65,7 @@ pub extern "C" fn sawmauve_open(
     statuses: &mut [u8],
     holidays: &mut [u8],
     readings: &mut [u32],
-    reads: &mut [u32],
+    read_versions: &mut [u32],
     agreed: &mut [u32],
     agreed_versions: &mut [u32],
     counts: &mut [u16],
@@ -73,10 +73,10 @@ pub extern "C" fn sawmauve_open(
 ) -> u32
     ensures { λ r. ⌜
         (let head = headOf year month day days interval limit tolerance in
-        let book = lentBook (values .entry) (versions .entry) (statuses .entry) (holidays .entry) (readings .entry) (reads .entry)
+        let book = lentBook (values .entry) (versions .entry) (statuses .entry) (holidays .entry) (readings .entry) («read_versions» .entry)
         (agreed .entry) («agreed_versions» .entry) (counts .entry) (widths .entry) in
         (r ≡ answerCode (openAnswer head book))
-        × (lentBook (values .exit) (versions .exit) (statuses .exit) (holidays .exit) (readings .exit) (reads .exit)
+        × (lentBook (values .exit) (versions .exit) (statuses .exit) (holidays .exit) (readings .exit) («read_versions» .exit)
         (agreed .exit) («agreed_versions» .exit) (counts .exit) (widths .exit)
         ≡ openAfter head book))
         ⌝ }
@@ -89,7 +89,7 @@ pub extern "C" fn sawmauve_open(
         statuses,
         holidays,
         readings,
-        reads,
+        read_versions,
         agreed,
         agreed_versions,
         counts,
@@ -197,7 +197,7 @@ pub extern "C" fn sawmauve_register(
     limit: u32,
     tolerance: u32,
     readings: &mut [u32],
-    reads: &mut [u32],
+    read_versions: &mut [u32],
     widths: &mut [u16],
     boundary: u32,
     version: u32,
@@ -206,9 +206,9 @@ pub extern "C" fn sawmauve_register(
 ) -> u32
     ensures { λ r. ⌜
         (let head = headOf year month day days interval limit tolerance in
-        let lent = lentReads (readings .entry) (reads .entry) (widths .entry) in
+        let lent = lentReads (readings .entry) («read_versions» .entry) (widths .entry) in
         (r ≡ answerCode (registerAnswer head lent boundary version reading width))
-        × (lentReads (readings .exit) (reads .exit) (widths .exit)
+        × (lentReads (readings .exit) («read_versions» .exit) (widths .exit)
         ≡ registerAfter head lent boundary version reading width))
         ⌝ }
 {
@@ -216,7 +216,7 @@ pub extern "C" fn sawmauve_register(
     filed_code(book::register(
         head,
         readings,
-        reads,
+        read_versions,
         widths,
         boundary,
         version,

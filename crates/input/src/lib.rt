@@ -10,7 +10,7 @@ pub enum Input {
 }
 
 // Reads until the input ends or `buf` is full, whatever sizes the pipe delivers.
-pub fn fill(buf: &mut [u8]) -> Input
+pub fn read_all(buf: &mut [u8]) -> Input
     ensures { λ r. ⌜ AtMost r (length (now (buf .exit))) ⌝ }
 {
     let mut n: usize = 0;

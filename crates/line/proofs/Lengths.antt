@@ -11,7 +11,7 @@ use Rattle.base.specs.Text.{ascii}
 use Rattle.calendar.specs.declared.Date.{Date}
 use Rattle.calendar.specs.Calendar.{dateOf}
 use Rattle.file.specs.declared.Figures.{Figures}
-use Rattle.line.specs.declared.Lined.the-variants as lined
+use Rattle.line.specs.declared.LineWritten.the-variants as lined
 use Rattle.line.specs.Line.{places, decimal, dateText, field, figuresText, refused, newline, AtStart, figuresAnswer, figuresAfter}
 use Rattle.line.specs.Inner.Writing.{Added}
 use Rattle.line.proofs.Digits.{length-digits, places-le}

@@ -12,8 +12,8 @@ use Rattle.file.specs.declared.Figures.{Figures}
 use Rattle.file.specs.declared.Verdict.{Verdict}
 use Rattle.file.specs.declared.Verdict.the-variants.{Accepted, Refused}
 use Rattle.file.specs.Reader.{readFile}
-use Rattle.line.specs.declared.Lined.{Lined}
-use Rattle.line.specs.declared.Lined.the-variants as lined
+use Rattle.line.specs.declared.LineWritten.{LineWritten}
+use Rattle.line.specs.declared.LineWritten.the-variants as lined
 
 -- the last k decimal digits of n in ASCII, highest first
 unfoldable pub digits : ℕ → ℕ → List ℕ
@@ -69,7 +69,7 @@ pub record AtStart (before after : List ℕ) (r : ℕ) (text : List ℕ) : Type 
   pub stay : drop r after ≡ drop r before
 
 -- the line of a file of any length, without a line end: its length, and 7 for a shorter buffer
-unfoldable pub figuresAnswer : Figures → List ℕ → Lined
+unfoldable pub figuresAnswer : Figures → List ℕ → LineWritten
 figuresAnswer g out =
     cond (ltb (length out) (length (figuresText g))) (lined.Refused 7) (lined.Length (length (figuresText g)))
 
@@ -78,7 +78,7 @@ figuresAfter g out =
     cond (ltb (length out) (length (figuresText g))) out (figuresText g ++ drop (length (figuresText g)) out)
 
 -- the reader's refusals go first, and a refusal changes no byte
-abbrev pub linedAs : Verdict → List ℕ → Lined
+abbrev pub linedAs : Verdict → List ℕ → LineWritten
 linedAs (Accepted g) out = figuresAnswer g out
 linedAs (Refused number) out = lined.Refused number
 
@@ -86,7 +86,7 @@ abbrev pub leftAs : Verdict → List ℕ → List ℕ
 leftAs (Accepted g) out = figuresAfter g out
 leftAs (Refused number) out = out
 
-unfoldable pub lineAnswer : List ℕ → List ℕ → Lined
+unfoldable pub lineAnswer : List ℕ → List ℕ → LineWritten
 lineAnswer bs out = linedAs (readFile bs) out
 
 unfoldable pub lineAfter : List ℕ → List ℕ → List ℕ

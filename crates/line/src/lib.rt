@@ -16,7 +16,7 @@ ghost use Rattle.line.specs.Line.{AtStart, figuresAnswer, figuresAfter, 
 ghost use Rattle.line.specs.Inner.Writing.{Added};
 
 // What putting the line of a file into a buffer of any length answers.
-pub enum Lined {
+pub enum LineWritten {
     Length(usize),
     Refused(u8),
 }
@@ -108,7 +108,7 @@ pub fn line(bytes: &[u8], out: &mut [u8; 160]) -> usize
 }
 
 // The figures of an accepted file, where they have room.
-fn fit_line(out: &mut [u8], g: Figures) -> Lined
+fn fit_line(out: &mut [u8], g: Figures) -> LineWritten
     requires { ⌜ g .first < dayCount ⌝ }
     ensures { λ r. ⌜
         (r ≡ figuresAnswer g (now (out .entry)))
@@ -118,13 +118,13 @@ fn fit_line(out: &mut [u8], g: Figures) -> Lined
     let mut aside = [0u8; 1];
     let n = put_line(&mut aside, g);
     if out.len() < n {
-        return Lined::Refused(7);
+        return LineWritten::Refused(7);
     }
-    Lined::Length(put_line(out, g))
+    LineWritten::Length(put_line(out, g))
 }
 
 // Puts the line of a file of any length, without a line end, at the start of `out`.
-pub fn file_line(bytes: &[u8], out: &mut [u8]) -> Lined
+pub fn file_line(bytes: &[u8], out: &mut [u8]) -> LineWritten
     ensures { λ r. ⌜
         (r ≡ lineAnswer (now (bytes .entry)) (now (out .entry)))
         × (now (out .exit) ≡ lineAfter (now (bytes .entry)) (now (out .entry)))
@@ -133,6 +133,6 @@ pub fn file_line(bytes: &[u8], out: &mut [u8]) -> Lined
     let verdict = file::read(bytes);
     match verdict {
         Verdict::Accepted(g) => fit_line(out, g),
-        Verdict::Refused(number) => Lined::Refused(number),
+        Verdict::Refused(number) => LineWritten::Refused(number),
     }
 }

@@ -8,10 +8,10 @@ use borrow.Author.Tests.{eq-eqb, ne-eqb, lt-ltb, le-ltb}
 use lib.ListN.{length, getD, take, drop, length-map, List·getD-map}
 use lib.Seq.{getD-take, length-take-le, take-length}
 use Rattle.log.specs.declared.number.Date.the-variants as date
-use Rattle.log.specs.declared.line.Line.the-variants.{Passed, Table, Open, Fill, NoCall}
+use Rattle.log.specs.declared.line.LogLine.the-variants.{Passed, Table, Open, Fill, NoCall}
 use Rattle.log.specs.declared.limits.Limits.{Limits}
 use Rattle.book.specs.declared.calls.Call.the-variants.{Delivery, Agreed, Holiday, Register}
-use Rattle.log.specs.Numbers.{valueAfter, valueOf, isDate, dateOf, yearPart, monthPart, dayPart}
+use Rattle.log.specs.Numbers.{valueAfter, valueOf, isDateWord, dateOfWord, yearPart, monthPart, dayPart}
 use Rattle.log.specs.Words.{words, same, areNumbers}
 use Rattle.log.specs.Line.{openWord, deliveryWord, holidayWord, registerWord, agreedWord, openOf, deliveryOf, holidayOf, sharpOf}
 use Rattle.log.specs.Line.{registerOf, agreedOf, callOf, withoutCr, isPassed, areLimits, limitsOf, bare, limitsEntry, wordsEntry}
@@ -78,18 +78,18 @@ module _ (fields : List (List ℕ)) (vs : List ℕ) where
 
 -- ---- An opening's date
 
-not-date : (word : List ℕ) → dateOf word ≡ date.Not → isDate word ≡ false
-unfolding dateOf
-not-date word e = told (valueOf (yearPart word)) (valueOf (monthPart word)) (valueOf (dayPart word)) (isDate word) e
+not-date : (word : List ℕ) → dateOfWord word ≡ date.Not → isDateWord word ≡ false
+unfolding dateOfWord
+not-date word e = told (valueOf (yearPart word)) (valueOf (monthPart word)) (valueOf (dayPart word)) (isDateWord word) e
   where
     told : (y m d : ℕ) (t : Bool) → cond t (date.Is y m d) date.Not ≡ date.Not → t ≡ false
     told y m d true e = let z : _≡_ {A = ℕ} 0 1 = cc in absurd (omega arith)
     told y m d false e = refl
 
-is-date : (word : List ℕ) (y m d : ℕ) → dateOf word ≡ date.Is y m d
-    → (isDate word ≡ true) × (y ≡ valueOf (yearPart word)) × (m ≡ valueOf (monthPart word)) × (d ≡ valueOf (dayPart word))
-unfolding dateOf
-is-date word y m d e = told (valueOf (yearPart word)) (valueOf (monthPart word)) (valueOf (dayPart word)) (isDate word) e
+is-date : (word : List ℕ) (y m d : ℕ) → dateOfWord word ≡ date.Is y m d
+    → (isDateWord word ≡ true) × (y ≡ valueOf (yearPart word)) × (m ≡ valueOf (monthPart word)) × (d ≡ valueOf (dayPart word))
+unfolding dateOfWord
+is-date word y m d e = told (valueOf (yearPart word)) (valueOf (monthPart word)) (valueOf (dayPart word)) (isDateWord word) e
   where
     told : (a b c : ℕ) (t : Bool) → cond t (date.Is a b c) date.Not ≡ date.Is y m d → (t ≡ true) × (y ≡ a) × (m ≡ b) × (d ≡ c)
     told a b c true e = (refl, cc, cc, cc)
@@ -100,11 +100,11 @@ unfolding openOf
 no-fields ws e = rw e
 
 module _ (ws : List (List ℕ)) (word : List ℕ) (fields : List (List ℕ)) (e : ws ≡ word ∷ fields) where
-  pub no-date : dateOf word ≡ date.Not → NoCall ≡ openOf ws
+  pub no-date : dateOfWord word ≡ date.Not → NoCall ≡ openOf ws
   unfolding openOf
   no-date n = rw (e, not-date word n)
 
-  module _ (y m d : ℕ) (day : dateOf word ≡ date.Is y m d) where
+  module _ (y m d : ℕ) (day : dateOfWord word ≡ date.Is y m d) where
     pub no-open : areNumbers 4 fields ≡ false → NoCall ≡ openOf ws
     unfolding openOf
     no-open n = rw (e, is-date word y m d day .0, n)

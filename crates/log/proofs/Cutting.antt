@@ -5,10 +5,9 @@ use Prim.Native.Nat.{ℕ, _+_, _-_, _≤_, _<_}
 use native.Mathlib.Numerals.{add-one}
 use native.Mathlib.Omega.{arith}
 use borrow.Author.Tests.{eq-eqb, ne-eqb}
-use lib.Dec.{eqb}
 use lib.ListN.{length, getD, take, drop, length-drop}
 use lib.Seq.{drop-cons, drop-length, length-take-le}
-use Rattle.log.specs.declared.line.Line.{Line}
+use Rattle.log.specs.declared.line.LogLine.{LogLine}
 use Rattle.log.specs.declared.lines.Cut.{Cut}
 use Rattle.log.specs.Line.{entryOf}
 use Rattle.log.specs.Log.{withByte, lines, itemOf, items}
@@ -85,7 +84,8 @@ pub item-at : {bytes : List ℕ} {at : ℕ} {r : Cut} → LineAt bytes at r
 unfolding items
 item-at cut = record { further = cut .further; inside = cut .inside; first = ap (map itemOf) (cut .first) }
 
-pub found-at : {bytes : List ℕ} {at : ℕ} {r : Cut} → LineAt bytes at r → (l : Line) → l ≡ entryOf (take (r .end - at) (drop at bytes)) .line
+pub found-at : {bytes : List ℕ} {at : ℕ} {r : Cut} → LineAt bytes at r → (l : LogLine) → l ≡ entryOf
+    (take (r .end - at) (drop at bytes)) .line
     → FoundAt bytes at l (r .next)
 unfolding itemOf
 found-at {bytes} {at} {r} cut l is = record { limits = entryOf (take (r .end - at) (drop at bytes)) .limits; item = rw is (item-at cut) }

@@ -1,23 +1,22 @@
 -- A delivery's line in one pass: digits, a word of digits before a separator, four such words after the keyword.
-use mathlib.Core.Bool.{Bool, true, false, cond, not, _&&_, false≢true}
-use mathlib.Core.List.{List, [], _∷_, _++_, map, append-assoc, append-nil}
-use mathlib.Core.Path.{_≡_, refl, sym, ap, subst, _∙_}
+use mathlib.Core.Bool.{Bool, true, false, not, _&&_, false≢true}
+use mathlib.Core.List.{List, [], _∷_, _++_, append-assoc, append-nil}
+use mathlib.Core.Path.{_≡_, refl, sym, subst, _∙_}
 use Prim.Native.Nat.{ℕ, zero, suc, _+_, _-_, _*_, _^_, _≤_, _<_}
 use native.Mathlib.Nat.{pow-suc, zero-add}
-use native.Mathlib.Numerals.{add-one}
 use native.Mathlib.Omega.{arith}
 use borrow.Author.Tests.{eq-eqb, ne-eqb, le-leb, le-ltb, leb-true}
-use lib.Dec.{eqb, leb, ltb}
+use lib.Dec.{eqb, leb}
 use lib.ListN.{length, getD, take, drop, length-append, length-drop, take-append-drop}
 use lib.Seq.{split-at, getD-drop, drop-drop, length-take-le}
 use Rattle.base.proofs.Logic.{and-parts}
 use Rattle.book.specs.Arguments.Call.{delivery}
 use Rattle.book.specs.declared.calls.Call.the-variants as coded
 use Rattle.log.specs.declared.deliveries.Delivery.{Delivery}
-use Rattle.log.specs.declared.line.Line.the-variants.{Fill}
+use Rattle.log.specs.declared.line.LogLine.the-variants.{Fill}
 use Rattle.log.specs.Numbers.{isDigit, areDigits, valueAfter, valueOf, isNumber}
 use Rattle.log.specs.Words.{split, words, same, areNumbers}
-use Rattle.log.specs.Line.{deliveryWord, openWord, limitsWord, deliveryOf, callOf, withoutCr, isPassed, bare, limitsOf, wordsEntry}
+use Rattle.log.specs.Line.{deliveryWord, deliveryOf, callOf, withoutCr, isPassed, limitsOf, wordsEntry}
 use Rattle.log.specs.Line.{entryOf}
 use Rattle.log.specs.Log.{withByte, lines, itemIn, itemOf, items}
 use Rattle.log.specs.Log.Item.{call}

@@ -13,7 +13,8 @@ use Rattle.base.specs.Lists.{every}
 use Rattle.log.specs.declared.number.Number.{Number}
 use Rattle.log.specs.declared.number.Number.the-variants.{Is, Not}
 use Rattle.log.specs.declared.number.Date.the-variants as date
-use Rattle.log.specs.Numbers.{areDigits, valueAfter, valueOf, isNumber, numberOf, yearPart, monthPart, dayPart, isDate, dateOf}
+use Rattle.log.specs.Numbers.{areDigits, valueAfter, valueOf, isNumber, numberOf, yearPart, monthPart, dayPart, isDateWord}
+use Rattle.log.specs.Numbers.{dateOfWord}
 
 -- the number whose digits so far have the value n, and whose other bytes are bs
 unfoldable pub numberAfter : ℕ → List ℕ → Number
@@ -80,34 +81,34 @@ is-number word v e = told v (valueOf word) (isNumber word) e
     told v u true e = (refl, cc)
     told v u false e = let z : _≡_ {A = ℕ} 0 1 = cc in absurd (omega arith)
 
-pub date-length : (word : List ℕ) → (length word ≡ 10 → ⊥) → dateOf word ≡ date.Not
-unfolding dateOf isDate
+pub date-length : (word : List ℕ) → (length word ≡ 10 → ⊥) → dateOfWord word ≡ date.Not
+unfolding dateOfWord isDateWord
 date-length word n = rw (ne-eqb _ _ n)
 
 module _ (word : List ℕ) (l : length word ≡ 10) where
-  pub date-first : (getD word 4 0 ≡ 45 → ⊥) → dateOf word ≡ date.Not
-  unfolding dateOf isDate
+  pub date-first : (getD word 4 0 ≡ 45 → ⊥) → dateOfWord word ≡ date.Not
+  unfolding dateOfWord isDateWord
   date-first n = rw (eq-eqb _ _ l, ne-eqb _ _ n)
 
   module _ (p : getD word 4 0 ≡ 45) where
-    pub date-second : (getD word 7 0 ≡ 45 → ⊥) → dateOf word ≡ date.Not
-    unfolding dateOf isDate
+    pub date-second : (getD word 7 0 ≡ 45 → ⊥) → dateOfWord word ≡ date.Not
+    unfolding dateOfWord isDateWord
     date-second n = rw (eq-eqb _ _ l, eq-eqb _ _ p, ne-eqb _ _ n)
 
     module _ (q : getD word 7 0 ≡ 45) where
-      pub date-year : numberOf (yearPart word) ≡ Not → dateOf word ≡ date.Not
-      unfolding dateOf isDate
+      pub date-year : numberOf (yearPart word) ≡ Not → dateOfWord word ≡ date.Not
+      unfolding dateOfWord isDateWord
       date-year n = rw (eq-eqb _ _ l, eq-eqb _ _ p, eq-eqb _ _ q, not-number (yearPart word) n)
 
       module _ (y : ℕ) (year : numberOf (yearPart word) ≡ Is y) where
-        pub date-month : numberOf (monthPart word) ≡ Not → dateOf word ≡ date.Not
-        unfolding dateOf isDate
+        pub date-month : numberOf (monthPart word) ≡ Not → dateOfWord word ≡ date.Not
+        unfolding dateOfWord isDateWord
         date-month n =
             rw (eq-eqb _ _ l, eq-eqb _ _ p, eq-eqb _ _ q, is-number (yearPart word) y year .0, not-number (monthPart word) n)
 
         module _ (m : ℕ) (month : numberOf (monthPart word) ≡ Is m) where
-          pub date-day : numberOf (dayPart word) ≡ Not → dateOf word ≡ date.Not
-          unfolding dateOf isDate
+          pub date-day : numberOf (dayPart word) ≡ Not → dateOfWord word ≡ date.Not
+          unfolding dateOfWord isDateWord
           date-day n =
               rw (
                 eq-eqb _ _ l,
@@ -118,8 +119,8 @@ module _ (word : List ℕ) (l : length word ≡ 10) where
                 not-number (dayPart word) n,
               )
 
-          pub date-whole : (d : ℕ) → numberOf (dayPart word) ≡ Is d → dateOf word ≡ date.Is y m d
-          unfolding dateOf isDate
+          pub date-whole : (d : ℕ) → numberOf (dayPart word) ≡ Is d → dateOfWord word ≡ date.Is y m d
+          unfolding dateOfWord isDateWord
           date-whole d day =
               rw (
                 eq-eqb _ _ l,

@@ -10,7 +10,6 @@ use borrow.Author.Tests.{leb-true, leb-false, le-leb, lt-leb}
 use lib.Dec.{leb, eqb}
 use lib.ListN.{length, take, drop, set, replicate, length-map, length-set, take-append-drop}
 use Rattle.base.proofs.Logic.{and-parts}
-use lib.Seq.{length-take-le, drop-set-lt}
 use Rattle.log.specs.declared.limits.Limits.{Limits}
 use Rattle.log.specs.declared.number.Number.the-variants.{Is, Not}
 use Rattle.log.specs.Numbers.{valueOf, numberOf}

@@ -6,12 +6,12 @@ use lib.Dec.{leb, ltb, eqb}
 use lib.ListN.{length, getD, take, replicate}
 use Rattle.base.specs.Text.{ascii}
 use Rattle.log.specs.declared.line.Opening.{Opening}
-use Rattle.log.specs.declared.line.Line.{Line}
-use Rattle.log.specs.declared.line.Line.the-variants.{Passed, Table, Open, Fill, NoCall}
+use Rattle.log.specs.declared.line.LogLine.{LogLine}
+use Rattle.log.specs.declared.line.LogLine.the-variants.{Passed, Table, Open, Fill, NoCall}
 use Rattle.log.specs.declared.limits.Limits.{Limits}
 use Rattle.log.specs.declared.line.Entry.{Entry}
 use Rattle.book.specs.declared.calls.Call.the-variants.{Delivery, Agreed, Holiday, Register}
-use Rattle.log.specs.Numbers.{valueOf, isDate, yearPart, monthPart, dayPart}
+use Rattle.log.specs.Numbers.{valueOf, isDateWord, yearPart, monthPart, dayPart}
 use Rattle.log.specs.Words.{words, same, areNumbers}
 
 -- the words that calls begin with
@@ -46,33 +46,33 @@ openingOf date fields = record {
   tolerance = value fields 3;
 }
 
-unfoldable pub openOf : List (List ℕ) → Line
+unfoldable pub openOf : List (List ℕ) → LogLine
 openOf [] = NoCall
-openOf (date ∷ fields) = cond (isDate date && areNumbers 4 fields) (Open (openingOf date fields)) NoCall
+openOf (date ∷ fields) = cond (isDateWord date && areNumbers 4 fields) (Open (openingOf date fields)) NoCall
 
 -- slot, version, value, status
-unfoldable pub deliveryOf : List (List ℕ) → Line
+unfoldable pub deliveryOf : List (List ℕ) → LogLine
 deliveryOf fields =
     cond (areNumbers 4 fields) (Fill (Delivery (value fields 0) (value fields 1) (value fields 2) (value fields 3))) NoCall
 
 -- day
-unfoldable pub holidayOf : List (List ℕ) → Line
+unfoldable pub holidayOf : List (List ℕ) → LogLine
 holidayOf fields = cond (areNumbers 1 fields) (Fill (Holiday (value fields 0))) NoCall
 
 -- boundary, version, reading, and a width where there is one; without it the width is 0 (02, W10)
-unfoldable pub sharpOf : List (List ℕ) → Line
+unfoldable pub sharpOf : List (List ℕ) → LogLine
 sharpOf fields = cond (areNumbers 3 fields) (Fill (Register (value fields 0) (value fields 1) (value fields 2) 0)) NoCall
 
-unfoldable pub registerOf : List (List ℕ) → Line
+unfoldable pub registerOf : List (List ℕ) → LogLine
 registerOf fields =
     cond (areNumbers 4 fields) (Fill (Register (value fields 0) (value fields 1) (value fields 2) (value fields 3))) (sharpOf fields)
 
 -- slot, version, value in Wh (02, W1)
-unfoldable pub agreedOf : List (List ℕ) → Line
+unfoldable pub agreedOf : List (List ℕ) → LogLine
 agreedOf fields = cond (areNumbers 3 fields) (Fill (Agreed (value fields 0) (value fields 1) (value fields 2))) NoCall
 
 -- the keyword, then its fields; a line has at least one word
-unfoldable pub callOf : List (List ℕ) → Line
+unfoldable pub callOf : List (List ℕ) → LogLine
 callOf [] = NoCall
 callOf (word ∷ fields) =
     cond (same word openWord) (openOf fields)
@@ -102,7 +102,7 @@ abbrev pub limitsOf : List ℕ → Limits
 limitsOf table = record { values = table ++ replicate (24 - length table) 0; count = length table }
 
 -- a line with no table
-abbrev pub bare : Line → Entry
+abbrev pub bare : LogLine → Entry
 bare line = record { line = line; limits = limitsOf [] }
 
 unfoldable pub limitsEntry : List (List ℕ) → Entry

@@ -10,8 +10,8 @@ use Rattle.rules.specs.declared.limits.Loaded.the-variants as loaded
 use Rattle.rules.specs.Limits.{loadAnswer}
 use Rattle.rules.specs.Opening.{headOk}
 use Rattle.book.specs.Arguments.{Call, callMeant}
-use Rattle.log.specs.declared.line.Line.{Line}
-use Rattle.log.specs.declared.line.Line.the-variants.{Passed, Table, Open, Fill, NoCall}
+use Rattle.log.specs.declared.line.LogLine.{LogLine}
+use Rattle.log.specs.declared.line.LogLine.the-variants.{Passed, Table, Open, Fill, NoCall}
 use Rattle.log.specs.declared.line.Opening.{Opening}
 use Rattle.log.specs.declared.limits.Limits.{Limits}
 use Rattle.log.specs.Line.{entryOf}
@@ -38,7 +38,7 @@ pub data Item : Type 0 where
 abbrev pub tableOf : Limits → List ℕ
 tableOf limits = take (limits .count) (limits .values)
 
-unfoldable pub itemIn : Line → Limits → Item
+unfoldable pub itemIn : LogLine → Limits → Item
 itemIn Passed limits = passed
 itemIn Table limits = table (tableOf limits)
 itemIn (Open o) limits = opening o

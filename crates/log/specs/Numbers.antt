@@ -44,8 +44,8 @@ abbrev pub dayPart : List ℕ → List ℕ
 dayPart word = take 2 (drop 8 word)
 
 -- four digits, `-`, two digits, `-`, two digits
-unfoldable pub isDate : List ℕ → Bool
-isDate word =
+unfoldable pub isDateWord : List ℕ → Bool
+isDateWord word =
     every
     (eqb (length word) 10
     ∷ eqb (getD word 4 0) 45
@@ -55,5 +55,5 @@ isDate word =
     ∷ isNumber (dayPart word)
     ∷ [])
 
-unfoldable pub dateOf : List ℕ → Date
-dateOf word = cond (isDate word) (date.Is (valueOf (yearPart word)) (valueOf (monthPart word)) (valueOf (dayPart word))) date.Not
+unfoldable pub dateOfWord : List ℕ → Date
+dateOfWord word = cond (isDateWord word) (date.Is (valueOf (yearPart word)) (valueOf (monthPart word)) (valueOf (dayPart word))) date.Not

@@ -28,7 +28,7 @@ pub struct Opening {
 }
 
 // What a line is.
-pub enum Line {
+pub enum LogLine {
     Passed,
     Table,
     Open(Opening),
@@ -38,28 +38,28 @@ pub enum Line {
 
 // A line, and the table where it is one.
 pub struct Entry {
-    pub line: Line,
+    pub line: LogLine,
     pub limits: Limits,
 }
 
 // The fields after a keyword that ends at `end`, in each of these.
-fn open_after(line: &[u8], end: usize) -> Line
+fn open_after(line: &[u8], end: usize) -> LogLine
     requires { ⌜ end ≤ length (now line) ⌝ }
     ensures { λ r. ⌜ r ≡ openOf (piecesAfter 32 (now (line .entry)) end) ⌝ }
 {
     if line.len() <= end {
-        return Line::NoCall;
+        return LogLine::NoCall;
     }
     let from = end + 1;
     let date = pieces::end_of(line, from, b' ');
     let Date::Is(year, month, day) = number::date_of(&line[from..date]) else {
-        return Line::NoCall;
+        return LogLine::NoCall;
     };
     let fields = words::values_after(line, date, 4);
     if !fields.good {
-        return Line::NoCall;
+        return LogLine::NoCall;
     }
-    Line::Open(Opening {
+    LogLine::Open(Opening {
         year,
         month,
         day,
@@ -70,15 +70,15 @@ fn open_after(line: &[u8], end: usize) -> Line
     })
 }
 
-fn delivery_after(line: &[u8], end: usize) -> Line
+fn delivery_after(line: &[u8], end: usize) -> LogLine
     requires { ⌜ end ≤ length (now line) ⌝ }
     ensures { λ r. ⌜ r ≡ deliveryOf (piecesAfter 32 (now (line .entry)) end) ⌝ }
 {
     let fields = words::values_after(line, end, 4);
     if !fields.good {
-        return Line::NoCall;
+        return LogLine::NoCall;
     }
-    Line::Fill(Call::Delivery {
+    LogLine::Fill(Call::Delivery {
         slot: fields.values[0],
         version: fields.values[1],
         value: fields.values[2],
@@ -86,27 +86,27 @@ fn delivery_after(line: &[u8], end: usize) -> Line
     })
 }
 
-fn holiday_after(line: &[u8], end: usize) -> Line
+fn holiday_after(line: &[u8], end: usize) -> LogLine
     requires { ⌜ end ≤ length (now line) ⌝ }
     ensures { λ r. ⌜ r ≡ holidayOf (piecesAfter 32 (now (line .entry)) end) ⌝ }
 {
     let fields = words::values_after(line, end, 1);
     if !fields.good {
-        return Line::NoCall;
+        return LogLine::NoCall;
     }
-    Line::Fill(Call::Holiday(fields.values[0]))
+    LogLine::Fill(Call::Holiday(fields.values[0]))
 }
 
 // A register read without a width.
-fn sharp_after(line: &[u8], end: usize) -> Line
+fn sharp_after(line: &[u8], end: usize) -> LogLine
     requires { ⌜ end ≤ length (now line) ⌝ }
     ensures { λ r. ⌜ r ≡ sharpOf (piecesAfter 32 (now (line .entry)) end) ⌝ }
 {
     let fields = words::values_after(line, end, 3);
     if !fields.good {
-        return Line::NoCall;
+        return LogLine::NoCall;
     }
-    Line::Fill(Call::Register {
+    LogLine::Fill(Call::Register {
         boundary: fields.values[0],
         version: fields.values[1],
         reading: fields.values[2],
@@ -114,7 +114,7 @@ fn sharp_after(line: &[u8], end: usize) -> Line
     })
 }
 
-fn register_after(line: &[u8], end: usize) -> Line
+fn register_after(line: &[u8], end: usize) -> LogLine
     requires { ⌜ end ≤ length (now line) ⌝ }
     ensures { λ r. ⌜ r ≡ registerOf (piecesAfter 32 (now (line .entry)) end) ⌝ }
 {
@@ -122,7 +122,7 @@ fn register_after(line: &[u8], end: usize) -> Line
     if !fields.good {
         return sharp_after(line, end);
     }
-    Line::Fill(Call::Register {
+    LogLine::Fill(Call::Register {
         boundary: fields.values[0],
         version: fields.values[1],
         reading: fields.values[2],
@@ -130,22 +130,22 @@ fn register_after(line: &[u8], end: usize) -> Line
     })
 }
 
-fn agreed_after(line: &[u8], end: usize) -> Line
+fn agreed_after(line: &[u8], end: usize) -> LogLine
     requires { ⌜ end ≤ length (now line) ⌝ }
     ensures { λ r. ⌜ r ≡ agreedOf (piecesAfter 32 (now (line .entry)) end) ⌝ }
 {
     let fields = words::values_after(line, end, 3);
     if !fields.good {
-        return Line::NoCall;
+        return LogLine::NoCall;
     }
-    Line::Fill(Call::Agreed {
+    LogLine::Fill(Call::Agreed {
         slot: fields.values[0],
         version: fields.values[1],
         value: fields.values[2],
     })
 }
 
-fn call_of(line: &[u8]) -> Line
+fn call_of(line: &[u8]) -> LogLine
     ensures { λ r. ⌜ r ≡ callOf (wordsOf (now (line .entry))) ⌝ }
 {
     let end = pieces::end_of(line, 0, b' ');
@@ -165,7 +165,7 @@ fn call_of(line: &[u8]) -> Line
     if words::is_same(word, b"agreed") {
         return agreed_after(line, end);
     }
-    Line::NoCall
+    LogLine::NoCall
 }
 
 // The length of a line without its CR.
@@ -183,7 +183,7 @@ fn without_cr(bytes: &[u8]) -> usize
 }
 
 // A line with no table.
-pub fn bare(line: Line) -> Entry
+pub fn bare(line: LogLine) -> Entry
     ensures { λ r. ⌜ r ≡ bareOf line ⌝ }
 {
     let limits = limits::none();
@@ -197,10 +197,10 @@ fn limits_entry(line: &[u8], end: usize) -> Entry
 {
     let limits = limits::limits_after(line, end);
     if limits.count == 0 {
-        return bare(Line::NoCall);
+        return bare(LogLine::NoCall);
     }
     Entry {
-        line: Line::Table,
+        line: LogLine::Table,
         limits,
     }
 }
@@ -221,19 +221,19 @@ pub fn entry_of(bytes: &[u8]) -> Entry
 {
     let n = without_cr(bytes);
     if n == 0 {
-        return bare(Line::Passed);
+        return bare(LogLine::Passed);
     }
     if bytes[0] == b'#' {
-        return bare(Line::Passed);
+        return bare(LogLine::Passed);
     }
     if 255 < n {
-        return bare(Line::NoCall);
+        return bare(LogLine::NoCall);
     }
     words_entry(&bytes[..n])
 }
 
 // What the bytes of a line are, without the table of one.
-pub fn line_of(bytes: &[u8]) -> Line
+pub fn line_of(bytes: &[u8]) -> LogLine
     ensures { λ r. ⌜ r ≡ entryOf (now (bytes .entry)) .line ⌝ }
 {
     entry_of(bytes).line

@@ -1,7 +1,7 @@
 // The lines of a log.
 use crate::deliveries;
 use crate::line;
-use crate::line::Line;
+use crate::line::LogLine;
 use book::calls::Call;
 ghost use Prim.Native.Nat.{_<_};
 ghost use lib.ListN.{length};
@@ -33,7 +33,7 @@ pub fn line_at(bytes: &[u8], at: usize) -> Cut
 
 // What a line is, and the place where the next line begins.
 pub struct Found {
-    pub line: Line,
+    pub line: LogLine,
     pub next: usize,
 }
 
@@ -59,7 +59,7 @@ pub fn line_from(bytes: &[u8], at: usize) -> Found
     let delivery = deliveries::delivery_at(bytes, at);
     if delivery.found {
         return Found {
-            line: Line::Fill(Call::Delivery {
+            line: LogLine::Fill(Call::Delivery {
                 slot: delivery.slot,
                 version: delivery.version,
                 value: delivery.value,

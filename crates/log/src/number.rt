@@ -1,6 +1,6 @@
 // Numbers and dates of a log.
 ghost use mathlib.Core.Path.{_≡_};
-ghost use Rattle.log.specs.Numbers.{numberOf, dateOf};
+ghost use Rattle.log.specs.Numbers.{numberOf, dateOfWord};
 
 // What a word is as a number.
 pub enum Number {
@@ -40,7 +40,7 @@ pub fn number_of(word: &[u8]) -> Number
 }
 
 pub fn date_of(word: &[u8]) -> Date
-    ensures { λ r. ⌜ r ≡ dateOf (now (word .entry)) ⌝ }
+    ensures { λ r. ⌜ r ≡ dateOfWord (now (word .entry)) ⌝ }
 {
     if word.len() != 10 {
         return Date::Not;

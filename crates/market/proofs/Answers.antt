@@ -7,7 +7,7 @@ use Prim.Native.Nat.{ℕ, _+_, _-_, _^_, _≤_, _<_}
 use native.Mathlib.Omega.{arith}
 use borrow.Author.Tests.{leb-true, leb-false, eqb-true, le-leb, lt-leb, ltb-true, ltb-false}
 use lib.Dec.{leb, ltb}
-use lib.ListN.{length, drop, length-append}
+use lib.ListN.{length, length-append}
 use Rattle.base.specs.Lists.{every}
 use Rattle.base.proofs.Logic.{either, passed, and-parts}
 use Rattle.file.specs.declared.Figures.{Figures}
@@ -20,7 +20,7 @@ use Rattle.market.specs.declared.checks.Class.the-variants.{Plain, Digit
 use Rattle.market.specs.Fields.{Texts}
 use Rattle.market.specs.Records.{record900}
 use Rattle.market.specs.Export.{contentOf, bodyOf, exportOf, allOf, identifierOk, timeOk, codesOk, suppliedTests, suppliedOk}
-use Rattle.market.specs.Export.{answerFor, exportAnswer, exportAfter}
+use Rattle.market.specs.Export.{exportBy, exportAnswer, exportAfter}
 use Rattle.line.specs.Inner.Writing.{capped, Added}
 use Rattle.line.proofs.Putting.{capped-low, capped-high, stored-all}
 
@@ -123,7 +123,7 @@ pub record Answered (v : Verdict) (a b c : Bool) (n m : ℕ) : Type 0 where
   pub room : c ≡ true
   pub long : n ≡ m
 
-pub answered : (v : Verdict) (a b c : Bool) (n m : ℕ) → answerFor v a b c n ≡ Length m → Answered v a b c n m
+pub answered : (v : Verdict) (a b c : Bool) (n m : ℕ) → exportBy v a b c n ≡ Length m → Answered v a b c n m
 answered (verdict.Refused k) a b c n m e = absurd (never e)
   where
     never : Refused k ≡ Length m → ⊥
@@ -149,10 +149,3 @@ module _ (bs : List ℕ) (t : Texts) (codes : Codes) (out : List ℕ) (m : ℕ) 
   answer-is =
       answered (readFile bs) (identifierOk (t .identifier)) (suppliedOk t codes)
       (leb (length (exportOf t (contentOf codes bs))) (length out)) (length (exportOf t (contentOf codes bs))) m e
-
-  -- the buffer then holds so many bytes
-  pub length-fits : m ≤ length (exportAfter bs t codes out)
-  unfolding exportAfter
-  length-fits =
-      let x : List ℕ = exportOf t (contentOf codes bs) in
-      rw e (omega (arith, answer-is .long, length-append x (drop (length x) out)))

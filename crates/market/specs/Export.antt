@@ -86,17 +86,17 @@ suppliedOk t c = every (suppliedTests t c)
 -- ---- The answer
 
 -- each case, in the order 8, 9, 14, 15, 7
-abbrev pub answerFor : Verdict → Bool → Bool → Bool → ℕ → Exported
-answerFor (verdict.Refused number) identifier supplied room long = Refused number
-answerFor (verdict.Accepted g) false supplied room long = Refused 14
-answerFor (verdict.Accepted g) true false room long = Refused 15
-answerFor (verdict.Accepted g) true true false long = Refused 7
-answerFor (verdict.Accepted g) true true true long = Length long
+abbrev pub exportBy : Verdict → Bool → Bool → Bool → ℕ → Exported
+exportBy (verdict.Refused number) identifier supplied room long = Refused number
+exportBy (verdict.Accepted g) false supplied room long = Refused 14
+exportBy (verdict.Accepted g) true false room long = Refused 15
+exportBy (verdict.Accepted g) true true false long = Refused 7
+exportBy (verdict.Accepted g) true true true long = Length long
 
 unfoldable pub exportAnswer : List ℕ → Texts → Codes → List ℕ → Exported
 exportAnswer bs t codes out =
     let e = exportOf t (contentOf codes bs) in
-    answerFor (readFile bs) (identifierOk (t .identifier)) (suppliedOk t codes) (leb (length e) (length out)) (length e)
+    exportBy (readFile bs) (identifierOk (t .identifier)) (suppliedOk t codes) (leb (length e) (length out)) (length e)
 
 -- the export stands at the start, and bytes after it are unchanged; a refusal changes no byte
 abbrev pub outAfter : Exported → List ℕ → List ℕ → List ℕ

@@ -154,7 +154,7 @@ fn are_headers(
 }
 
 // The reason code, the creation time and the method codes.
-fn are_others(reason: &[u8], created: &[u8], codes: Codes) -> bool
+fn are_reason_time_codes(reason: &[u8], created: &[u8], codes: Codes) -> bool
     ensures { λ r. ⌜ r ≡ every (allOf Plain (now (reason .entry)) ∷ timeOk (now (created .entry)) ∷ codesOk codes ∷ []) ⌝ }
 {
     if !all_of(Class::Plain, reason) {
@@ -199,5 +199,5 @@ pub fn are_supplied(
     ) {
         return false;
     }
-    are_others(reason, created, codes)
+    are_reason_time_codes(reason, created, codes)
 }

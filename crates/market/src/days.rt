@@ -176,7 +176,7 @@ fn put_day(
         Added (now (out .entry)) at (now (out .exit)) r text)
         ⌝ }
 {
-    let one = marks::is_one(file, codes, day.from, day.slots);
+    let one = marks::are_all_alike(file, codes, day.from, day.slots);
     let mark = marks::day_mark(file, codes, day.from, one);
     let next = put_300(out, at, file, day, mark, reason, created);
     if one {

@@ -71,7 +71,7 @@ pub fn are_alike(a: Mark, b: Mark) -> bool
 }
 
 // The `n` slots from slot `a` are alike.
-pub fn is_one(file: &[u8], codes: Codes, a: usize, n: usize) -> bool
+pub fn are_all_alike(file: &[u8], codes: Codes, a: usize, n: usize) -> bool
     requires { ⌜ (6 * (a + n) ≤ length (now file)) × (1 ≤ n) ⌝ }
     ensures { λ r. ⌜ r ≡ oneMark (λ i. markOf codes (slotAt (now (file .entry)) i)) a n ⌝ }
 {

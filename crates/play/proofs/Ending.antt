@@ -27,8 +27,8 @@ use Rattle.log.specs.Log.Reading.{log as log-, noOpening as noOpening-, notACal
 use Rattle.play.specs.declared.Checked.{Checked}
 use Rattle.play.specs.declared.Checked.the-variants as coded
 use Rattle.play.specs.declared.Played.{Played}
-use Rattle.play.specs.declared.Played.the-variants.{Is, Lengths}
-use Rattle.play.specs.Playing.{callsOf, checkedOf, checked, lengthsOk, codes, playedAs, playAnswer, listsAs, playAfter, answersAs}
+use Rattle.play.specs.declared.Played.the-variants.{AsChecked, Lengths}
+use Rattle.play.specs.Playing.{logCalls, checkedOf, checked, lengthsOk, codes, playedAs, playAnswer, listsAs, playAfter, answersAs}
 use Rattle.play.specs.Playing.{answersAfter}
 use Rattle.play.specs.Inner.Filling.{isDone}
 
@@ -163,20 +163,22 @@ module _ (bytes : List ℕ) {found : Checked} (e : found ≡ checked bytes) (h :
 
       pub played : {a : Answer} {o b' : Book} {answers' : List ℕ} → a ≡ openAnswer h b → isDone a ≡ true → o ≡ openAfter h b
           → length answers ≡ n
-          → (answers' ≡ codes h o (items bytes)) × (b' ≡ afterAll h o (callsOf bytes)) → Meant bytes b answers (Is found) b' answers'
+          → (answers' ≡ codes h o (items bytes)) × (b' ≡ afterAll h o (logCalls bytes))
+          → Meant bytes b answers (AsChecked found) b' answers'
       unfolding lengthsOk playAnswer playedAs playAfter listsAs answersAfter answersAs
       played f on first count made =
           let long : eqb (length answers) (length (lines bytes)) ≡ true = eq-eqb _ _ (count ∙ found-lines) in
           let right : bookFits h b ≡ true = fits f on in
           record {
-            answer = rw (both .0, right, long) (ap Is e);
+            answer = rw (both .0, right, long) (ap AsChecked e);
             lists = rw (both .0, right, long) (made .1 ∙ rw (new f on first));
             told = rw (both .0, right, long) (made .0 ∙ rw (new f on first));
           }
 
 module _ (bytes : List ℕ) (b : Book) (answers : List ℕ) where
   -- no log
-  other-reading : (r : Reading) → readLog bytes ≡ r → ((h : Head) → r ≡ log- h → ⊥) → Meant bytes b answers (Is (checked bytes)) b answers
+  other-reading : (r : Reading) → readLog bytes ≡ r → ((h : Head) → r ≡ log- h → ⊥)
+      → Meant bytes b answers (AsChecked (checked bytes)) b answers
   unfolding playAnswer playedAs playAfter listsAs answersAfter answersAs
   other-reading (log- h) e other = absurd (other h refl)
   other-reading noOpening- e other = record { answer = rw e; lists = rw e; told = rw e }
@@ -184,8 +186,8 @@ module _ (bytes : List ℕ) (b : Book) (answers : List ℕ) where
   other-reading (refused- n k) e other = record { answer = rw e; lists = rw e; told = rw e }
 
   pub no-log : {found : Checked} → found ≡ checked bytes
-      → ((h : Head) → found ≡ coded.Log h (length (lines bytes)) (length (callsOf bytes)) → ⊥)
-      → Meant bytes b answers (Is found) b answers
+      → ((h : Head) → found ≡ coded.Log h (length (lines bytes)) (length (logCalls bytes)) → ⊥)
+      → Meant bytes b answers (AsChecked found) b answers
   unfolding checked checkedOf
   no-log e other = rw e (other-reading (readLog bytes) refl (λ h f. other h (e ∙ ap (checkedOf bytes) f)))
 

@@ -14,14 +14,14 @@ use Rattle.rules.specs.Limits.{loadAnswer}
 use Rattle.rules.specs.Opening.{headOk}
 use Rattle.book.specs.Arguments.{Call}
 use Rattle.log.specs.declared.limits.Limits.{Limits}
-use Rattle.log.specs.declared.line.Line.{Line}
-use Rattle.log.specs.declared.line.Line.the-variants as line
+use Rattle.log.specs.declared.line.LogLine.{LogLine}
+use Rattle.log.specs.declared.line.LogLine.the-variants as line
 use Rattle.log.specs.declared.line.Opening.{Opening}
 use Rattle.log.specs.declared.lines.Cut.{Cut}
 use Rattle.log.specs.Log.{lines, Item, itemIn, itemOf, items, callsIn, Reading, readOpen, headWith, orBuiltIn, withTable, withOpening}
 use Rattle.log.specs.Log.{readClosed, readLog}
 use Rattle.log.specs.Log.Item.{passed, table, opening, call, neither}
-use Rattle.log.specs.Log.Reading.{log, notACall, refused}
+use Rattle.log.specs.Log.Reading.{notACall, refused}
 use Rattle.log.specs.Inner.Lines.{LineAt, ItemAt, FoundAt}
 use Rattle.log.specs.Inner.Deliveries.{DeliveryTo}
 use Rattle.log.proofs.Cutting.{item-at}
@@ -29,9 +29,9 @@ use Rattle.log.proofs.OnePass.{delivery-found}
 use Rattle.play.specs.declared.Checked.the-variants as coded
 use Rattle.play.specs.declared.reading.Step.{Step}
 use Rattle.play.specs.declared.reading.Step.the-variants.{On, Opened, NotACall, Refused}
-use Rattle.play.specs.Playing.{callsOf, checkedOf, checked}
-use Rattle.play.specs.Inner.Steps.{tableStep, headStep, openingStep, stepOf, goesOn, tableAfter, leadOf, isOutside, callsAt}
-use Rattle.play.specs.Inner.Steps.{PassingAt, Reached, LeadMeant}
+use Rattle.play.specs.Playing.{logCalls, checkedOf, checked}
+use Rattle.play.specs.Inner.Steps.{tableStep, headStep, openingStep, stepOf, goesOn, tableAfter, openingAt, isOutside, callsAt}
+use Rattle.play.specs.Inner.Steps.{TestedAt, Reached, OpeningMeant}
 
 -- ---- A line before the opening
 
@@ -116,7 +116,7 @@ reached-first bytes =
 module _ {bytes : List ℕ} {at n calls next : ℕ} {x : Item} (reached : Reached bytes at n calls) (item : ItemAt bytes at x next) where
   reached-next : (k : ℕ) → k ≡ countOf x → Reached bytes next (n + 1) (calls + k)
   reached-next k e =
-      let some : length (callsOf (drop at bytes)) ≡ countOf x + length (callsOf (drop next bytes)) =
+      let some : length (logCalls (drop at bytes)) ≡ countOf x + length (logCalls (drop next bytes)) =
       ap (λ (xs : List Item). length (callsIn xs)) (item .first) ∙ count-more x (items (drop next bytes)) in
       record {
         inside = item .inside;
@@ -218,8 +218,8 @@ module _ {bytes t : List ℕ} {at n : ℕ} (w : Leading bytes t at n) where
     leading-next NotACall e g = absurd (false≢true g)
     leading-next (Refused k) e g = absurd (false≢true g)
 
-    pub leading-ends : (s : Step) → s ≡ stepOf t x → goesOn s ≡ false → LeadMeant bytes (leadOf s (r .next) (n + 1))
-    unfolding closedAs leadOf checked checkedOf
+    pub leading-ends : (s : Step) → s ≡ stepOf t x → goesOn s ≡ false → OpeningMeant bytes (openingAt s (r .next) (n + 1))
+    unfolding closedAs openingAt checked checkedOf
     leading-ends On e g = absurd (true≢false g)
     leading-ends (Opened h) e g =
         (further (Opened h) e (λ f. let z : _≡_ {A = ℕ} 0 1 = cc in omega arith), rw add-one (by (Opened h) e))
@@ -232,7 +232,7 @@ module _ {bytes t : List ℕ} {at n : ℕ} (w : Leading bytes t at n) where
 
 -- ---- After the opening
 
-open-goes-on : (h : Head) (n : ℕ) (xs : List Item) (l : Line) (limits : Limits) → isOutside l ≡ false
+open-goes-on : (h : Head) (n : ℕ) (xs : List Item) (l : LogLine) (limits : Limits) → isOutside l ≡ false
     → readOpen h n (itemIn l limits ∷ xs) ≡ readOpen h (suc n) xs
 unfolding readOpen itemIn
 open-goes-on h n xs line.Passed limits e = refl
@@ -241,7 +241,7 @@ open-goes-on h n xs (line.Open o) limits e = absurd (true≢false e)
 open-goes-on h n xs (line.Fill c) limits e = refl
 open-goes-on h n xs line.NoCall limits e = absurd (true≢false e)
 
-open-ends : (h : Head) (n : ℕ) (xs : List Item) (l : Line) (limits : Limits) → isOutside l ≡ true
+open-ends : (h : Head) (n : ℕ) (xs : List Item) (l : LogLine) (limits : Limits) → isOutside l ≡ true
     → readOpen h n (itemIn l limits ∷ xs) ≡ notACall n
 unfolding readOpen itemIn
 open-ends h n xs line.Passed limits e = absurd (false≢true e)
@@ -250,7 +250,7 @@ open-ends h n xs (line.Open o) limits e = refl
 open-ends h n xs (line.Fill c) limits e = absurd (false≢true e)
 open-ends h n xs line.NoCall limits e = refl
 
-count-line : (l : Line) (limits : Limits) → callsAt l ≡ countOf (itemIn l limits)
+count-line : (l : LogLine) (limits : Limits) → callsAt l ≡ countOf (itemIn l limits)
 unfolding itemIn countOf
 count-line line.Passed limits = refl
 count-line line.Table limits = refl
@@ -258,7 +258,7 @@ count-line (line.Open o) limits = refl
 count-line (line.Fill c) limits = refl
 count-line line.NoCall limits = refl
 
-pub calls-little : (l : Line) → callsAt l ≤ 1
+pub calls-little : (l : LogLine) → callsAt l ≤ 1
 calls-little line.Passed = omega arith
 calls-little line.Table = omega arith
 calls-little (line.Open o) = omega arith
@@ -267,9 +267,9 @@ calls-little line.NoCall = omega arith
 
 -- a delivery can stand there, and is one call
 pub passing-delivery : {bytes : List ℕ} {at next : ℕ} → DeliveryTo bytes at next
-    → PassingAt bytes at (record { outside = false; calls = 1; next = next })
+    → TestedAt bytes at (record { outside = false; calls = 1; next = next })
 passing-delivery {bytes} {at} d =
-    subst (λ next. PassingAt bytes at (record { outside = false; calls = 1; next = next })) (d .ends)
+    subst (λ next. TestedAt bytes at (record { outside = false; calls = 1; next = next })) (d .ends)
     record { line = _; found = delivery-found bytes at (d .delivery) (d .line); outside = refl; calls = refl }
 
 -- the lines from an opening up to a place are good
@@ -282,7 +282,7 @@ pub following-first : {bytes : List ℕ} {h : Head} {from before : ℕ} → Reac
 following-first reached = record { reached = reached; read = refl }
 
 module _ {bytes : List ℕ} {h : Head} {from before at n calls : ℕ} (w : Following bytes h from before at n calls) where
-  module _ {l : Line} {next : ℕ} (found : FoundAt bytes at l next) where
+  module _ {l : LogLine} {next : ℕ} (found : FoundAt bytes at l next) where
     pub following-next : isOutside l ≡ false → (k : ℕ) → k ≡ callsAt l → Following bytes h from before next (n + 1) (calls + k)
     following-next e k f = record {
       reached = reached-next (w .reached) (found .item) k (f ∙ count-line l (found .limits));
@@ -301,5 +301,5 @@ module _ {bytes : List ℕ} {h : Head} {from before at n calls : ℕ} (w : Follo
   following-last over =
       let none = none-left bytes at (w .reached .inside) over in
       let all : length (lines bytes) ≡ n = w .reached .lineCount ∙ rw none (omega arith) in
-      let made : length (callsOf bytes) ≡ calls = w .reached .callCount ∙ rw none (omega arith) in
+      let made : length (logCalls bytes) ≡ calls = w .reached .callCount ∙ rw none (omega arith) in
       rw (w .read, none, all, made)

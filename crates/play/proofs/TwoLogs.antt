@@ -1,14 +1,13 @@
 -- The claim about two logs, from the claim about whole lists.
-use mathlib.Core.Bool.{true, not}
+use mathlib.Core.Bool.{true}
 use mathlib.Core.List.{List, [], _∷_, List·Memᴰ, List·Memᴰ·head, List·Memᴰ·tail, List·Memᴰ·not-nil, List·Memᴰ·cases-cons}
 use mathlib.Core.Logic.{⊎-elim}
 use mathlib.Core.Path.{_≡_, refl, ap, _∙_}
 use Prim.Native.Nat.{ℕ}
 use Rattle.base.proofs.Logic.{and-parts}
-use lib.ListN.{length}
 use Rattle.rules.specs.declared.Head.{Head}
 use Rattle.rules.specs.Opening.{headOk}
-use Rattle.book.specs.Answers.{Answer, answerCode}
+use Rattle.book.specs.Answers.{answerCode}
 use Rattle.book.specs.Answers.Answer.{done, refused}
 use Rattle.book.specs.Arguments.{Call}
 use Rattle.book.specs.Cells.{Book, bookFits}
@@ -18,10 +17,10 @@ use Rattle.book.specs.Plain.{plainAnswer, keep, plainAnswers}
 use Rattle.book.proofs.Agreement.{answers-agree}
 use Rattle.claim.specs.Claim.{Claim}
 use Rattle.claim.proofs.WholeLists.{claim}
-use Rattle.log.specs.Log.{lines, Item, items, callsIn, readLog}
+use Rattle.log.specs.Log.{Item, items, callsIn, readLog}
 use Rattle.log.specs.Log.Item.{passed, table, opening, call, neither}
 use Rattle.log.specs.Log.Reading.{log}
-use Rattle.play.specs.Playing.{callsOf, lengthsOk, codeOf, afterItem, codes, listsAs, playAfter, answersAs, answersAfter}
+use Rattle.play.specs.Playing.{logCalls, lengthsOk, itemCode, afterItem, codes, listsAs, playAfter, answersAs, answersAfter}
 use Rattle.play.specs.Claim.{plainCodes, TwoLogs}
 use Rattle.play.proofs.Ending.{head-good, after-where-fits}
 
@@ -30,7 +29,7 @@ use Rattle.play.proofs.Ending.{head-good, after-where-fits}
 -- the lines without a call have the same codes on both sides
 same-codes : (h : Head) (b : Book) (kept : List Call) (xs : List Item) → answers h b (callsIn xs) ≡ plainAnswers h kept (callsIn xs)
     → codes h b xs ≡ plainCodes h kept xs
-unfolding callsIn answers plainAnswers codes codeOf afterItem plainCodes
+unfolding callsIn answers plainAnswers codes itemCode afterItem plainCodes
 same-codes h b kept [] e = refl
 same-codes h b kept (passed ∷ xs) e = ap (λ (l : List ℕ). 103 ∷ l) (same-codes h b kept xs e)
 same-codes h b kept (table t ∷ xs) e = ap (λ (l : List ℕ). 103 ∷ l) (same-codes h b kept xs e)
@@ -43,7 +42,7 @@ same-codes h b kept (neither ∷ xs) e = ap (λ (l : List ℕ). 103 ∷ l) (same
 
 -- a call that is refused with 10 has a line with 10
 conflict-told : (h : Head) (b : Book) (xs : List Item) → List·Memᴰ (refused 10) (answers h b (callsIn xs)) → List·Memᴰ 10 (codes h b xs)
-unfolding callsIn answers codes codeOf afterItem
+unfolding callsIn answers codes itemCode afterItem
 conflict-told h b [] m = absurd (List·Memᴰ·not-nil m)
 conflict-told h b (passed ∷ xs) m = List·Memᴰ·tail (conflict-told h b xs m)
 conflict-told h b (table t ∷ xs) m = List·Memᴰ·tail (conflict-told h b xs m)
@@ -70,7 +69,7 @@ module _ (h : Head) (x : List ℕ) (b : Book) (p : List ℕ) (is : readLog x ≡
   new : openAfter h b ≡ opened h
   new = after-where-fits h b good ∙ rw fits
 
-  left : playAfter x b p ≡ afterAll h (openAfter h b) (callsOf x)
+  left : playAfter x b p ≡ afterAll h (openAfter h b) (logCalls x)
   unfolding playAfter listsAs
   left = rw (is, long, new)
 
@@ -80,12 +79,12 @@ module _ (h : Head) (x : List ℕ) (b : Book) (p : List ℕ) (is : readLog x ≡
 
 pub two-logs : TwoLogs
 two-logs h g x y b c p q is is' long long' =
-    let whole : Claim h g b c (callsOf x) (callsOf y) =
-    claim h g b c (callsOf x) (callsOf y) (opens h x b p is long) (opens g y c q is' long') in
+    let whole : Claim h g b c (logCalls x) (logCalls y) =
+    claim h g b c (logCalls x) (logCalls y) (opens h x b p is long) (opens g y c q is' long') in
     let ours = new h x b p is long in
     let theirs = new g y c q is' long' in
     record {
-      answers-plain = told h x b p is long ∙ same-codes h (opened h) [] (items x) (answers-agree h (callsOf x));
+      answers-plain = told h x b p is long ∙ same-codes h (opened h) [] (items x) (answers-agree h (logCalls x));
       publish-answers = λ out. rw (left h x b p is long) (whole .publish-answers out);
       publish-writes = λ out. rw (left h x b p is long) (whole .publish-writes out);
       equal-exactly = whole .equal-exactly;

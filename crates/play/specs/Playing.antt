@@ -16,15 +16,15 @@ use Rattle.log.specs.Log.Reading.{log, noOpening, notACall, refused}
 use Rattle.play.specs.declared.Checked.{Checked}
 use Rattle.play.specs.declared.Checked.the-variants as coded
 use Rattle.play.specs.declared.Played.{Played}
-use Rattle.play.specs.declared.Played.the-variants.{Is, Lengths}
+use Rattle.play.specs.declared.Played.the-variants.{AsChecked, Lengths}
 
 -- the filling calls of a log, in order
-abbrev pub callsOf : List ℕ → List Call
-callsOf bytes = callsIn (items bytes)
+abbrev pub logCalls : List ℕ → List Call
+logCalls bytes = callsIn (items bytes)
 
 -- a log: its head, how many lines it has, and how many filling calls
 unfoldable pub checkedOf : List ℕ → Reading → Checked
-checkedOf bytes (log h) = coded.Log h (length (lines bytes)) (length (callsOf bytes))
+checkedOf bytes (log h) = coded.Log h (length (lines bytes)) (length (logCalls bytes))
 checkedOf bytes noOpening = coded.NoOpening
 checkedOf bytes (notACall n) = coded.NotACall n
 checkedOf bytes (refused n k) = coded.Refused n k
@@ -38,12 +38,12 @@ lengthsOk bytes h b answers = bookFits h b && eqb (length answers) (length (line
 
 -- the answer's code of a filling call (0 stored, 100 late, 101 repeat, or a refusal's number), 102 for the opening, 103 for a line
 -- without a call
-unfoldable pub codeOf : Head → Book → Item → ℕ
-codeOf h b passed = 103
-codeOf h b (table t) = 103
-codeOf h b (opening o) = 102
-codeOf h b (call c) = answerCode (answer h b c)
-codeOf h b neither = 103
+unfoldable pub itemCode : Head → Book → Item → ℕ
+itemCode h b passed = 103
+itemCode h b (table t) = 103
+itemCode h b (opening o) = 102
+itemCode h b (call c) = answerCode (answer h b c)
+itemCode h b neither = 103
 
 unfoldable pub afterItem : Head → Book → Item → Book
 afterItem h b passed = b
@@ -55,21 +55,21 @@ afterItem h b neither = b
 -- a byte for each line, each call given the lists as the one before left them
 unfoldable pub codes : Head → Book → List Item → List ℕ
 codes h b [] = []
-codes h b (x ∷ xs) = codeOf h b x ∷ codes h (afterItem h b x) xs
+codes h b (x ∷ xs) = itemCode h b x ∷ codes h (afterItem h b x) xs
 
 -- playing answers as checking does, and 2 for lengths that are wrong
 unfoldable pub playedAs : List ℕ → Book → List ℕ → Reading → Played
-playedAs bytes b answers (log h) = cond (lengthsOk bytes h b answers) (Is (checked bytes)) Lengths
-playedAs bytes b answers noOpening = Is (checked bytes)
-playedAs bytes b answers (notACall n) = Is (checked bytes)
-playedAs bytes b answers (refused n k) = Is (checked bytes)
+playedAs bytes b answers (log h) = cond (lengthsOk bytes h b answers) (AsChecked (checked bytes)) Lengths
+playedAs bytes b answers noOpening = AsChecked (checked bytes)
+playedAs bytes b answers (notACall n) = AsChecked (checked bytes)
+playedAs bytes b answers (refused n k) = AsChecked (checked bytes)
 
 unfoldable pub playAnswer : List ℕ → Book → List ℕ → Played
 playAnswer bytes b answers = playedAs bytes b answers (readLog bytes)
 
 -- the lists after the calls, in order after opening; a refusal leaves them
 unfoldable pub listsAs : List ℕ → Book → List ℕ → Reading → Book
-listsAs bytes b answers (log h) = cond (lengthsOk bytes h b answers) (afterAll h (opened h) (callsOf bytes)) b
+listsAs bytes b answers (log h) = cond (lengthsOk bytes h b answers) (afterAll h (opened h) (logCalls bytes)) b
 listsAs bytes b answers noOpening = b
 listsAs bytes b answers (notACall n) = b
 listsAs bytes b answers (refused n k) = b

@@ -2,7 +2,7 @@
 use base::Performed;
 use book::Received;
 use book::calls;
-use log::line::Line;
+use log::line::LogLine;
 use log::lines;
 use rules::Head;
 ghost use mathlib.Core.Bool.{true};
@@ -15,7 +15,7 @@ ghost use Rattle.book.specs.Cells.{bookFits};
 ghost use Rattle.book.specs.Filling.{afterAll};
 ghost use Rattle.log.specs.declared.limits.Limits.{Limits as limitsType};
 ghost use Rattle.log.specs.Log.{itemIn, items, lines as linesOf};
-ghost use Rattle.play.specs.Playing.{codeOf, afterItem, codes, callsOf};
+ghost use Rattle.play.specs.Playing.{itemCode, afterItem, codes, logCalls};
 ghost use Rattle.play.specs.Inner.Filling.{isDone};
 
 pub fn is_done(opened: Performed) -> bool
@@ -39,53 +39,54 @@ fn code_of(filed: Received) -> u8
 }
 
 // One line, whatever table it has.
-fn fill(
+fn play_line(
     head: Head,
     values: &mut [u32],
     versions: &mut [u32],
     statuses: &mut [u8],
     holidays: &mut [u8],
     readings: &mut [u32],
-    reads: &mut [u32],
+    read_versions: &mut [u32],
     agreed: &mut [u32],
     agreed_versions: &mut [u32],
     counts: &mut [u16],
     widths: &mut [u16],
-    line: Line,
+    line: LogLine,
 ) -> u8
     requires { ⌜
         (headOk head ≡ true)
-        × (bookFits head (lentBook values versions statuses holidays readings reads agreed «agreed_versions» counts widths) ≡ true)
+        × (bookFits head (lentBook values versions statuses holidays readings «read_versions» agreed «agreed_versions» counts widths)
+        ≡ true)
         ⌝ }
     ensures { λ r. ⌜
         (let book =
-        lentBook (values .entry) (versions .entry) (statuses .entry) (holidays .entry) (readings .entry) (reads .entry)
+        lentBook (values .entry) (versions .entry) (statuses .entry) (holidays .entry) (readings .entry) («read_versions» .entry)
         (agreed .entry) («agreed_versions» .entry) (counts .entry) (widths .entry) in
-        (limits : limitsType) → (r ≡ codeOf head book (itemIn line limits))
-        × (lentBook (values .exit) (versions .exit) (statuses .exit) (holidays .exit) (readings .exit) (reads .exit)
+        (limits : limitsType) → (r ≡ itemCode head book (itemIn line limits))
+        × (lentBook (values .exit) (versions .exit) (statuses .exit) (holidays .exit) (readings .exit) («read_versions» .exit)
         (agreed .exit) («agreed_versions» .exit) (counts .exit) (widths .exit)
         ≡ afterItem head book (itemIn line limits)))
         ⌝ }
 {
     match line {
-        Line::Passed => 103,
-        Line::Table => 103,
-        Line::Open(_) => 102,
-        Line::Fill(call) => code_of(calls::fill(
+        LogLine::Passed => 103,
+        LogLine::Table => 103,
+        LogLine::Open(_) => 102,
+        LogLine::Fill(call) => code_of(calls::make(
             head,
             values,
             versions,
             statuses,
             holidays,
             readings,
-            reads,
+            read_versions,
             agreed,
             agreed_versions,
             counts,
             widths,
             call,
         )),
-        Line::NoCall => 103,
+        LogLine::NoCall => 103,
     }
 }
 
@@ -98,7 +99,7 @@ pub fn fill_all(
     statuses: &mut [u8],
     holidays: &mut [u8],
     readings: &mut [u32],
-    reads: &mut [u32],
+    read_versions: &mut [u32],
     agreed: &mut [u32],
     agreed_versions: &mut [u32],
     counts: &mut [u16],
@@ -107,17 +108,18 @@ pub fn fill_all(
 )
     requires { ⌜
         (headOk head ≡ true)
-        × (bookFits head (lentBook values versions statuses holidays readings reads agreed «agreed_versions» counts widths) ≡ true)
+        × (bookFits head (lentBook values versions statuses holidays readings «read_versions» agreed «agreed_versions» counts widths)
+        ≡ true)
         × (length (now answers) ≡ length (linesOf (now log)))
         ⌝ }
     ensures { λ _. ⌜
         (let book =
-        lentBook (values .entry) (versions .entry) (statuses .entry) (holidays .entry) (readings .entry) (reads .entry)
+        lentBook (values .entry) (versions .entry) (statuses .entry) (holidays .entry) (readings .entry) («read_versions» .entry)
         (agreed .entry) («agreed_versions» .entry) (counts .entry) (widths .entry) in
         (now (answers .exit) ≡ codes head book (items (now (log .entry))))
-        × (lentBook (values .exit) (versions .exit) (statuses .exit) (holidays .exit) (readings .exit) (reads .exit)
+        × (lentBook (values .exit) (versions .exit) (statuses .exit) (holidays .exit) (readings .exit) («read_versions» .exit)
         (agreed .exit) («agreed_versions» .exit) (counts .exit) (widths .exit)
-        ≡ afterAll head book (callsOf (now (log .entry)))))
+        ≡ afterAll head book (logCalls (now (log .entry)))))
         ⌝ }
 {
     let mut at = 0;
@@ -125,14 +127,14 @@ pub fn fill_all(
     while at < log.len() {
         let found = lines::line_from(log, at);
         let line = found.line;
-        let code = fill(
+        let code = play_line(
             head,
             values,
             versions,
             statuses,
             holidays,
             readings,
-            reads,
+            read_versions,
             agreed,
             agreed_versions,
             counts,

@@ -2,8 +2,7 @@
 mod filling;
 mod reading;
 
-use crate::reading::Lead;
-use base::Performed;
+use crate::reading::OpeningFound;
 use rules::Head;
 ghost use mathlib.Core.Path.{_≡_};
 ghost use Rattle.book.specs.Lent.{lentBook};
@@ -22,7 +21,7 @@ pub enum Checked {
 
 // What playing a log answers.
 pub enum Played {
-    Is(Checked),
+    AsChecked(Checked),
     // 2: a list of the wrong length, or not a byte for each line
     Lengths,
 }
@@ -30,10 +29,10 @@ pub enum Played {
 pub fn check(log: &[u8]) -> Checked
     ensures { λ r. ⌜ r ≡ checked (now (log .entry)) ⌝ }
 {
-    let lead = reading::leading(log);
-    match lead {
-        Lead::Opened(head, at, lines) => reading::following(log, head, at, lines),
-        Lead::Is(found) => found,
+    let opening = reading::find_opening(log);
+    match opening {
+        OpeningFound::Opened(head, at, lines) => reading::following(log, head, at, lines),
+        OpeningFound::Without(found) => found,
     }
 }
 
@@ -44,7 +43,7 @@ pub fn play(
     statuses: &mut [u8],
     holidays: &mut [u8],
     readings: &mut [u32],
-    reads: &mut [u32],
+    read_versions: &mut [u32],
     agreed: &mut [u32],
     agreed_versions: &mut [u32],
     counts: &mut [u16],
@@ -54,10 +53,10 @@ pub fn play(
     ensures { λ r. ⌜
         (let bytes = now (log .entry) in
         let book =
-        lentBook (values .entry) (versions .entry) (statuses .entry) (holidays .entry) (readings .entry) (reads .entry)
+        lentBook (values .entry) (versions .entry) (statuses .entry) (holidays .entry) (readings .entry) («read_versions» .entry)
         (agreed .entry) («agreed_versions» .entry) (counts .entry) (widths .entry) in
         (r ≡ playAnswer bytes book (now (answers .entry)))
-        × (lentBook (values .exit) (versions .exit) (statuses .exit) (holidays .exit) (readings .exit) (reads .exit)
+        × (lentBook (values .exit) (versions .exit) (statuses .exit) (holidays .exit) (readings .exit) («read_versions» .exit)
         (agreed .exit) («agreed_versions» .exit) (counts .exit) (widths .exit)
         ≡ playAfter bytes book (now (answers .entry)))
         × (now (answers .exit) ≡ answersAfter bytes book (now (answers .entry))))
@@ -76,7 +75,7 @@ pub fn play(
                 statuses,
                 holidays,
                 readings,
-                reads,
+                read_versions,
                 agreed,
                 agreed_versions,
                 counts,
@@ -93,17 +92,17 @@ pub fn play(
                 statuses,
                 holidays,
                 readings,
-                reads,
+                read_versions,
                 agreed,
                 agreed_versions,
                 counts,
                 widths,
                 answers,
             );
-            Played::Is(found)
+            Played::AsChecked(found)
         }
-        Checked::NoOpening => Played::Is(found),
-        Checked::NotACall(_) => Played::Is(found),
-        Checked::Refused(_, _) => Played::Is(found),
+        Checked::NoOpening => Played::AsChecked(found),
+        Checked::NotACall(_) => Played::AsChecked(found),
+        Checked::Refused(_, _) => Played::AsChecked(found),
     }
 }

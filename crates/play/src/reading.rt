@@ -5,7 +5,7 @@ use log::limits;
 use log::limits::Limits;
 use log::line;
 use log::line::Entry;
-use log::line::Line;
+use log::line::LogLine;
 use log::line::Opening;
 use log::lines;
 use rules::Head;
@@ -19,8 +19,8 @@ ghost use Rattle.rules.specs.Limits.{loadAnswer};
 ghost use Rattle.log.specs.Log.{tableOf, itemIn, items, readOpen, orBuiltIn};
 ghost use Rattle.log.specs.Log.Item.{table as tableItem};
 ghost use Rattle.play.specs.Playing.{checkedOf};
-ghost use Rattle.play.specs.Inner.Steps.{headStep, openingStep, stepOf, goesOn, tableAfter, leadOf, LeadMeant};
-ghost use Rattle.play.specs.Inner.Steps.{isOutside, callsAt, PassingAt, Reached};
+ghost use Rattle.play.specs.Inner.Steps.{headStep, openingStep, stepOf, goesOn, tableAfter, openingAt, OpeningMeant};
+ghost use Rattle.play.specs.Inner.Steps.{isOutside, callsAt, TestedAt, Reached};
 
 // What a line before the opening comes to.
 pub enum Step {
@@ -31,9 +31,9 @@ pub enum Step {
 }
 
 // The opening's head, the place after its line and that line's number; or what the log is without one.
-pub enum Lead {
+pub enum OpeningFound {
     Opened(Head, usize, usize),
-    Is(Checked),
+    Without(Checked),
 }
 
 // The limit at a place of the table, which has none in front of the first.
@@ -84,14 +84,14 @@ fn step_of(table: Limits, entry: Entry) -> Step
 {
     let line = entry.line;
     match line {
-        Line::Passed => Step::On,
-        Line::Table => {
+        LogLine::Passed => Step::On,
+        LogLine::Table => {
             let limits = entry.limits;
             table_step(table, limits)
         }
-        Line::Open(opening) => opening_step(table, opening),
-        Line::Fill(_) => Step::NotACall,
-        Line::NoCall => Step::NotACall,
+        LogLine::Open(opening) => opening_step(table, opening),
+        LogLine::Fill(_) => Step::NotACall,
+        LogLine::NoCall => Step::NotACall,
     }
 }
 
@@ -111,28 +111,28 @@ fn table_after(table: Limits, entry: Entry) -> Limits
 {
     let line = entry.line;
     match line {
-        Line::Passed => table,
-        Line::Table => entry.limits,
-        Line::Open(_) => table,
-        Line::Fill(_) => table,
-        Line::NoCall => table,
+        LogLine::Passed => table,
+        LogLine::Table => entry.limits,
+        LogLine::Open(_) => table,
+        LogLine::Fill(_) => table,
+        LogLine::NoCall => table,
     }
 }
 
-fn lead_of(step: Step, at: usize, n: usize) -> Lead
-    ensures { λ r. ⌜ r ≡ leadOf step at n ⌝ }
+fn opening_at(step: Step, at: usize, n: usize) -> OpeningFound
+    ensures { λ r. ⌜ r ≡ openingAt step at n ⌝ }
 {
     match step {
-        Step::On => Lead::Is(Checked::NoOpening),
-        Step::Opened(head) => Lead::Opened(head, at, n),
-        Step::NotACall => Lead::Is(Checked::NotACall(n)),
-        Step::Refused(k) => Lead::Is(Checked::Refused(n, k)),
+        Step::On => OpeningFound::Without(Checked::NoOpening),
+        Step::Opened(head) => OpeningFound::Opened(head, at, n),
+        Step::NotACall => OpeningFound::Without(Checked::NotACall(n)),
+        Step::Refused(k) => OpeningFound::Without(Checked::Refused(n, k)),
     }
 }
 
 // The lines up to the opening: those that are passed over, and one table.
-pub fn leading(log: &[u8]) -> Lead
-    ensures { λ r. ⌜ LeadMeant (now (log .entry)) r ⌝ }
+pub fn find_opening(log: &[u8]) -> OpeningFound
+    ensures { λ r. ⌜ OpeningMeant (now (log .entry)) r ⌝ }
 {
     let mut table = limits::none();
     let mut at = 0;
@@ -145,52 +145,52 @@ pub fn leading(log: &[u8]) -> Lead
         n += 1;
         let step = step_of(table, entry);
         if !goes_on(step) {
-            return lead_of(step, at, n);
+            return opening_at(step, at, n);
         }
         table = table_after(table, entry);
     }
-    Lead::Is(Checked::NoOpening)
+    OpeningFound::Without(Checked::NoOpening)
 }
 
-fn is_outside(line: Line) -> bool
+fn is_outside(line: LogLine) -> bool
     ensures { λ r. ⌜ r ≡ isOutside line ⌝ }
 {
     match line {
-        Line::Passed => false,
-        Line::Table => true,
-        Line::Open(_) => true,
-        Line::Fill(_) => false,
-        Line::NoCall => true,
+        LogLine::Passed => false,
+        LogLine::Table => true,
+        LogLine::Open(_) => true,
+        LogLine::Fill(_) => false,
+        LogLine::NoCall => true,
     }
 }
 
-fn calls_at(line: Line) -> usize
+fn calls_at(line: LogLine) -> usize
     ensures { λ r. ⌜ r ≡ callsAt line ⌝ }
 {
     match line {
-        Line::Passed => 0,
-        Line::Table => 0,
-        Line::Open(_) => 0,
-        Line::Fill(_) => 1,
-        Line::NoCall => 0,
+        LogLine::Passed => 0,
+        LogLine::Table => 0,
+        LogLine::Open(_) => 0,
+        LogLine::Fill(_) => 1,
+        LogLine::NoCall => 0,
     }
 }
 
 // Whether a line cannot stand after the opening, how many calls it is, and where the next one begins.
-pub struct Passing {
+pub struct TestedLine {
     pub outside: bool,
     pub calls: usize,
     pub next: usize,
 }
 
 // The line that begins at `at`: nearly every one is a delivery.
-fn passing_at(log: &[u8], at: usize) -> Passing
+fn tested_at(log: &[u8], at: usize) -> TestedLine
     requires { ⌜ at < length (now log) ⌝ }
-    ensures { λ r. ⌜ PassingAt (now (log .entry)) at r ⌝ }
+    ensures { λ r. ⌜ TestedAt (now (log .entry)) at r ⌝ }
 {
     let next = deliveries::delivery_end(log, at);
     if next != 0 {
-        return Passing {
+        return TestedLine {
             outside: false,
             calls: 1,
             next,
@@ -198,7 +198,7 @@ fn passing_at(log: &[u8], at: usize) -> Passing
     }
     let found = lines::read_from(log, at);
     let line = found.line;
-    Passing {
+    TestedLine {
         outside: is_outside(line),
         calls: calls_at(line),
         next: found.next,
@@ -214,7 +214,7 @@ pub fn following(log: &[u8], head: Head, from: usize, before: usize) -> Checked
     let mut n = before;
     let mut calls = 0;
     while at < log.len() {
-        let passing = passing_at(log, at);
+        let passing = tested_at(log, at);
         at = passing.next;
         n += 1;
         if passing.outside {

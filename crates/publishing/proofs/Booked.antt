@@ -18,9 +18,9 @@ use Rattle.rules.specs.Opening.{Cells, slotsPerDay}
 use Rattle.rules.specs.Spans.{isS, isN, isScaled, start, slotsIn, spanOf, noSpan, outcomeAt, spans}
 use Rattle.rules.specs.Inner.Lent.{AgreedLow, WidthsLow}
 use Rattle.rules.proofs.Bounds.{Bounded}
-use Rattle.rules.proofs.Forms.{Form}
-use Rattle.rules.proofs.Forms.Filled.{delivered, agreed, outage, linear, sameDay, nothing}
-use Rattle.rules.proofs.Forms.Form.{unscaled, scaledLinear, scaledSameDay}
+use Rattle.rules.proofs.Qualities.{Form}
+use Rattle.rules.proofs.Qualities.Filled.{delivered, agreed, outage, linear, sameDay, nothing}
+use Rattle.rules.proofs.Qualities.Form.{unscaled, scaledLinear, scaledSameDay}
 use Rattle.rules.proofs.Neighbours.{Neighbours, each-span, side-by-side}
 use Rattle.rules.proofs.Outcomes.{outcome-form, scaled-inside}
 use Rattle.rules.proofs.States.{state-low, range-ordered, range-low, open-exactly, scaled-exactly, scaled-whole, scaled-within, agreed-no-s}

@@ -2,7 +2,7 @@
 use mathlib.Core.Bool.{true}
 use mathlib.Core.List.{List, [], _∷_, _++_, append-assoc, append-nil}
 use mathlib.Core.Path.{_≡_, refl, sym, ap, ap₂, _∙_}
-use Prim.Native.Nat.{ℕ, _+_, _-_, _*_, _≤_, _<_}
+use Prim.Native.Nat.{ℕ, _+_, _-_, _*_, _≤_}
 use native.Mathlib.Nat.{zero-add, add-zero}
 use native.Mathlib.Omega.{arith}
 use lib.ListN.{length, take, drop, take-append-drop, length-append, length-drop}
@@ -17,7 +17,7 @@ use Rattle.rules.specs.Opening.{Cells, slotCount}
 use Rattle.rules.specs.Spans.{outcomeAt, outcomes, spans}
 use Rattle.rules.specs.Inner.Passes.{begunBefore}
 use Rattle.rules.proofs.Bounds.{Bounded}
-use Rattle.rules.proofs.Begun.{begun-all}
+use Rattle.rules.proofs.SpansInOrder.{begun-all}
 use Rattle.file.specs.Layout.{row, table, slotRow, spanRow, trailerRow, figuresOf, tablesOf, fileOf}
 use Rattle.publishing.specs.Publishing.{published, fileLength}
 use Rattle.publishing.specs.Inner.Publishing.{firstSlots, bufferOf, bufferAt}

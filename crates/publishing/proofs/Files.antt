@@ -11,13 +11,13 @@ use Rattle.base.proofs.Lists.{length-upTo, getD-upTo}
 use Rattle.base.proofs.Logic.{passed}
 use Rattle.rules.specs.declared.Head.{Head}
 use Rattle.rules.specs.Opening.{Cells, dayTests, headTests, headOk, firstDay, slotsPerDay, slotCount}
-use Rattle.rules.specs.Spans.{outcomeAt, outcomes}
+use Rattle.rules.specs.Spans.{outcomeAt, noOutcome, outcomes}
 use Rattle.rules.proofs.Bounds.{bounded}
 use Rattle.rules.proofs.Outcomes.{outcome-fits}
 use Rattle.file.specs.declared.Verdict.the-variants.{Accepted}
 use Rattle.file.specs.Layout.{figuresOf, tablesOf, fileOf}
 use Rattle.file.specs.Reader.{headFieldTests, layoutOk, layoutFits, readFile, tablesPart}
-use Rattle.file.specs.Contents.{WellFormed, noSlot, slot, slotRecord, recordsOf}
+use Rattle.file.specs.Contents.{WellFormed, slot, slotRecord, recordsOf}
 use Rattle.publishing.specs.Publishing.{published}
 use Rattle.publishing.specs.Inner.Publishing.{Sound}
 use Rattle.file.proofs.Content.{injective}
@@ -34,7 +34,7 @@ module _ (h : Head) (b : Cells) where
 
   pub slot-own : (i : ℕ) → i < slotCount h → slot (published h b) i ≡ outcomeAt h b i
   unfolding published outcomes
-  slot-own i l = getD-upTo (outcomeAt h b) noSlot 0 (slotCount h) i l ∙ ap (outcomeAt h b) (zero-add i)
+  slot-own i l = getD-upTo (outcomeAt h b) noOutcome 0 (slotCount h) i l ∙ ap (outcomeAt h b) (zero-add i)
 
   agree : Agree (recordsOf (published h b)) (bookTables h b)
   unfolding published slotCount slotsPerDay

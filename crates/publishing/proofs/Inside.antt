@@ -1,9 +1,9 @@
 -- Inside a stretch: what is known before a slot of it, and what one slot more, or a run of direct slots, does to it.
 use mathlib.Core.Bool.{Bool, true}
-use mathlib.Core.List.{List, [], _∷_, _++_, append-nil, append-assoc}
+use mathlib.Core.List.{List, [], _∷_, _++_, append-nil}
 use mathlib.Core.Path.{_≡_, refl, sym, ap, _∙_}
 use Prim.Native.Nat.{ℕ, zero, suc, _+_, _-_, _*_, _≤_, _<_}
-use native.Mathlib.Nat.{add-zero, add-suc, le-refl, eq-or-lt-of-le}
+use native.Mathlib.Nat.{add-zero, add-suc, eq-or-lt-of-le}
 use native.Mathlib.Numerals.{add-one}
 use native.Mathlib.Omega.{arith}
 use mathlib.Core.Logic.{⊎-elim}
@@ -12,7 +12,7 @@ use Rattle.base.specs.Lists.{upTo}
 use Rattle.base.proofs.Logic.{either}
 use Rattle.rules.specs.declared.Head.{Head}
 use Rattle.rules.specs.declared.Outcome.{Outcome}
-use Rattle.rules.specs.declared.linear.Line.{Line}
+use Rattle.rules.specs.declared.linear.StraightLine.{StraightLine}
 use Rattle.rules.specs.declared.stretch.Stretch.{Stretch}
 use Rattle.rules.specs.declared.stretch.Begins.{Begins}
 use Rattle.rules.specs.Opening.{Cells, slotCount}
@@ -24,7 +24,7 @@ use Rattle.rules.specs.Inner.Walks.{zeroAt, zeroBefore, lineAt, lineBefore, dir
 use Rattle.rules.specs.Inner.Stretches.{stretchAt, carriedAt, beginsAt, fitOutcome, fitNext}
 use Rattle.rules.specs.Inner.Passes.{passAt, listOf, begunBefore}
 use Rattle.rules.proofs.Bounds.{Bounded}
-use Rattle.rules.proofs.Begun.{begun-room}
+use Rattle.rules.proofs.SpansInOrder.{begun-room}
 use Rattle.rules.proofs.Directs.{direct-filled, direct-shape}
 use Rattle.rules.proofs.Steps.{step-outcome, step-carried, fit-until}
 use Rattle.rules.proofs.Stretches.{carried-on}
@@ -41,8 +41,8 @@ use Rattle.publishing.proofs.Records.{records-more}
 use Rattle.publishing.proofs.Totals.{totals-next, begun-next, slots-next, countable}
 
 -- the stretch begins at slot `from` and ends before slot `until`; d₀ is the buffer at its first slot, d that before slot i
-pub record Inside (h : Head) (b : Cells) (d₀ : List ℕ) (from until : ℕ) (o : Bool) (l : Line) (here : Stretch) (t : Totals) (d : List ℕ)
-    (i : ℕ)
+pub record Inside (h : Head) (b : Cells) (d₀ : List ℕ) (from until : ℕ) (o : Bool) (l : StraightLine) (here : Stretch) (t : Totals)
+    (d : List ℕ) (i : ℕ)
     : Type 0 where
   pub further : from ≤ i
   pub inside : i ≤ until
@@ -74,7 +74,7 @@ module _ (h : Head) (w : Bounded h) (b : Cells) where
 
 module _ (h : Head) (w : Bounded h) (b : Cells) (d₀ : List ℕ) (from until : ℕ) (last : until ≤ slotCount h) where
   -- one slot on
-  module _ (o : Bool) (l : Line) (here : Stretch) (t : Totals) (d : List ℕ) (i : ℕ) (held : Inside h b d₀ from until o l here t d i)
+  module _ (o : Bool) (l : StraightLine) (here : Stretch) (t : Totals) (d : List ℕ) (i : ℕ) (held : Inside h b d₀ from until o l here t d i)
       (inside : i < until)
       (slot : Outcome) (x : ℕ) (filled : slot ≡ filledAt h (b .slots) (b .agreed) (b .holidays) i)
       (shaped : x ≡ shapeAt h (b .slots) (b .agreed) (b .holidays) i) where
@@ -103,7 +103,7 @@ module _ (h : Head) (w : Bounded h) (b : Cells) (d₀ : List ℕ) (from until : 
         → ⊥ = λ e. omega (arith, e ∙ ap (λ (r : Stretch). r .until) (sym on-carried) ∙ on-end) in
         on-carried ∙ carried-on h w b (i + 1) (omega arith) ends .1
 
-    inside-on : (o' : Bool) (l' : Line) (out : List ℕ) → o' ≡ zeroAt (b .slots .versions) (b .slots .statuses) (slotCount h) i
+    inside-on : (o' : Bool) (l' : StraightLine) (out : List ℕ) → o' ≡ zeroAt (b .slots .versions) (b .slots .statuses) (slotCount h) i
         → l' ≡ lineAt h (b .slots) (b .agreed .versions) i → 6 * slotCount h + 14 * length (spans h b) ≤ length d₀
         → out ≡ written d (6 * i) (row (slotRow (fitOutcome slot x here)))
         → Inside h b d₀ from until o' l' (fitNext slot x here) (addedTo t (fitOutcome slot x here)) out (i + 1)
@@ -129,7 +129,7 @@ module _ (h : Head) (w : Bounded h) (b : Cells) (d₀ : List ℕ) (from until : 
               ∙ slot-more h w b y i (from + 1) (omega arith) (omega (arith, begun));
         }
 
-    pub inside-next : (o' : Bool) (l' : Line) (y : Outcome) (on : Stretch) (t' : Totals) (out : List ℕ)
+    pub inside-next : (o' : Bool) (l' : StraightLine) (y : Outcome) (on : Stretch) (t' : Totals) (out : List ℕ)
         → o' ≡ zeroAt (b .slots .versions) (b .slots .statuses) (slotCount h) i → l' ≡ lineAt h (b .slots) (b .agreed .versions) i
         → 6 * slotCount h + 14 * length (spans h b) ≤ length d₀ → y ≡ fitOutcome slot x here → on ≡ fitNext slot x here → t' ≡ addedTo t y
         → out ≡ written d (6 * i) (row (slotRow y)) → Inside h b d₀ from until o' l' on t' out (i + 1)
@@ -151,12 +151,12 @@ module _ (h : Head) (b : Cells) (i : ℕ) (here : Stretch) where
 
 -- a run of direct slots on
 module _ (h : Head) (w : Bounded h) (b : Cells) (d₀ : List ℕ) (from until : ℕ) (last : until ≤ slotCount h)
-    (room : 6 * slotCount h + 14 * length (spans h b) ≤ length d₀) (o : Bool) (l : Line) (here : Stretch) (t : Totals) (d : List ℕ) (i : ℕ)
-    (held : Inside h b d₀ from until o l here t d i) where
+    (room : 6 * slotCount h + 14 * length (spans h b) ≤ length d₀) (o : Bool) (l : StraightLine) (here : Stretch) (t : Totals) (d : List ℕ)
+    (i : ℕ) (held : Inside h b d₀ from until o l here t d i) where
   abbrev zeroed : ℕ → Bool
   zeroed k = zeroBefore (b .slots .versions) (b .slots .statuses) (slotCount h) (i + k)
 
-  abbrev lined : ℕ → Line
+  abbrev lined : ℕ → StraightLine
   lined k = lineBefore h (b .slots) (b .agreed .versions) (i + k)
 
   abbrev put : ℕ → List ℕ
@@ -192,7 +192,7 @@ module _ (h : Head) (w : Bounded h) (b : Cells) (d₀ : List ℕ) (from until : 
         add-one (i + k),
       ) at on)
 
-  pub inside-run : (end : ℕ) (o' : Bool) (l' : Line) (t' : Totals) (out : List ℕ) → i ≤ end → end ≤ until
+  pub inside-run : (end : ℕ) (o' : Bool) (l' : StraightLine) (t' : Totals) (out : List ℕ) → i ≤ end → end ≤ until
       → ((j : ℕ) → j < end → i ≤ j → directAt h (b .slots) (b .agreed) j ≡ true)
       → o' ≡ zeroBefore (b .slots .versions) (b .slots .statuses) (slotCount h) end → l' ≡ lineBefore h (b .slots) (b .agreed .versions) end
       → t' ≡ directTotals h (b .slots) (b .agreed) t i (end - i) → out ≡ put (end - i) → Inside h b d₀ from until o' l' here t' out end
@@ -206,8 +206,8 @@ module _ (h : Head) (w : Bounded h) (b : Cells) (d₀ : List ℕ) (from until : 
   run-countable low narrow k m direct = countable h b (i + k) w low narrow (omega (arith, last)) _ (run k m direct .totals)
 
 -- behind the last slot
-module _ (h : Head) (b : Cells) (d₀ : List ℕ) (from until : ℕ) (o : Bool) (l : Line) (here : Stretch) (t : Totals) (d : List ℕ) (i : ℕ)
-    (held : Inside h b d₀ from until o l here t d i) (further : from < until) (ends : until ≤ i) where
+module _ (h : Head) (b : Cells) (d₀ : List ℕ) (from until : ℕ) (o : Bool) (l : StraightLine) (here : Stretch) (t : Totals) (d : List ℕ)
+    (i : ℕ) (held : Inside h b d₀ from until o l here t d i) (further : from < until) (ends : until ≤ i) where
   pub passed : record { walk = record { at = i; outage = o; line = l }; stretch = here } ≡ passAt h b i
   unfolding passAt walkAt
   passed =

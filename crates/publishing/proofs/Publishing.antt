@@ -62,8 +62,8 @@ module _ (h : Head) (b : Cells) (s : Sound h b) where
       ∷ not (any (readFaultAt (readsOf b)) 0 (suc (h .days))) ∷ not (any (agreedFaultAt (b .agreed)) 0 (slotCount h)) ∷ []
 
   read-clean : (i : ℕ) → readFaultAt (readsOf b) i ≡ false
-      → (numberFault 99_999_999 (getD (b .reads) i 0) (getD (b .readings) i 0) ≡ false)
-      × (numberFault 9999 (getD (b .reads) i 0) (getD (b .widths) i 0) ≡ false)
+      → (numberFault 99_999_999 (getD (b .readVersions) i 0) (getD (b .readings) i 0) ≡ false)
+      × (numberFault 9999 (getD (b .readVersions) i 0) (getD (b .widths) i 0) ≡ false)
   unfolding readFault
   read-clean i e = neither _ _ e
 
@@ -72,7 +72,7 @@ module _ (h : Head) (b : Cells) (s : Sound h b) where
   readings-low d =
       let le =
       all-low (b .readings) (suc (h .days)) 99_999_999 (lengths-of h b (s .fit) .readings) (readFaultAt (readsOf b))
-      (λ i e. number-low 99_999_999 (getD (b .reads) i 0) (getD (b .readings) i 0) (read-clean i e .0))
+      (λ i e. number-low 99_999_999 (getD (b .readVersions) i 0) (getD (b .readings) i 0) (read-clean i e .0))
       (not-true _ (passed cellTests (s .cells) 2)) d in
       omega arith
 
@@ -80,7 +80,8 @@ module _ (h : Head) (b : Cells) (s : Sound h b) where
   unfolding cellsOk
   widths-low =
       all-low (b .widths) (suc (h .days)) 9999 (lengths-of h b (s .fit) .widths) (readFaultAt (readsOf b))
-      (λ i e. number-low 9999 (getD (b .reads) i 0) (getD (b .widths) i 0) (read-clean i e .1)) (not-true _ (passed cellTests (s .cells) 2))
+      (λ i e. number-low 9999 (getD (b .readVersions) i 0) (getD (b .widths) i 0) (read-clean i e .1))
+      (not-true _ (passed cellTests (s .cells) 2))
 
   pub agreed-low : AgreedLow (b .agreed)
   unfolding cellsOk
@@ -101,15 +102,15 @@ module _ (h : Head) (b : Cells) (s : Sound h b) where
               holidays = l .holidays;
             };
         dialled = record { length = l .readings; low = readings-low };
-        reads = l .reads;
+        readVersions = l .readVersions;
         settled = record { values = l .agreed; versions = l .agreedVersions; low = agreed-low };
         widths = record { length = l .widths; low = widths-low };
       }
 
   -- the spans and the length as publishing computes them
-  module _ (m : ℕ) (e : m ≡ readCount (b .reads) (length (b .reads)) - 1) where
+  module _ (m : ℕ) (e : m ≡ readCount (b .readVersions) (length (b .readVersions)) - 1) where
     pub spans-found : m ≡ length (spans h b)
-    spans-found = e ∙ sym (span-count h b (lengths-of h b (s .fit) .reads))
+    spans-found = e ∙ sym (span-count h b (lengths-of h b (s .fit) .readVersions))
 
     pub spans-low : m ≤ 400
     spans-low = omega (arith, spans-found, spans-few h b, bounded h (s .head) .days-high)

@@ -1,7 +1,7 @@
 -- The records of direct slots, one after the other.
 use mathlib.Core.Bool.{Bool, true, false}
 use mathlib.Core.List.{List, [], _∷_, _++_}
-use mathlib.Core.Path.{_≡_, refl, sym, ap, _∙_}
+use mathlib.Core.Path.{_≡_, refl, ap, _∙_}
 use Prim.Native.Nat.{ℕ, suc, _+_, _-_, _*_, _≤_, _<_}
 use native.Mathlib.Numerals.{add-one}
 use native.Mathlib.Omega.{arith}
@@ -12,7 +12,7 @@ use Rattle.base.proofs.Lists.{length-upTo, upTo-snoc}
 use Rattle.rules.specs.declared.Head.{Head}
 use Rattle.rules.specs.declared.Outcome.{Outcome}
 use Rattle.rules.specs.Opening.{Slots, Agreed, slotCount}
-use Rattle.rules.specs.Inner.Walks.{zeroAt, zeroBefore, directAt, directOf, DirectTo}
+use Rattle.rules.specs.Inner.Walks.{zeroAt, zeroBefore, directAt, directOf}
 use Rattle.file.specs.Layout.{row, table, slotRow}
 use Rattle.file.specs.Inner.Writing.{written}
 use Rattle.file.proofs.Rows.{length-row, length-table}

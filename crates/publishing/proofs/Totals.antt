@@ -12,9 +12,8 @@ use Rattle.rules.specs.declared.Head.{Head}
 use Rattle.rules.specs.declared.Outcome.{Outcome}
 use Rattle.rules.specs.declared.Quality.{Quality}
 use Rattle.rules.specs.declared.Quality.the-variants.{A, S, F, N}
-use lib.ListN.{length, length-append}
+use lib.ListN.{length}
 use Rattle.rules.specs.declared.pass.Pass.{Pass}
-use Rattle.rules.specs.declared.stretch.Begins.{Begins}
 use Rattle.rules.specs.Opening.{Cells, firstDay, slotCount}
 use Rattle.rules.specs.Spans.{isA, isS, isF, isN, outcomeAt, outcomes, spans}
 use Rattle.rules.specs.Inner.Lent.{AgreedLow, WidthsLow}
@@ -25,10 +24,9 @@ use Rattle.rules.proofs.Bounds.{Bounded, count-high}
 use Rattle.rules.proofs.Outcomes.{outcome-fits}
 use Rattle.rules.proofs.Summaries.{sum-small}
 use Rattle.publishing.specs.declared.tables.Totals.{Totals}
-use Rattle.file.specs.Layout.{one, total, row, table, slotRow, spanRow, figuresOf}
+use Rattle.file.specs.Layout.{one, total, figuresOf}
 use Rattle.publishing.specs.Publishing.{published}
 use Rattle.publishing.specs.declared.tables.Progress.{Progress}
-use Rattle.file.specs.Inner.Writing.{written}
 use Rattle.publishing.specs.Inner.Publishing.{totalsOf, addedTo, firstSlots, progressAt, Countable}
 use Rattle.file.proofs.Lists.{total-sum}
 

@@ -36,7 +36,7 @@ fn put_file(
     statuses: &[u8],
     holidays: &[u8],
     readings: &[u32],
-    reads: &[u32],
+    read_versions: &[u32],
     agreed: &[u32],
     agreed_versions: &[u32],
     widths: &[u16],
@@ -44,11 +44,11 @@ fn put_file(
     spans: usize,
 )
     requires { ⌜
-        (let b = lentCells values versions statuses holidays readings reads agreed «agreed_versions» widths in
+        (let b = lentCells values versions statuses holidays readings «read_versions» agreed «agreed_versions» widths in
         Roomy head b (now out) × (spans ≡ length (spansOf head b)))
         ⌝ }
     ensures { λ _. ⌜
-        (let b = lentCells (values .entry) (versions .entry) (statuses .entry) (holidays .entry) (readings .entry) (reads .entry)
+        (let b = lentCells (values .entry) (versions .entry) (statuses .entry) (holidays .entry) (readings .entry) («read_versions» .entry)
         (agreed .entry) («agreed_versions» .entry) (widths .entry) in
         now (out .exit) ≡ fileOf (published head b) ++ drop (fileLength head b) (now (out .entry)))
         ⌝ }
@@ -61,7 +61,7 @@ fn put_file(
         statuses,
         holidays,
         readings,
-        reads,
+        read_versions,
         agreed,
         agreed_versions,
         widths,
@@ -98,20 +98,20 @@ fn put_sound(
     statuses: &[u8],
     holidays: &[u8],
     readings: &[u32],
-    reads: &[u32],
+    read_versions: &[u32],
     agreed: &[u32],
     agreed_versions: &[u32],
     widths: &[u16],
     out: &mut [u8],
 ) -> Published
-    requires { ⌜ Sound head (lentCells values versions statuses holidays readings reads agreed «agreed_versions» widths) ⌝ }
+    requires { ⌜ Sound head (lentCells values versions statuses holidays readings «read_versions» agreed «agreed_versions» widths) ⌝ }
     ensures { λ r. ⌜
-        (let b = lentCells (values .entry) (versions .entry) (statuses .entry) (holidays .entry) (readings .entry) (reads .entry)
+        (let b = lentCells (values .entry) (versions .entry) (statuses .entry) (holidays .entry) (readings .entry) («read_versions» .entry)
         (agreed .entry) («agreed_versions» .entry) (widths .entry) in
         Put head b (now (out .entry)) r (now (out .exit)))
         ⌝ }
 {
-    let spans = readings::span_count(reads);
+    let spans = readings::span_count(read_versions);
     let length = length_of(head, spans);
     if out.len() < length {
         return Published::Refused(7);
@@ -123,7 +123,7 @@ fn put_sound(
         statuses,
         holidays,
         readings,
-        reads,
+        read_versions,
         agreed,
         agreed_versions,
         widths,
@@ -141,7 +141,7 @@ pub fn lists_fit(
     statuses: &[u8],
     holidays: &[u8],
     readings: &[u32],
-    reads: &[u32],
+    read_versions: &[u32],
     agreed: &[u32],
     agreed_versions: &[u32],
     counts: &[u16],
@@ -149,8 +149,8 @@ pub fn lists_fit(
 ) -> bool
     requires { ⌜ headOk head ≡ true ⌝ }
     ensures { λ r. ⌜
-        (let book = lentBook (values .entry) (versions .entry) (statuses .entry) (holidays .entry) (readings .entry) (reads .entry)
-        (agreed .entry) («agreed_versions» .entry) (counts .entry) (widths .entry) in
+        (let book = lentBook (values .entry) (versions .entry) (statuses .entry) (holidays .entry) (readings .entry)
+        («read_versions» .entry) (agreed .entry) («agreed_versions» .entry) (counts .entry) (widths .entry) in
         r ≡ bookFits head book)
         ⌝ }
 {
@@ -161,7 +161,7 @@ pub fn lists_fit(
         statuses.len(),
         holidays.len(),
         readings.len(),
-        reads.len(),
+        read_versions.len(),
         agreed.len(),
         agreed_versions.len(),
         counts.len(),
@@ -177,7 +177,7 @@ fn put_fitted(
     statuses: &[u8],
     holidays: &[u8],
     readings: &[u32],
-    reads: &[u32],
+    read_versions: &[u32],
     agreed: &[u32],
     agreed_versions: &[u32],
     counts: &[u16],
@@ -185,12 +185,12 @@ fn put_fitted(
     out: &mut [u8],
 ) -> Published
     requires { ⌜
-        (let book = lentBook values versions statuses holidays readings reads agreed «agreed_versions» counts widths in
+        (let book = lentBook values versions statuses holidays readings «read_versions» agreed «agreed_versions» counts widths in
         (headOk head ≡ true) × (bookFits head book ≡ true))
         ⌝ }
     ensures { λ r. ⌜
-        (let book = lentBook (values .entry) (versions .entry) (statuses .entry) (holidays .entry) (readings .entry) (reads .entry)
-        (agreed .entry) («agreed_versions» .entry) (counts .entry) (widths .entry) in
+        (let book = lentBook (values .entry) (versions .entry) (statuses .entry) (holidays .entry) (readings .entry)
+        («read_versions» .entry) (agreed .entry) («agreed_versions» .entry) (counts .entry) (widths .entry) in
         Left head book (now (out .entry)) r (now (out .exit)))
         ⌝ }
 {
@@ -201,7 +201,7 @@ fn put_fitted(
         statuses,
         holidays,
         readings,
-        reads,
+        read_versions,
         agreed,
         agreed_versions,
         counts,
@@ -216,7 +216,7 @@ fn put_fitted(
         statuses,
         holidays,
         readings,
-        reads,
+        read_versions,
         agreed,
         agreed_versions,
         widths,
@@ -232,7 +232,7 @@ pub fn publish(
     statuses: &[u8],
     holidays: &[u8],
     readings: &[u32],
-    reads: &[u32],
+    read_versions: &[u32],
     agreed: &[u32],
     agreed_versions: &[u32],
     counts: &[u16],
@@ -240,8 +240,8 @@ pub fn publish(
     out: &mut [u8],
 ) -> Published
     ensures { λ r. ⌜
-        (let book = lentBook (values .entry) (versions .entry) (statuses .entry) (holidays .entry) (readings .entry) (reads .entry)
-        (agreed .entry) («agreed_versions» .entry) (counts .entry) (widths .entry) in
+        (let book = lentBook (values .entry) (versions .entry) (statuses .entry) (holidays .entry) (readings .entry)
+        («read_versions» .entry) (agreed .entry) («agreed_versions» .entry) (counts .entry) (widths .entry) in
         (r ≡ publishAnswer head book (now (out .entry)))
         × (now (out .exit) ≡ publishAfter head book (now (out .entry))))
         ⌝ }
@@ -256,7 +256,7 @@ pub fn publish(
         statuses,
         holidays,
         readings,
-        reads,
+        read_versions,
         agreed,
         agreed_versions,
         counts,
@@ -271,7 +271,7 @@ pub fn publish(
         statuses,
         holidays,
         readings,
-        reads,
+        read_versions,
         agreed,
         agreed_versions,
         counts,

@@ -186,7 +186,7 @@ fn put_inside(
     statuses: &[u8],
     holidays: &[u8],
     readings: &[u32],
-    reads: &[u32],
+    read_versions: &[u32],
     agreed: &[u32],
     agreed_versions: &[u32],
     widths: &[u16],
@@ -194,11 +194,11 @@ fn put_inside(
     from: Progress,
 ) -> Progress
     requires { ⌜
-        (let b = lentCells values versions statuses holidays readings reads agreed «agreed_versions» widths in
+        (let b = lentCells values versions statuses holidays readings «read_versions» agreed «agreed_versions» widths in
         Entering head b (now out) from)
         ⌝ }
     ensures { λ r. ⌜
-        (let b = lentCells (values .entry) (versions .entry) (statuses .entry) (holidays .entry) (readings .entry) (reads .entry)
+        (let b = lentCells (values .entry) (versions .entry) (statuses .entry) (holidays .entry) (readings .entry) («read_versions» .entry)
         (agreed .entry) («agreed_versions» .entry) (widths .entry) in
         PutInside head b (now (out .entry)) (now (out .exit)) from r)
         ⌝ }
@@ -285,7 +285,7 @@ fn put_stretch(
     statuses: &[u8],
     holidays: &[u8],
     readings: &[u32],
-    reads: &[u32],
+    read_versions: &[u32],
     agreed: &[u32],
     agreed_versions: &[u32],
     widths: &[u16],
@@ -294,11 +294,11 @@ fn put_stretch(
     here: Progress,
 ) -> Progress
     requires { ⌜
-        (let b = lentCells values versions statuses holidays readings reads agreed «agreed_versions» widths in
+        (let b = lentCells values versions statuses holidays readings «read_versions» agreed «agreed_versions» widths in
         Next head b (now out) table here)
         ⌝ }
     ensures { λ r. ⌜
-        (let b = lentCells (values .entry) (versions .entry) (statuses .entry) (holidays .entry) (readings .entry) (reads .entry)
+        (let b = lentCells (values .entry) (versions .entry) (statuses .entry) (holidays .entry) (readings .entry) («read_versions» .entry)
         (agreed .entry) («agreed_versions» .entry) (widths .entry) in
         PutStretch head b (now (out .entry)) (now (out .exit)) here r)
         ⌝ }
@@ -313,7 +313,7 @@ fn put_stretch(
         statuses,
         holidays,
         readings,
-        reads,
+        read_versions,
         agreed,
         agreed_versions,
         widths,
@@ -340,7 +340,7 @@ fn put_stretch(
         statuses,
         holidays,
         readings,
-        reads,
+        read_versions,
         agreed,
         agreed_versions,
         widths,
@@ -357,7 +357,7 @@ pub fn put_tables(
     statuses: &[u8],
     holidays: &[u8],
     readings: &[u32],
-    reads: &[u32],
+    read_versions: &[u32],
     agreed: &[u32],
     agreed_versions: &[u32],
     widths: &[u16],
@@ -365,11 +365,11 @@ pub fn put_tables(
     table: usize,
 ) -> Totals
     requires { ⌜
-        (let b = lentCells values versions statuses holidays readings reads agreed «agreed_versions» widths in
+        (let b = lentCells values versions statuses holidays readings «read_versions» agreed «agreed_versions» widths in
         Roomy head b (now out) × (table ≡ 6 * slotCount head))
         ⌝ }
     ensures { λ r. ⌜
-        (let b = lentCells (values .entry) (versions .entry) (statuses .entry) (holidays .entry) (readings .entry) (reads .entry)
+        (let b = lentCells (values .entry) (versions .entry) (statuses .entry) (holidays .entry) (readings .entry) («read_versions» .entry)
         (agreed .entry) («agreed_versions» .entry) (widths .entry) in
         (r ≡ totalsOf (outcomes head b)) × (now (out .exit) ≡ bufferAt head b (now (out .entry)) (slotCount head)))
         ⌝ }
@@ -385,7 +385,7 @@ pub fn put_tables(
             statuses,
             holidays,
             readings,
-            reads,
+            read_versions,
             agreed,
             agreed_versions,
             widths,

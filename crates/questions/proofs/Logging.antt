@@ -5,11 +5,11 @@ use Prim.Native.Nat.{ℕ}
 use native.Mathlib.Omega.{arith}
 use borrow.Author.Tests.{eq-eqb, ne-eqb}
 use lib.ListN.{length, set}
-use Rattle.log.specs.declared.line.Line.{Line}
+use Rattle.log.specs.declared.line.LogLine.{LogLine}
 use Rattle.log.specs.Line.{entryOf}
 use Rattle.play.specs.declared.Checked.{Checked}
 use Rattle.play.specs.Playing.{checked}
-use Rattle.questions.specs.Logs.{checkCode, figuresIn, logCode, figuresAfter, lineCode, lineFields, oneCode, oneFields}
+use Rattle.questions.specs.Logs.{checkCode, logFigures, logCode, logAfter, lineCode, lineFields, oneCode, oneFields}
 
 -- nine stores fill a list of nine, seven one of seven
 pub nine-set : (xs : List ℕ) {a b c d e f g h i : ℕ} → length xs ≡ 9
@@ -41,13 +41,13 @@ seven-set (x0 ∷ x1 ∷ x2 ∷ x3 ∷ x4 ∷ x5 ∷ x6 ∷ y ∷ ys) l = absurd
 
 -- a log, with figures of nine places or not
 module _ (bytes held : List ℕ) where
-  pub other-figures : (length held ≡ 9 → ⊥) → (2 ≡ logCode bytes held) × (held ≡ figuresAfter bytes held)
-  unfolding logCode figuresAfter
+  pub other-figures : (length held ≡ 9 → ⊥) → (2 ≡ logCode bytes held) × (held ≡ logAfter bytes held)
+  unfolding logCode logAfter
   other-figures n = rw (ne-eqb _ _ n) (refl, refl)
 
   pub figures-told : length held ≡ 9 → (found : Checked) → found ≡ checked bytes → {r : ℕ} {held' : List ℕ}
-      → (r ≡ checkCode found) × (held' ≡ figuresIn found held) → (r ≡ logCode bytes held) × (held' ≡ figuresAfter bytes held)
-  unfolding logCode figuresAfter
+      → (r ≡ checkCode found) × (held' ≡ logFigures found held) → (r ≡ logCode bytes held) × (held' ≡ logAfter bytes held)
+  unfolding logCode logAfter
   figures-told nine found e told = rw (eq-eqb _ _ nine, ← e) told
 
   -- a line, with fields of seven places or not
@@ -55,7 +55,7 @@ module _ (bytes held : List ℕ) where
   unfolding oneCode oneFields
   other-fields n = rw (ne-eqb _ _ n) (refl, refl)
 
-  pub fields-told : length held ≡ 7 → (found : Line) → found ≡ entryOf bytes .line → {r : ℕ} {held' : List ℕ}
+  pub fields-told : length held ≡ 7 → (found : LogLine) → found ≡ entryOf bytes .line → {r : ℕ} {held' : List ℕ}
       → (r ≡ lineCode found) × (held' ≡ lineFields found held) → (r ≡ oneCode bytes held) × (held' ≡ oneFields bytes held)
   unfolding oneCode oneFields
   fields-told seven found e told = rw (eq-eqb _ _ seven, ← e) told

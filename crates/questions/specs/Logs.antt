@@ -6,13 +6,13 @@ use lib.Dec.{eqb}
 use lib.ListN.{length}
 use Rattle.book.specs.declared.calls.Call.{Call}
 use Rattle.book.specs.declared.calls.Call.the-variants.{Delivery, Agreed, Holiday, Register}
-use Rattle.log.specs.declared.line.Line.{Line}
-use Rattle.log.specs.declared.line.Line.the-variants.{Passed, Table, Open, Fill, NoCall}
+use Rattle.log.specs.declared.line.LogLine.{LogLine}
+use Rattle.log.specs.declared.line.LogLine.the-variants.{Passed, Table, Open, Fill, NoCall}
 use Rattle.log.specs.Line.{entryOf}
 use Rattle.play.specs.declared.Checked.{Checked}
 use Rattle.play.specs.declared.Checked.the-variants.{Log, NoOpening, NotACall, Refused}
 use Rattle.play.specs.declared.Played.{Played}
-use Rattle.play.specs.declared.Played.the-variants.{Is, Lengths}
+use Rattle.play.specs.declared.Played.the-variants.{AsChecked, Lengths}
 use Rattle.play.specs.Playing.{checked}
 
 -- 0 for a log, 104 without an opening, 105 where a line is no call, 13 or 1 where one is refused
@@ -30,23 +30,23 @@ checkLine (NotACall line) = line
 checkLine (Refused line k) = line
 
 -- the head, the number of lines and that of filling calls; what is no log leaves the figures
-abbrev pub figuresIn : Checked → List ℕ → List ℕ
-figuresIn (Log h lines calls) held =
+abbrev pub logFigures : Checked → List ℕ → List ℕ
+logFigures (Log h lines calls) held =
     h .year ∷ h .month ∷ h .day ∷ h .days ∷ h .interval ∷ h .limit ∷ h .tolerance ∷ lines ∷ calls ∷ []
-figuresIn NoOpening held = held
-figuresIn (NotACall line) held = held
-figuresIn (Refused line k) held = held
+logFigures NoOpening held = held
+logFigures (NotACall line) held = held
+logFigures (Refused line k) held = held
 
 -- 2, as for any list of a wrong length, where there are not nine places
 unfoldable pub logCode : List ℕ → List ℕ → ℕ
 logCode bytes held = cond (eqb (length held) 9) (checkCode (checked bytes)) 2
 
-unfoldable pub figuresAfter : List ℕ → List ℕ → List ℕ
-figuresAfter bytes held = cond (eqb (length held) 9) (figuresIn (checked bytes) held) held
+unfoldable pub logAfter : List ℕ → List ℕ → List ℕ
+logAfter bytes held = cond (eqb (length held) 9) (logFigures (checked bytes) held) held
 
 -- playing answers as checking does, or 2
 abbrev pub playedCode : Played → ℕ
-playedCode (Is found) = checkCode found
+playedCode (AsChecked found) = checkCode found
 playedCode Lengths = 2
 
 -- ---- One line
@@ -64,14 +64,14 @@ callFields (Agreed slot version value) = slot ∷ version ∷ value ∷ 0 ∷ 0 
 callFields (Holiday day) = day ∷ 0 ∷ 0 ∷ 0 ∷ 0 ∷ 0 ∷ 0 ∷ []
 callFields (Register boundary version reading width) = boundary ∷ version ∷ reading ∷ width ∷ 0 ∷ 0 ∷ 0 ∷ []
 
-abbrev pub lineCode : Line → ℕ
+abbrev pub lineCode : LogLine → ℕ
 lineCode Passed = 103
 lineCode Table = 106
 lineCode (Open o) = 102
 lineCode (Fill c) = callCode c
 lineCode NoCall = 105
 
-abbrev pub lineFields : Line → List ℕ → List ℕ
+abbrev pub lineFields : LogLine → List ℕ → List ℕ
 lineFields Passed held = 0 ∷ 0 ∷ 0 ∷ 0 ∷ 0 ∷ 0 ∷ 0 ∷ []
 lineFields Table held = 0 ∷ 0 ∷ 0 ∷ 0 ∷ 0 ∷ 0 ∷ 0 ∷ []
 lineFields (Open o) held = o .year ∷ o .month ∷ o .day ∷ o .days ∷ o .interval ∷ o .kind ∷ o .tolerance ∷ []

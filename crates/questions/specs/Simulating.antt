@@ -11,7 +11,7 @@ use Rattle.book.specs.Cells.{Book, bookFits}
 use Rattle.claim.specs.Claim.{leftBy, plainFile}
 use Rattle.berth.specs.declared.Simulated.{Simulated}
 use Rattle.berth.specs.declared.Simulated.the-variants.{Run, Refused}
-use Rattle.berth.specs.Run.{callsOf, reportOf, runRules, listsWith, bytesWith}
+use Rattle.berth.specs.Run.{runCalls, reportOf, runRules, listsWith, bytesWith}
 
 -- a report of another length is a list of the wrong length, 2
 unfoldable pub hostAnswer : Head → ℕ → ℕ → Book → List ℕ → List ℤ → Simulated
@@ -29,10 +29,10 @@ reportIn (Refused n) report = report
 
 -- the ten lists, the buffer and the report afterwards
 unfoldable pub hostLists : Head → ℕ → ℕ → Book → List ℕ → List ℤ → Book
-hostLists h seed loss b out report = listsWith (hostAnswer h seed loss b out report) (leftBy h (callsOf h seed loss)) b
+hostLists h seed loss b out report = listsWith (hostAnswer h seed loss b out report) (leftBy h (runCalls h seed loss)) b
 
 unfoldable pub hostBytes : Head → ℕ → ℕ → Book → List ℕ → List ℤ → List ℕ
-hostBytes h seed loss b out report = bytesWith (hostAnswer h seed loss b out report) (plainFile h (callsOf h seed loss)) out
+hostBytes h seed loss b out report = bytesWith (hostAnswer h seed loss b out report) (plainFile h (runCalls h seed loss)) out
 
 unfoldable pub hostReport : Head → ℕ → ℕ → Book → List ℕ → List ℤ → List ℤ
 hostReport h seed loss b out report = reportIn (hostAnswer h seed loss b out report) report

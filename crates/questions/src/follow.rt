@@ -146,7 +146,7 @@ pub extern "C" fn sawmauve_explain(
     statuses: &[u8],
     holidays: &[u8],
     readings: &[u32],
-    reads: &[u32],
+    read_versions: &[u32],
     agreed: &[u32],
     agreed_versions: &[u32],
     counts: &[u16],
@@ -156,7 +156,7 @@ pub extern "C" fn sawmauve_explain(
 ) -> u32
     ensures { λ r. ⌜
         (let head = headOf year month day days interval limit tolerance in
-        let book = lentBook (values .entry) (versions .entry) (statuses .entry) (holidays .entry) (readings .entry) (reads .entry)
+        let book = lentBook (values .entry) (versions .entry) (statuses .entry) (holidays .entry) (readings .entry) («read_versions» .entry)
         (agreed .entry) («agreed_versions» .entry) (counts .entry) (widths .entry) in
         (r ≡ explainCode head book slot (now (fields .entry)))
         × (now (fields .exit) ≡ fieldsAfter head book slot (now (fields .entry))))
@@ -170,7 +170,7 @@ pub extern "C" fn sawmauve_explain(
         statuses,
         holidays,
         readings,
-        reads,
+        read_versions,
         agreed,
         agreed_versions,
         counts,

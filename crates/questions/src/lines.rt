@@ -1,15 +1,15 @@
 // The export of a file's line.
-use line::Lined;
+use line::LineWritten;
 ghost use mathlib.Core.Path.{_≡_};
 ghost use Rattle.line.specs.Line.{lineAnswer, lineAfter};
 ghost use Rattle.questions.specs.Lines.{linedCode};
 
-fn lined_code(lined: Lined) -> u64
+fn lined_code(lined: LineWritten) -> u64
     ensures { λ r. ⌜ r ≡ linedCode lined ⌝ }
 {
     match lined {
-        Lined::Length(n) => n as u64,
-        Lined::Refused(n) => n as u64,
+        LineWritten::Length(n) => n as u64,
+        LineWritten::Refused(n) => n as u64,
     }
 }
 

@@ -1,6 +1,6 @@
 // The exports of a whole log, and of one line of it.
 use book::calls::Call;
-use log::line::Line;
+use log::line::LogLine;
 use play::Checked;
 use play::Played;
 ghost use mathlib.Core.List.{[], _∷_};
@@ -8,13 +8,13 @@ ghost use mathlib.Core.Path.{_≡_};
 ghost use lib.ListN.{length};
 ghost use Rattle.book.specs.Lent.{lentBook};
 ghost use Rattle.play.specs.Playing.{checked, playAnswer, playAfter, answersAfter};
-ghost use Rattle.questions.specs.Logs.{checkCode, checkLine, figuresIn, logCode, figuresAfter, playedCode};
+ghost use Rattle.questions.specs.Logs.{checkCode, checkLine, logFigures, logCode, logAfter, playedCode};
 ghost use Rattle.questions.specs.Logs.{callCode, callFields, lineCode, lineFields, oneCode, oneFields};
 
 // The nine figures of a log, and 0; else the number of what it is.
 fn tell_log(found: Checked, figures: &mut [u64]) -> u32
     requires { ⌜ length (now figures) ≡ 9 ⌝ }
-    ensures { λ r. ⌜ (r ≡ checkCode found) × (now (figures .exit) ≡ figuresIn found (now (figures .entry))) ⌝ }
+    ensures { λ r. ⌜ (r ≡ checkCode found) × (now (figures .exit) ≡ logFigures found (now (figures .entry))) ⌝ }
 {
     match found {
         Checked::Log(head, lines, calls) => {
@@ -39,7 +39,7 @@ fn tell_log(found: Checked, figures: &mut [u64]) -> u32
 pub extern "C" fn sawmauve_log(log: &[u8], figures: &mut [u64]) -> u32
     ensures { λ r. ⌜
         (r ≡ logCode (now (log .entry)) (now (figures .entry)))
-        × (now (figures .exit) ≡ figuresAfter (now (log .entry)) (now (figures .entry)))
+        × (now (figures .exit) ≡ logAfter (now (log .entry)) (now (figures .entry)))
         ⌝ }
 {
     if figures.len() != 9 {
@@ -82,7 +82,7 @@ fn played_code(played: Played) -> u32
     ensures { λ r. ⌜ r ≡ playedCode played ⌝ }
 {
     match played {
-        Played::Is(found) => check_code(found),
+        Played::AsChecked(found) => check_code(found),
         Played::Lengths => 2,
     }
 }
@@ -95,7 +95,7 @@ pub extern "C" fn sawmauve_play(
     statuses: &mut [u8],
     holidays: &mut [u8],
     readings: &mut [u32],
-    reads: &mut [u32],
+    read_versions: &mut [u32],
     agreed: &mut [u32],
     agreed_versions: &mut [u32],
     counts: &mut [u16],
@@ -105,10 +105,10 @@ pub extern "C" fn sawmauve_play(
     ensures { λ r. ⌜
         (let bytes = now (log .entry) in
         let book =
-        lentBook (values .entry) (versions .entry) (statuses .entry) (holidays .entry) (readings .entry) (reads .entry)
+        lentBook (values .entry) (versions .entry) (statuses .entry) (holidays .entry) (readings .entry) («read_versions» .entry)
         (agreed .entry) («agreed_versions» .entry) (counts .entry) (widths .entry) in
         (r ≡ playedCode (playAnswer bytes book (now (answers .entry))))
-        × (lentBook (values .exit) (versions .exit) (statuses .exit) (holidays .exit) (readings .exit) (reads .exit)
+        × (lentBook (values .exit) (versions .exit) (statuses .exit) (holidays .exit) (readings .exit) («read_versions» .exit)
         (agreed .exit) («agreed_versions» .exit) (counts .exit) (widths .exit)
         ≡ playAfter bytes book (now (answers .entry)))
         × (now (answers .exit) ≡ answersAfter bytes book (now (answers .entry))))
@@ -121,7 +121,7 @@ pub extern "C" fn sawmauve_play(
         statuses,
         holidays,
         readings,
-        reads,
+        read_versions,
         agreed,
         agreed_versions,
         counts,
@@ -182,20 +182,20 @@ fn tell_call(call: Call, fields: &mut [u32]) -> u32
     }
 }
 
-fn tell_line(line: Line, fields: &mut [u32]) -> u32
+fn tell_line(line: LogLine, fields: &mut [u32]) -> u32
     requires { ⌜ length (now fields) ≡ 7 ⌝ }
     ensures { λ r. ⌜ (r ≡ lineCode line) × (now (fields .exit) ≡ lineFields line (now (fields .entry))) ⌝ }
 {
     match line {
-        Line::Passed => {
+        LogLine::Passed => {
             put_seven(fields, 0, 0, 0, 0, 0, 0, 0);
             103
         }
-        Line::Table => {
+        LogLine::Table => {
             put_seven(fields, 0, 0, 0, 0, 0, 0, 0);
             106
         }
-        Line::Open(o) => {
+        LogLine::Open(o) => {
             put_seven(
                 fields,
                 o.year,
@@ -208,8 +208,8 @@ fn tell_line(line: Line, fields: &mut [u32]) -> u32
             );
             102
         }
-        Line::Fill(call) => tell_call(call, fields),
-        Line::NoCall => 105,
+        LogLine::Fill(call) => tell_call(call, fields),
+        LogLine::NoCall => 105,
     }
 }
 

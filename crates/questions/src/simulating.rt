@@ -40,7 +40,7 @@ pub extern "C" fn sawmauve_simulate(
     statuses: &mut [u8],
     holidays: &mut [u8],
     readings: &mut [u32],
-    reads: &mut [u32],
+    read_versions: &mut [u32],
     agreed: &mut [u32],
     agreed_versions: &mut [u32],
     counts: &mut [u16],
@@ -50,12 +50,12 @@ pub extern "C" fn sawmauve_simulate(
 ) -> u32
     ensures { λ r. ⌜
         (let head = headOf year month day days interval limit tolerance in
-        let book = lentBook (values .entry) (versions .entry) (statuses .entry) (holidays .entry) (readings .entry) (reads .entry)
+        let book = lentBook (values .entry) (versions .entry) (statuses .entry) (holidays .entry) (readings .entry) («read_versions» .entry)
         (agreed .entry) («agreed_versions» .entry) (counts .entry) (widths .entry) in
         let given = now (out .entry) in
         let told = now (report .entry) in
         (r ≡ simulatedCode (hostAnswer head seed loss book given told))
-        × (lentBook (values .exit) (versions .exit) (statuses .exit) (holidays .exit) (readings .exit) (reads .exit)
+        × (lentBook (values .exit) (versions .exit) (statuses .exit) (holidays .exit) (readings .exit) («read_versions» .exit)
         (agreed .exit) («agreed_versions» .exit) (counts .exit) (widths .exit)
         ≡ hostLists head seed loss book given told)
         × (now (out .exit) ≡ hostBytes head seed loss book given told)
@@ -78,7 +78,7 @@ pub extern "C" fn sawmauve_simulate(
         statuses,
         holidays,
         readings,
-        reads,
+        read_versions,
         agreed,
         agreed_versions,
         counts,

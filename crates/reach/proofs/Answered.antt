@@ -14,18 +14,18 @@ use Rattle.book.specs.Answers.Answer.{done, stored, late, repeat, refused}
 use Rattle.book.specs.Arguments.{Call}
 use Rattle.book.specs.Cells.{Book}
 use Rattle.book.specs.Opening.{opened}
-use Rattle.book.specs.Filling.{answer, after as bookAfter, answers, afterAll}
+use Rattle.book.specs.Filling.{answer, after as afterCall, answers, afterAll}
 use Rattle.book.specs.Plain.{plainAnswer, plainAnswers, keep, keptOf}
 use Rattle.book.proofs.Agreement.{answers-agree}
 use Rattle.claim.specs.Claim.{leftBy}
-use Rattle.reach.specs.Needed.{Late, before, after, figure, Moves}
+use Rattle.reach.specs.Needed.{Late, bookBefore, bookAfter, figure, Moves}
 
 -- the last of a list of answers is the plain book's
 answers-last : (h : Head) (b : Book) (cs : List Call) (c : Call)
     → answers h b (cs ++ (c ∷ [])) ≡ answers h b cs ++ (answer h (afterAll h b cs) c ∷ [])
 unfolding answers afterAll
 answers-last h b [] c = refl
-answers-last h b (d ∷ cs) c = ap {B = List Answer} (λ l. answer h b d ∷ l) (answers-last h (bookAfter h b d) cs c)
+answers-last h b (d ∷ cs) c = ap {B = List Answer} (λ l. answer h b d ∷ l) (answers-last h (afterCall h b d) cs c)
 
 plain-last : (h : Head) (kept cs : List Call) (c : Call)
     → plainAnswers h kept (cs ++ (c ∷ [])) ≡ plainAnswers h kept cs ++ (plainAnswer h (keptOf h kept cs) c ∷ [])
@@ -52,7 +52,8 @@ stored-is (refused n) e = absurd (false≢true e)
 -- a delivery that the plain book stores, and a figure of a slot's outcome that it changes
 pub moves-by : (l : Late) (figureOf : Outcome → ℕ) (x y : ℕ)
     → isStored (plainAnswer (l .head) (keptOf (l .head) [] (l .calls)) (figure l)) ≡ true → l .looked < slotCount (l .head)
-    → figureOf (outcomeAt (l .head) (before l) (l .looked)) ≡ x → figureOf (outcomeAt (l .head) (after l) (l .looked)) ≡ y → (x ≡ y → ⊥)
+    → figureOf (outcomeAt (l .head) (bookBefore l) (l .looked)) ≡ x → figureOf (outcomeAt (l .head) (bookAfter l) (l .looked)) ≡ y
+    → (x ≡ y → ⊥)
     → Moves l
 moves-by l figureOf x y s inside p q differ = record {
   answered = answer-plain (l .head) (l .calls) (figure l) ∙ stored-is _ s;

@@ -27,12 +27,12 @@ module _ (h : Head) (b : Cells) (t : Slots) where
 
   one-together : (d : ℕ) {xs ys : List Span} → Together xs ys → Together (spanFrom h b d ++ xs) (spanFrom h c d ++ ys)
   unfolding spanFrom
-  one-together d {xs} {ys} x = go (isRead (b .reads) d)
+  one-together d {xs} {ys} x = go (isRead (b .readVersions) d)
     where
       go : (r : Bool)
-          → Together (cond r (spanTo h b d (nextRead (b .reads) (d + 1) (h .days - d))) [] ++ xs)
-          (cond r (spanTo h c d (nextRead (b .reads) (d + 1) (h .days - d))) [] ++ ys)
-      go true = to-together d (nextRead (b .reads) (d + 1) (h .days - d)) x
+          → Together (cond r (spanTo h b d (nextRead (b .readVersions) (d + 1) (h .days - d))) [] ++ xs)
+          (cond r (spanTo h c d (nextRead (b .readVersions) (d + 1) (h .days - d))) [] ++ ys)
+      go true = to-together d (nextRead (b .readVersions) (d + 1) (h .days - d)) x
       go false = x
 
   from-together : (k d : ℕ) → Together (spansFrom h b d k) (spansFrom h c d k)

@@ -21,7 +21,7 @@ use Rattle.rules.specs.Filling.{isReference, fromReferences}
 use Rattle.rules.specs.Spans.{outcomeAt}
 use Rattle.book.specs.Arguments.{Call}
 use Rattle.book.specs.Arguments.Call.{delivery, holiday}
-use Rattle.book.specs.Plain.{deliveries, keptReads, agreements, named, highest, contentWith, slotContent, bookOf}
+use Rattle.book.specs.Plain.{deliveries, keptReads, agreements, named, highestVersion, contentWith, slotContent, bookOf}
 use Rattle.reach.proofs.Sparse.{Sparse, goodIn, status-at, good-at, outcome-last}
 
 -- a day of the book
@@ -68,7 +68,7 @@ unfolding slotCount slotsPerDay
 more-count = refl
 
 pub weeks-before : Sparse year (weeksKept) 47 17_518 17_519
-unfolding slotsPerDay deliveries keptReads agreements highest contentWith causeOf timeChangeBit partialBit outageBit
+unfolding slotsPerDay deliveries keptReads agreements highestVersion contentWith causeOf timeChangeBit partialBit outageBit
 weeks-before = record {
   days = refl;
   next = refl;
@@ -83,7 +83,7 @@ weeks-before = record {
 }
 
 pub feast-before : Sparse more (feastKept) 47 17_806 17_807
-unfolding slotsPerDay deliveries keptReads agreements highest contentWith causeOf timeChangeBit partialBit outageBit
+unfolding slotsPerDay deliveries keptReads agreements highestVersion contentWith causeOf timeChangeBit partialBit outageBit
 feast-before = record {
   days = refl;
   next = refl;
@@ -156,7 +156,7 @@ last-method h kept p j first k t x f far later e =
 -- without and with the outage bit at slot 47
 pub weeks-method : (outcomeAt year (bookOf year weeksKept) 17_519 .method ≡ 3)
     × (outcomeAt year (bookOf year (again ∷ weeksKept)) 17_519 .method ≡ 0)
-unfolding named deliveries highest contentWith causeOf timeChangeBit partialBit outageBit
+unfolding named deliveries highestVersion contentWith causeOf timeChangeBit partialBit outageBit
 weeks-method = (
   last-method year weeksKept 17_518 17_519 7 51 true weeks-before (weeks-first weeksKept refl) refl (lit≤ tt)
       (reference year weeksKept false (weeks-before .days) (omega (arith, year-count)) (lit< tt) refl refl refl),
@@ -167,7 +167,7 @@ weeks-method = (
 
 pub feast-method : (outcomeAt more (bookOf more feastKept) 17_807 .method ≡ 3)
     × (outcomeAt more (bookOf more (again ∷ feastKept)) 17_807 .method ≡ 0)
-unfolding named deliveries highest contentWith causeOf timeChangeBit partialBit outageBit
+unfolding named deliveries highestVersion contentWith causeOf timeChangeBit partialBit outageBit
 feast-method = (
   last-method more feastKept 17_806 17_807 6 52 true feast-before (feast-first feastKept refl) refl (lit≤ tt)
       (reference more feastKept false (feast-before .days) (omega (arith, more-count)) (lit< tt) refl refl refl),

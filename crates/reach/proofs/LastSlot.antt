@@ -20,8 +20,8 @@ use Rattle.rules.proofs.Runs.{from-on, before-low}
 use Rattle.rules.specs.Spans.{isRead, lastRead, between, outcomeAt, spanFrom, spansFrom, spans}
 
 -- without a reading there is no span
-module _ (h : Head) (b : Cells) (unread : (d : ℕ) → d ≤ h .days → isRead (b .reads) d ≡ false) where
-  last-none : (d : ℕ) → d ≤ h .days → lastRead (b .reads) d ≡ none
+module _ (h : Head) (b : Cells) (unread : (d : ℕ) → d ≤ h .days → isRead (b .readVersions) d ≡ false) where
+  last-none : (d : ℕ) → d ≤ h .days → lastRead (b .readVersions) d ≡ none
   unfolding lastRead
   last-none zero l = rw (unread 0 l)
   last-none (suc d) l = rw (unread (suc d) l) (last-none d (omega arith))

@@ -14,7 +14,7 @@ use Rattle.book.specs.Answers.{byVersion}
 use Rattle.book.specs.Answers.Answer.{stored}
 use Rattle.book.specs.Arguments.{Call, argumentRules}
 use Rattle.book.specs.Arguments.Call.{delivery, holiday}
-use Rattle.book.specs.Plain.{deliveries, named, highest, contentWith, againstKept, plainAnswer, keep, keptOf, bookOf}
+use Rattle.book.specs.Plain.{deliveries, named, highestVersion, contentWith, againstKept, plainAnswer, keep, keptOf, bookOf}
 use Rattle.reach.specs.Needed.{Late, Moves, OnlyLater, Needed}
 use Rattle.reach.proofs.Sparse.{Sparse, left-good, spanless}
 use Rattle.reach.proofs.Farthest.{year, more, weeksKept, feastKept, again, sparse-again, weeks-before, feast-before, weeks-method}
@@ -64,13 +64,13 @@ module _ (h : Head) (calls kept : List Call) (p j d : ℕ) (x : Sparse h kept 47
         }
 
 weeks-kept : KeptAre year (delivery 47 1 100 0 ∷ delivery 17_518 1 5 0 ∷ []) weeksKept
-unfolding keptOf keep plainAnswer againstKept deliveries named highest contentWith argumentRules byVersion slotCount slotsPerDay headOk
-    intervalOk firstDay leap monthLengths monthLength yearLength daysBeforeMonth daysBeforeYear dayNumber isDate sum
+unfolding keptOf keep plainAnswer againstKept deliveries named highestVersion contentWith argumentRules byVersion slotCount slotsPerDay
+    headOk intervalOk firstDay leap monthLengths monthLength yearLength daysBeforeMonth daysBeforeYear dayNumber isDate sum
 weeks-kept = record { was = refl; is = refl; new = refl }
 
 feast-kept : KeptAre more (delivery 47 1 100 0 ∷ delivery 17_806 1 5 0 ∷ holiday 370 ∷ []) feastKept
-unfolding keptOf keep plainAnswer againstKept deliveries named highest contentWith argumentRules byVersion slotCount slotsPerDay headOk
-    intervalOk firstDay leap monthLengths monthLength yearLength daysBeforeMonth daysBeforeYear dayNumber isDate sum
+unfolding keptOf keep plainAnswer againstKept deliveries named highestVersion contentWith argumentRules byVersion slotCount slotsPerDay
+    headOk intervalOk firstDay leap monthLengths monthLength yearLength daysBeforeMonth daysBeforeYear dayNumber isDate sum
 feast-kept = record { was = refl; is = refl; new = refl }
 
 pub needed : Needed

@@ -26,8 +26,9 @@ use Rattle.rules.specs.Spans.{R, stateOf, inSpan, between, outcomeAt, spanOf, s
 use Rattle.book.specs.Answers.{Answer, isStored, byVersion}
 use Rattle.book.specs.Arguments.{argumentRules}
 use Rattle.book.specs.Arguments.Call.{delivery, register}
-use Rattle.book.specs.Plain.{deliveries, keptReads, agreements, named, highest, contentWith, againstKept, plainAnswer, keep, keptOf, bookOf}
-use Rattle.reach.specs.Needed.{Late, before, after, figure, Moves, OnlyItself, OnlyBeside, OnlySpan}
+use Rattle.book.specs.Plain.{deliveries, keptReads, agreements, named, highestVersion, contentWith, againstKept, plainAnswer, keep}
+use Rattle.book.specs.Plain.{keptOf, bookOf}
+use Rattle.reach.specs.Needed.{Late, bookBefore, bookAfter, figure, Moves, OnlyItself, OnlyBeside, OnlySpan}
 use Rattle.reach.proofs.Outside.{cut, apart, same-day, no-span}
 use Rattle.reach.proofs.Answered.{moves-by}
 
@@ -68,12 +69,12 @@ told-by l = plainAnswer (l .head) (keptOf (l .head) [] (l .calls)) (figure l)
 abbrev tests : List Bool
 tests =
     eqb (slotsPerDay day) 48 ∷ eqb (slotCount day) 48
-    ∷ eqb (outcome itself (before itself) .value) 100 ∷ eqb (outcome itself (after itself) .value) 90
-    ∷ eqb (length (spans day (before itself))) 0 ∷ good itself (before itself) 10 ∷ good itself (after itself) 10
-    ∷ eqb (outcome beside (before beside) .method) 0 ∷ eqb (outcome beside (after beside) .method) 1
-    ∷ eqb (length (spans day (before beside))) 0
-    ∷ eqb (outcome spanned (before spanned) .method) 18 ∷ eqb (outcome spanned (after spanned) .method) 2
-    ∷ good spanned (before spanned) 20 ∷ good spanned (after spanned) 20
+    ∷ eqb (outcome itself (bookBefore itself) .value) 100 ∷ eqb (outcome itself (bookAfter itself) .value) 90
+    ∷ eqb (length (spans day (bookBefore itself))) 0 ∷ good itself (bookBefore itself) 10 ∷ good itself (bookAfter itself) 10
+    ∷ eqb (outcome beside (bookBefore beside) .method) 0 ∷ eqb (outcome beside (bookAfter beside) .method) 1
+    ∷ eqb (length (spans day (bookBefore beside))) 0
+    ∷ eqb (outcome spanned (bookBefore spanned) .method) 18 ∷ eqb (outcome spanned (bookAfter spanned) .method) 2
+    ∷ good spanned (bookBefore spanned) 20 ∷ good spanned (bookAfter spanned) 20
     ∷ isStored (told-by itself) ∷ isStored (told-by beside) ∷ isStored (told-by spanned)
     ∷ []
 
@@ -81,7 +82,8 @@ computed : every tests ≡ true
 unfolding outcomeAt between lastRead nextRead isRead filledAt fromReferences references sumOf meanOf weekBack weeksBack isReference isLinear
     linearValue lineValue runStart runLength runFrom runBefore inRun isAgreed isOutageZero outageAfter outageBefore outageAt goodAt causeAt
     causeOf isGap timeChangeBit outageBit partialBit firstBack farthestBack weeksWithin slotCount slotsPerDay upTo bookOf keptOf keep
-    plainAnswer againstKept named agreements keptReads deliveries highest contentWith argumentRules byVersion headOk intervalOk firstDay
+    plainAnswer againstKept named agreements keptReads deliveries highestVersion contentWith argumentRules byVersion headOk intervalOk
+    firstDay
     leap monthLengths monthLength yearLength daysBeforeMonth daysBeforeYear dayNumber isDate toSunday sum inSpan stateOf stateBy range
     rangeOf G advance R leastIn actualSum isNear start slotsIn any spans spansFrom spanFrom spanTo spanOf
 computed = refl

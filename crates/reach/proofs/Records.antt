@@ -10,8 +10,7 @@ use lib.Seq.{take-at, drop-append-add, drop-append-le, take-append-le}
 use Rattle.base.proofs.Lists.{length-upTo, getD-upTo}
 use Rattle.rules.specs.declared.Head.{Head}
 use Rattle.rules.specs.Opening.{Cells, slotCount}
-use Rattle.rules.specs.Spans.{outcomeAt, noSpan, outcomes, spans}
-use Rattle.file.specs.Contents.{noSlot}
+use Rattle.rules.specs.Spans.{outcomeAt, noOutcome, noSpan, outcomes, spans}
 use Rattle.file.specs.Layout.{row, table, slotRow, spanRow, trailerRow, figuresOf, tablesOf, fileOf}
 use Rattle.file.proofs.Content.{length-file}
 use Rattle.file.proofs.Rows.{widths, length-row, length-table}
@@ -32,9 +31,9 @@ module _ (h : Head) (b : Cells) where
   unfolding outcomes
   count = length-upTo (outcomeAt h b) 0 (slotCount h)
 
-  slot-of : (j : ℕ) → j < slotCount h → getD (outcomes h b) j noSlot ≡ outcomeAt h b j
+  slot-of : (j : ℕ) → j < slotCount h → getD (outcomes h b) j noOutcome ≡ outcomeAt h b j
   unfolding outcomes
-  slot-of j l = rw zero-add at (getD-upTo (outcomeAt h b) noSlot 0 (slotCount h) j l)
+  slot-of j l = rw zero-add at (getD-upTo (outcomeAt h b) noOutcome 0 (slotCount h) j l)
 
   abbrev rest : List ℕ
   rest = row (trailerRow (figuresOf (published h b)))
@@ -46,7 +45,7 @@ module _ (h : Head) (b : Cells) where
   pub slot-record : (j : ℕ) → j < slotCount h → take 6 (drop (6 * j) (fileOf (published h b))) ≡ row (slotRow (outcomeAt h b j))
   slot-record j l =
       rw (parts, ← slot-of j l)
-      (row-at slotRow 6 (λ x. refl) (outcomes h b) noSlot (table (spanRow true) (spans h b) ++ rest) j (omega (arith, count)))
+      (row-at slotRow 6 (λ x. refl) (outcomes h b) noOutcome (table (spanRow true) (spans h b) ++ rest) j (omega (arith, count)))
 
   pub span-record : (k : ℕ) → k < length (spans h b)
       → take 14 (drop (6 * slotCount h + 14 * k) (fileOf (published h b))) ≡ row (spanRow true (getD (spans h b) k noSpan))

@@ -14,7 +14,8 @@ use Rattle.rules.specs.Filling.{outageAt, isAgreed, isReference, references, fr
 use Rattle.rules.specs.Spans.{isRead, outcomeAt, spans}
 use Rattle.rules.proofs.References.{references-searched}
 use Rattle.book.specs.Arguments.{Call}
-use Rattle.book.specs.Plain.{deliveries, keptReads, agreements, highest, slotVersion, slotContent, readVersion, agreedVersion, bookOf}
+use Rattle.book.specs.Plain.{deliveries, keptReads, agreements, highestVersion, slotVersion, slotContent, readVersion, agreedVersion}
+use Rattle.book.specs.Plain.{bookOf}
 use Rattle.reach.proofs.LastSlot.{outside, no-spans, weeks-one, filled-last}
 
 -- the slot's kept delivery is good
@@ -61,7 +62,7 @@ module _ (h : Head) (kept : List Call) where
 
     -- a slot that has not come
     gap-version : deliveries k kept ≡ [] → getD (b .slots .versions) k 0 ≡ 0
-    unfolding highest
+    unfolding highestVersion
     gap-version e = version-at ∙ rw e
 
     gap-at : deliveries k kept ≡ [] → isGap (b .slots .versions) k ≡ true
@@ -73,11 +74,11 @@ module _ (h : Head) (kept : List Call) where
     cause-at e = rw (gap-version e)
 
     free-at : agreements k kept ≡ [] → isAgreed (b .agreed .versions) k ≡ false
-    unfolding isAgreed bookOf highest
+    unfolding isAgreed bookOf highestVersion
     free-at e = rw (upTo-at (agreedVersion kept) 0 (slotCount h) k l, e)
 
-  read-none : ((d : ℕ) → keptReads d kept ≡ []) → (d : ℕ) → d ≤ h .days → isRead (b .reads) d ≡ false
-  unfolding isRead bookOf highest
+  read-none : ((d : ℕ) → keptReads d kept ≡ []) → (d : ℕ) → d ≤ h .days → isRead (b .readVersions) d ≡ false
+  unfolding isRead bookOf highestVersion
   read-none u d l = rw (upTo-at (readVersion kept) 0 (suc (h .days)) d (omega arith), u d)
 
   module _ (i p j : ℕ) (x : Sparse h kept i p j) where

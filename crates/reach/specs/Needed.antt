@@ -28,21 +28,21 @@ pub record Late : Type 0 where
 abbrev pub figure : Late → Call
 figure l = delivery (l .slot) (l .version) (l .value) (l .status)
 
-abbrev pub before : Late → Cells
-before l = plainOf (l .head) (l .calls)
+abbrev pub bookBefore : Late → Cells
+bookBefore l = plainOf (l .head) (l .calls)
 
-abbrev pub after : Late → Cells
-after l = plainOf (l .head) (l .calls ++ (figure l ∷ []))
+abbrev pub bookAfter : Late → Cells
+bookAfter l = plainOf (l .head) (l .calls ++ (figure l ∷ []))
 
 -- the delivery is stored, and the slot's outcome moves
 pub record Moves (l : Late) : Type 0 where
   pub answered : answer (l .head) (leftBy (l .head) (l .calls)) (figure l) ≡ stored
   pub inside : l .looked < slotCount (l .head)
-  pub differs : outcomeAt (l .head) (before l) (l .looked) ≡ outcomeAt (l .head) (after l) (l .looked) → ⊥
+  pub differs : outcomeAt (l .head) (bookBefore l) (l .looked) ≡ outcomeAt (l .head) (bookAfter l) (l .looked) → ⊥
 
 -- a clause of the slot
 abbrev pub Of : (Head → Cells → Cells → ℕ → ℕ → Type 0) → Late → Type 0
-Of clause l = clause (l .head) (before l) (after l) (l .slot) (l .looked)
+Of clause l = clause (l .head) (bookBefore l) (bookAfter l) (l .slot) (l .looked)
 
 -- where it moves, only this clause holds it
 abbrev pub OnlyItself : Late → Type 0

@@ -44,7 +44,7 @@ module _ (r : List ℕ) where
 
 module _ (h : Head) (b : Cells) where
   abbrev r : List ℕ
-  r = b .reads
+  r = b .readVersions
 
   -- a span begins at d exactly when d is read and a later boundary too
   from-next : (d : ℕ) (o : Option ℕ) (rest : ℕ) → nextRead r (d + 1) (h .days - d) ≡ o → rest ≡ sum (one r) (d + 1) (h .days - d)

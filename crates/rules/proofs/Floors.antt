@@ -14,7 +14,7 @@ use mir.Syntax.{w32, w64}
 use mir.Val.{Fits, SFits, toZ, ofZ}
 use mir.ValLaws.{toZ-ofZ, toZ-pos}
 use Rattle.base.proofs.Logic.{either}
-use Rattle.rules.specs.declared.linear.Line.{Line}
+use Rattle.rules.specs.declared.linear.StraightLine.{StraightLine}
 use Rattle.rules.specs.Filling.{floorOver, lineValue}
 use Rattle.rules.specs.Inner.Walks.{Drawn}
 
@@ -218,7 +218,7 @@ product-mag (negsuc a) j = go (suc a * j)
     go (suc x) = omega arith
 
 -- the machine's way to the value of a line
-module _ (line : Line) (w : Drawn line) where
+module _ (line : StraightLine) (w : Drawn line) where
   abbrev l : ℕ
   l = line .left
 

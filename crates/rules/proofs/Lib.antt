@@ -4,8 +4,8 @@ pub mod Bounds
 pub mod Floors
 pub mod Runs
 pub mod Fillings
-pub mod Small
-pub mod Forms
+pub mod ValueBounds
+pub mod Qualities
 pub mod Shapes
 pub mod Weekly
 pub mod References
@@ -21,11 +21,11 @@ pub mod Shares
 pub mod Scaling
 pub mod Outcomes
 pub mod States
-pub mod Sharp
+pub mod WidthsZero
 pub mod Summaries
-pub mod Meeting
+pub mod SpanSums
 pub mod Stretches
 pub mod Steps
-pub mod Begun
+pub mod SpansInOrder
 pub mod Counts
 pub mod Directs

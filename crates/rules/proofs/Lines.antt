@@ -13,7 +13,7 @@ use Rattle.base.specs.Lists.{every}
 use Rattle.base.proofs.Logic.{either, passed}
 use Rattle.rules.specs.declared.Head.{Head}
 use Rattle.rules.specs.declared.walk.Walk.{Walk}
-use Rattle.rules.specs.declared.linear.Line.{Line}
+use Rattle.rules.specs.declared.linear.StraightLine.{StraightLine}
 use Rattle.rules.specs.Opening.{Slots, slotCount}
 use Rattle.rules.specs.Tests.{goodAt}
 use Rattle.rules.specs.Filling.{inRun, runBefore, runFrom, runLength, isLinear, lineValue, linearValue}
@@ -22,11 +22,11 @@ use Rattle.rules.specs.Inner.Walks.{Drawn, walkAt}
 use Rattle.rules.proofs.Bounds.{Bounded, cap-high}
 use Rattle.rules.proofs.Runs.{before-low, before-none, before-on, from-on, place-within, start-kept, length-kept, linear-kept}
 use Rattle.rules.proofs.Runs.{start-first, length-first, linear-first, linear-tells}
-use Rattle.rules.proofs.Small.{good-small}
+use Rattle.rules.proofs.ValueBounds.{good-small}
 use Rattle.rules.proofs.Outages.{zero-on}
 
 -- the same line at the next slot
-abbrev oneOn : Line → Line
+abbrev oneOn : StraightLine → StraightLine
 oneOn p = record { place = p .place + 1; length = p .length; left = p .left; right = p .right }
 
 module _ (h : Head) (s : Slots) (v : List ℕ) where
@@ -49,7 +49,7 @@ module _ (h : Head) (s : Slots) (v : List ℕ) where
 
   through-place : (i : ℕ) → lineThrough h s v i .place ≡ suc (runBefore h s v i)
   through-place i =
-      ⊎-elim (λ t. ap (λ (p : Line). p .place) (through-full i t)) (λ t. ap (λ (p : Line). p .place) (through-bare i t))
+      ⊎-elim (λ t. ap (λ (p : StraightLine). p .place) (through-full i t)) (λ t. ap (λ (p : StraightLine). p .place) (through-bare i t))
       (either (isLinear h s v i))
 
   module _ (i : ℕ) (l : i < slotCount h) (e : inRun h s v i ≡ true) where
@@ -67,17 +67,18 @@ module _ (h : Head) (s : Slots) (v : List ℕ) where
         (either (isLinear h s v i))
 
   -- a line of place 0 stands before the first slot of a run
-  pub line-fresh : (i : ℕ) (p : Line) → p ≡ lineBefore h s v i → p .place ≡ 0 → runBefore h s v i ≡ 0
+  pub line-fresh : (i : ℕ) (p : StraightLine) → p ≡ lineBefore h s v i → p .place ≡ 0 → runBefore h s v i ≡ 0
   unfolding lineBefore runBefore
   line-fresh zero p e z = refl
   line-fresh (suc i) p e z =
       ⊎-elim
-      (λ t. absurd (let y : suc (runBefore h s v i) ≡ 0 = sym (through-place i) ∙ ap (λ (q : Line). q .place) (sym (line-some i t) ∙ sym e)
+      (λ t. absurd (let y : suc (runBefore h s v i) ≡ 0 = sym (through-place i) ∙ ap (λ (q : StraightLine). q .place)
+      (sym (line-some i t) ∙ sym e)
       ∙ z in omega arith))
       (λ t. before-none h s v i t)
       (either (inRun h s v i))
 
-  pub line-place : (i : ℕ) (p : Line) → p ≡ lineBefore h s v i → p .place ≤ i
+  pub line-place : (i : ℕ) (p : StraightLine) → p ≡ lineBefore h s v i → p .place ≤ i
   unfolding lineBefore
   line-place zero p e = rw e zero-le
   line-place (suc i) p e =
@@ -87,14 +88,14 @@ module _ (h : Head) (s : Slots) (v : List ℕ) where
       (either (inRun h s v i))
 
   -- inside a run the line of the slot before stands
-  pub line-kept : (i : ℕ) (p : Line) → i < slotCount h → inRun h s v i ≡ true → p ≡ lineBefore h s v i → (p .place ≡ 0 → ⊥)
+  pub line-kept : (i : ℕ) (p : StraightLine) → i < slotCount h → inRun h s v i ≡ true → p ≡ lineBefore h s v i → (p .place ≡ 0 → ⊥)
       → oneOn p ≡ lineAt h s v i
   unfolding lineBefore
-  line-kept zero p l t e z = absurd (z (ap (λ (q : Line). q .place) e))
+  line-kept zero p l t e z = absurd (z (ap (λ (q : StraightLine). q .place) e))
   line-kept (suc i) p l t e z =
       ⊎-elim
       (λ u. ap oneOn (e ∙ line-some i u) ∙ through-on i (omega arith) u ∙ sym (line-some (suc i) t))
-      (λ u. absurd (z (ap (λ (q : Line). q .place) (e ∙ sym (line-none i u)))))
+      (λ u. absurd (z (ap (λ (q : StraightLine). q .place) (e ∙ sym (line-none i u)))))
       (either (inRun h s v i))
 
   -- at the first slot of a run
@@ -140,7 +141,7 @@ module _ (h : Head) (s : Slots) (v : List ℕ) where
               rw (ended .1, e, linear-is ∙ ended .0, start-first h s v i l e first, length-first h s v i l e first, first)
 
   -- a slot of a run, with the line that a pass knows
-  module _ (b : Bounded h) (i : ℕ) (l : i < slotCount h) (e : inRun h s v i ≡ true) (p : Line) (q : p ≡ lineAt h s v i) where
+  module _ (b : Bounded h) (i : ℕ) (l : i < slotCount h) (e : inRun h s v i ≡ true) (p : StraightLine) (q : p ≡ lineAt h s v i) where
     line-full : isLinear h s v i ≡ true → p ≡ fullLine h s v i
     line-full t = q ∙ line-some i e ∙ through-full i t
 
@@ -163,13 +164,13 @@ module _ (h : Head) (s : Slots) (v : List ℕ) where
     line-fills z =
         ⊎-elim
         (λ t. rw (line-full t) (t, drawn t, refl))
-        (λ t. absurd (let y : p .length ≡ 0 = ap (λ (r : Line). r .length) (line-bare t) in omega arith))
+        (λ t. absurd (let y : p .length ≡ 0 = ap (λ (r : StraightLine). r .length) (line-bare t) in omega arith))
         (either (isLinear h s v i))
 
     pub line-leaves : p .length ≤ 0 → isLinear h s v i ≡ false
     line-leaves z =
         ⊎-elim
-        (λ t. absurd (let y : p .length ≡ runLength h s v i = ap (λ (r : Line). r .length) (line-full t) in
+        (λ t. absurd (let y : p .length ≡ runLength h s v i = ap (λ (r : StraightLine). r .length) (line-full t) in
         omega (arith, place-within h s v i l e)))
         (λ t. t)
         (either (isLinear h s v i))
@@ -191,7 +192,7 @@ module _ (h : Head) (s : Slots) (v : List ℕ) (p : Walk) (i : ℕ) (e : p ≡ w
 
 pub walk-next : (h : Head) (s : Slots) (v : List ℕ) (i : ℕ) (n : ℕ) → n ≡ slotCount h → (r : Bool)
     → r ≡ zeroAt (s .versions) (s .statuses) n i
-    → (p : Line) → p ≡ lineAt h s v i → record { at = i + 1; outage = r; line = p } ≡ walkAt h s v (i + 1)
+    → (p : StraightLine) → p ≡ lineAt h s v i → record { at = i + 1; outage = r; line = p } ≡ walkAt h s v (i + 1)
 unfolding walkAt
 walk-next h s v i n l r q p w =
     let z : zeroAt (s .versions) (s .statuses) n (i + 0) ≡ zeroBefore (s .versions) (s .statuses) n (i + 1) =

@@ -17,25 +17,25 @@ use Rattle.rules.specs.Spans.{isRead, nextRead, spanOf, noSpan, spanTo, 
 use Rattle.rules.proofs.Boundaries.{Next, next-tells, next-nearer, next-none}
 
 pub record Neighbours (h : Head) (b : Cells) (s : Span) : Type 0 where
-  pub first-read : isRead (b .reads) (s .first) ≡ true
-  pub last-read : isRead (b .reads) (s .last) ≡ true
+  pub first-read : isRead (b .readVersions) (s .first) ≡ true
+  pub last-read : isRead (b .readVersions) (s .last) ≡ true
   pub ordered : s .first < s .last
   pub within : s .last ≤ h .days
-  pub next : nextRead (b .reads) (s .first + 1) (h .days - s .first) ≡ some (s .last)
+  pub next : nextRead (b .readVersions) (s .first + 1) (h .days - s .first) ≡ some (s .last)
   pub figures : s ≡ spanOf h b (s .first) (s .last)
 
 module _ (h : Head) (b : Cells) where
   -- the next boundary with a reading after d, if there is one
   abbrev after : ℕ → Option ℕ
-  after d = nextRead (b .reads) (d + 1) (h .days - d)
+  after d = nextRead (b .readVersions) (d + 1) (h .days - d)
 
   abbrev read : ℕ → Bool
-  read d = isRead (b .reads) d
+  read d = isRead (b .readVersions) d
 
   pub neighbours : (first last : ℕ) → read first ≡ true → after first ≡ some last → Neighbours h b (spanOf h b first last)
   unfolding spanOf
   neighbours first last t e =
-      let p = next-tells (b .reads) (h .days - first) (first + 1) last e in
+      let p = next-tells (b .readVersions) (h .days - first) (first + 1) last e in
       record {
         first-read = t;
         last-read = p .here;
@@ -90,22 +90,22 @@ module _ (h : Head) (b : Cells) where
   none-after d ys e later l =
       let (n, m) = later 0 l in
       let unread : read (getD ys 0 noSpan .last) ≡ false =
-      next-none (b .reads) (h .days - d) (d + 1) e (getD ys 0 noSpan .last) (omega (arith, n .ordered))
+      next-none (b .readVersions) (h .days - d) (d + 1) e (getD ys 0 noSpan .last) (omega (arith, n .ordered))
       (omega (arith, n .ordered, n .within)) in
       false≢true (sym unread ∙ n .last-read)
 
   starts-more : (d m last : ℕ) {xs : List Span} (ys : List Span) → Beginning d xs → Each (suc d) ys
-      → Next (b .reads) d m last → (Next (b .reads) (suc d) m last → Starts last ys) → Starts last (xs ++ ys)
+      → Next (b .readVersions) d m last → (Next (b .readVersions) (suc d) m last → Starts last ys) → Starts last (xs ++ ys)
   unfolding spanOf
   starts-more d m last ys (noneHere w) rest p later l =
       ⊎-elim (λ z. absurd (none-after d ys (w (rw z (p .here))) rest l))
-      (λ n. later (next-nearer (b .reads) p m n (omega (arith, p .high))) l)
+      (λ n. later (next-nearer (b .readVersions) p m n (omega (arith, p .high))) l)
       (eq-or-lt-of-le (p .low))
   starts-more d m last ys (oneHere end t e) rest p later l =
       ⊎-elim (λ z. z) (λ n. absurd (false≢true (sym (p .before d (omega arith) n) ∙ t))) (eq-or-lt-of-le (p .low))
 
   -- the first of the spans from d begins at the first boundary from d that is read
-  starts : (k d m last : ℕ) → Next (b .reads) d m last → Starts last (spansFrom h b d k)
+  starts : (k d m last : ℕ) → Next (b .readVersions) d m last → Starts last (spansFrom h b d k)
   unfolding spansFrom
   starts zero d m last p l = absurd (not-suc-le-zero l)
   starts (suc k) d m last p l =
@@ -116,11 +116,11 @@ module _ (h : Head) (b : Cells) where
   Chain xs = (j : ℕ) → suc j < length xs → getD xs (suc j) noSpan .first ≡ getD xs j noSpan .last
 
   chain-more : (d : ℕ) {xs : List Span} (ys : List Span) → Beginning d xs
-      → ((last : ℕ) → Next (b .reads) (suc d) (h .days - d) last → Starts last ys) → Chain ys → Chain (xs ++ ys)
+      → ((last : ℕ) → Next (b .readVersions) (suc d) (h .days - d) last → Starts last ys) → Chain ys → Chain (xs ++ ys)
   unfolding spanOf
   chain-more d ys (noneHere w) next later j l = later j l
   chain-more d ys (oneHere last t e) next later zero l =
-      next last (rw add-one at (next-tells (b .reads) (h .days - d) (d + 1) last e)) (le-of-suc-le-suc l)
+      next last (rw add-one at (next-tells (b .readVersions) (h .days - d) (d + 1) last e)) (le-of-suc-le-suc l)
   chain-more d ys (oneHere last t e) next later (suc j) l = later j (le-of-suc-le-suc l)
 
   chain : (k d : ℕ) → Chain (spansFrom h b d k)

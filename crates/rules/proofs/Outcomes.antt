@@ -11,11 +11,11 @@ use Rattle.rules.specs.Filling.{filledAt}
 use Rattle.rules.specs.Spans.{isScaled, start, slotsIn, G, range, R, actualSum, inSpan, spanOf, noSpan, outcomeAt, spans}
 use Rattle.rules.specs.Inner.Lent.{AgreedLow, WidthsLow}
 use Rattle.rules.proofs.Bounds.{Bounded}
-use Rattle.rules.proofs.Small.{filled-low}
+use Rattle.rules.proofs.ValueBounds.{filled-low}
 use Rattle.rules.proofs.Fillings.{spanned-by}
-use Rattle.rules.proofs.Forms.{Filled, Form, filled-form, scaled-form}
-use Rattle.rules.proofs.Forms.Filled.{delivered, agreed, outage, linear, sameDay, nothing}
-use Rattle.rules.proofs.Forms.Form.{unscaled}
+use Rattle.rules.proofs.Qualities.{Filled, Form, filled-form, scaled-form}
+use Rattle.rules.proofs.Qualities.Filled.{delivered, agreed, outage, linear, sameDay, nothing}
+use Rattle.rules.proofs.Qualities.Form.{unscaled}
 use Rattle.rules.proofs.Neighbours.{span-found}
 use Rattle.rules.proofs.Ranges.{advance-below, range-of-ordered, range-of-low, least-within}
 use Rattle.rules.proofs.Scaling.{new-high}

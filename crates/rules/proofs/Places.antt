@@ -50,24 +50,25 @@ module _ (h : Head) (bounds : Bounded h) (b : Cells) where
       let d = i / slotsPerDay h in
       let low : s .first ≤ d = le-div-iff-mul-le positive .1 l in
       let high : d < s .last = div-lt-iff-lt-mul positive .1 m in
-      let p = next-tells (b .reads) (h .days - s .first) (s .first + 1) (s .last) (n .next) in
-      let f : lastRead (b .reads) d ≡ some (s .first) =
-      last-found (b .reads) d (s .first)
+      let p = next-tells (b .readVersions) (h .days - s .first) (s .first + 1) (s .last) (n .next) in
+      let f : lastRead (b .readVersions) d ≡ some (s .first) =
+      last-found (b .readVersions) d (s .first)
       (record { low = low; here = n .first-read; after = λ x y z. p .before x (omega arith) (omega arith) }) in
-      let g : nextRead (b .reads) (d + 1) (h .days - d) ≡ some (s .last) =
-      next-found (b .reads) (h .days - d) (d + 1) (s .last)
+      let g : nextRead (b .readVersions) (d + 1) (h .days - d) ≡ some (s .last) =
+      next-found (b .readVersions) (h .days - d) (d + 1) (s .last)
       (record { low = omega arith; high = omega (arith, n .within); here = n .last-read; before = λ x y z. p .before x (omega arith) z }) in
       rw (f, g)
 
   pub place : (i : ℕ) → Place h b i (outcomeAt h b i)
   unfolding outcomeAt between spanOf
   place i =
-      go (lastRead (b .reads) (i / slotsPerDay h)) (nextRead (b .reads) (i / slotsPerDay h + 1) (h .days - i / slotsPerDay h)) refl refl
+      go (lastRead (b .readVersions) (i / slotsPerDay h))
+      (nextRead (b .readVersions) (i / slotsPerDay h + 1) (h .days - i / slotsPerDay h)) refl refl
     where
-      joined : (d first last : ℕ) → Last (b .reads) d first → Next (b .reads) (d + 1) (h .days - d) last
-          → nextRead (b .reads) (first + 1) (h .days - first) ≡ some last
+      joined : (d first last : ℕ) → Last (b .readVersions) d first → Next (b .readVersions) (d + 1) (h .days - d) last
+          → nextRead (b .readVersions) (first + 1) (h .days - first) ≡ some last
       joined d first last f g =
-          next-found (b .reads) (h .days - first) (first + 1) last (record {
+          next-found (b .readVersions) (h .days - first) (first + 1) last (record {
             low = omega (arith, f .low, g .low);
             high = omega (arith, f .low, g .low, g .high);
             here = g .here;
@@ -76,11 +77,11 @@ module _ (h : Head) (bounds : Bounded h) (b : Cells) where
                 (either (leb x d));
           })
 
-      go : (f l : Option ℕ) → lastRead (b .reads) (i / slotsPerDay h) ≡ f
-          → nextRead (b .reads) (i / slotsPerDay h + 1) (h .days - i / slotsPerDay h) ≡ l → Place h b i (between h b f l i)
+      go : (f l : Option ℕ) → lastRead (b .readVersions) (i / slotsPerDay h) ≡ f
+          → nextRead (b .readVersions) (i / slotsPerDay h + 1) (h .days - i / slotsPerDay h) ≡ l → Place h b i (between h b f l i)
       go (some first) (some last) p q =
-          let f = last-tells (b .reads) (i / slotsPerDay h) first p in
-          let g = next-tells (b .reads) (h .days - i / slotsPerDay h) (i / slotsPerDay h + 1) last q in
+          let f = last-tells (b .readVersions) (i / slotsPerDay h) first p in
+          let g = next-tells (b .readVersions) (h .days - i / slotsPerDay h) (i / slotsPerDay h + 1) last q in
           inside (spanOf h b first last) (neighbours h b first last (f .here) (joined (i / slotsPerDay h) first last f g))
           (le-div-iff-mul-le positive .0 (f .low)) (div-lt-iff-lt-mul positive .0 (omega (arith, g .low)))
       go (some first) none p q = outside

@@ -4,13 +4,12 @@ use mathlib.Core.List.{List, [], _∷_, _++_, append-assoc, append-nil}
 use mathlib.Core.Logic.{⊎-elim}
 use mathlib.Core.Path.{_≡_, refl, sym, ap, _∙_}
 use Prim.Native.Nat.{ℕ, zero, suc, _+_, _-_, _*_, _/_, _≤_, _<_}
-use native.Mathlib.Numerals.{add-one, sub-one}
+use native.Mathlib.Numerals.{add-one}
 use native.Mathlib.Omega.{arith}
-use borrow.Author.Tests.{lt-ltb, le-ltb, ltb-true, ltb-false, leb-true, leb-false, le-leb, lt-leb, eq-eqb, ne-eqb}
-use lib.Dec.{lit<, leb, ltb}
-use lib.ListN.{length, getD, take, set, length-set}
-use native.Mathlib.Nat.{le-refl, add-mul, mul-le-mul-right, add-mul-div-right, le-div-iff-mul-le, div-lt-iff-lt-mul}
-use lib.Seq.{take-suc-set, take-nil}
+use borrow.Author.Tests.{le-ltb, ltb-true, ltb-false, leb-true, leb-false, le-leb, lt-leb, eq-eqb, ne-eqb}
+use lib.Dec.{leb, ltb}
+use lib.ListN.{length, getD, take}
+use native.Mathlib.Nat.{add-mul, mul-le-mul-right}
 use Rattle.base.proofs.Logic.{either}
 use Rattle.base.specs.Lists.{sumOf}
 use Rattle.rules.specs.declared.Head.{Head}

@@ -19,8 +19,8 @@ use Rattle.rules.specs.Weeks.{firstBack, farthestBack, weeksWithin}
 use Rattle.rules.specs.Filling.{weeksBack, references, fromReferences, filledAt, shapeOf, shapeAt}
 use Rattle.rules.specs.Inner.Summaries.{shapeIn}
 use Rattle.rules.proofs.Fillings.{filled-by}
-use Rattle.rules.proofs.Forms.{Filled, filled-form}
-use Rattle.rules.proofs.Forms.Filled.{delivered, agreed, outage, linear, sameDay, nothing}
+use Rattle.rules.proofs.Qualities.{Filled, filled-form}
+use Rattle.rules.proofs.Qualities.Filled.{delivered, agreed, outage, linear, sameDay, nothing}
 
 -- 12 × sum / number is whole
 pub shape-whole : (number sum : ℕ) → 1 ≤ number → number ≤ 4 → 12 * sum / number * number ≡ 12 * sum

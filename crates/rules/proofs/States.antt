@@ -16,8 +16,8 @@ use Rattle.rules.specs.Inner.Lent.{WidthsLow}
 use Rattle.rules.specs.Spans.{isS, isN, actualIn, isScaled, isNear, stateBy, filled, start, slotsIn, range, R, actualSum, stateOf}
 use Rattle.rules.specs.Spans.{newValue, inSpan, spanOf, outcomeAt}
 use Rattle.rules.proofs.Bounds.{Bounded}
-use Rattle.rules.proofs.Forms.{Filled, filled-form}
-use Rattle.rules.proofs.Forms.Filled.{delivered, agreed, outage, linear, sameDay, nothing}
+use Rattle.rules.proofs.Qualities.{Filled, filled-form}
+use Rattle.rules.proofs.Qualities.Filled.{delivered, agreed, outage, linear, sameDay, nothing}
 use Rattle.rules.proofs.Neighbours.{Neighbours}
 use Rattle.rules.proofs.Scaling.{new-zero, new-total}
 use Rattle.rules.proofs.Places.{span-end, in-span}

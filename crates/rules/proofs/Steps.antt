@@ -23,11 +23,11 @@ use Rattle.rules.specs.Inner.Stretches.{unscaledTo, scalingAt, spanStret
 use Rattle.rules.specs.Inner.Stretches.{fitOutcome, fitNext, Scalable}
 use Rattle.rules.proofs.Bounds.{Bounded, cap, cap-low, shapes-all}
 use Rattle.rules.proofs.Boundaries.{last-tells, next-tells}
-use Rattle.rules.proofs.Forms.{filled-form, method-low}
+use Rattle.rules.proofs.Qualities.{filled-form, method-low}
 use Rattle.rules.proofs.Places.{span-end, slots-within}
 use Rattle.rules.proofs.Outcomes.{advance-low}
 use Rattle.rules.proofs.Scaling.{running, zero-each, shape-positive}
-use Rattle.rules.proofs.Small.{shape-small}
+use Rattle.rules.proofs.ValueBounds.{shape-small}
 use Rattle.rules.proofs.Summaries.{sum-small}
 
 -- the outcome of slot i of a scaled span
@@ -66,13 +66,13 @@ module _ (h : Head) (w : Bounded h) (b : Cells) (i : ℕ) where
 
   slot : Slot h b i (stretchAt h b i) (outcomeAt h b i) (carriedAt h b (suc i))
   unfolding stretchAt stretchOn stretchOf carriedAt outcomeAt between start
-  slot = go (lastRead (b .reads) d) (nextRead (b .reads) (d + 1) (h .days - d)) refl refl
+  slot = go (lastRead (b .readVersions) d) (nextRead (b .readVersions) (d + 1) (h .days - d)) refl refl
     where
-      go : (f l : Option ℕ) → lastRead (b .reads) d ≡ f → nextRead (b .reads) (d + 1) (h .days - d) ≡ l
+      go : (f l : Option ℕ) → lastRead (b .readVersions) d ≡ f → nextRead (b .readVersions) (d + 1) (h .days - d) ≡ l
           → Slot h b i (stretchOf h b f l i) (between h b f l i) (stretchOf h b f l (suc i))
       go (some first) (some last) p q =
-          let f = last-tells (b .reads) d first p in
-          let g = next-tells (b .reads) (h .days - d) (d + 1) last q in
+          let f = last-tells (b .readVersions) d first p in
+          let g = next-tells (b .readVersions) (h .days - d) (d + 1) last q in
           let n : 0 < slotsPerDay h = omega (arith, w .day-low) in
           let m : i < last * slotsPerDay h = div-lt-iff-lt-mul n .0 (omega (arith, g .low)) in
           let k : first ≤ last = omega (arith, f .low, g .low) in

@@ -67,7 +67,7 @@ module _ (h : Head) (w : Bounded h) (b : Cells) where
   n = slotsPerDay h
 
   abbrev r : List ℕ
-  r = b .reads
+  r = b .readVersions
 
   positive : 0 < n
   positive = omega (arith, w .day-low)

@@ -19,7 +19,7 @@ use Rattle.rules.specs.Spans.{isA, isS, isF}
 use Rattle.rules.specs.Inner.Lent.{AgreedLow}
 use Rattle.rules.specs.Inner.Summaries.{summaryOf, actualAdded, addedTo}
 use Rattle.rules.proofs.Bounds.{Bounded, cap, shape-high, shapes-all, count-high}
-use Rattle.rules.proofs.Small.{cond-small, shape-small, filled-low}
+use Rattle.rules.proofs.ValueBounds.{cond-small, shape-small, filled-low}
 use Rattle.rules.proofs.Shapes.{shape-of-s}
 
 -- a sum of small terms

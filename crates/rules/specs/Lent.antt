@@ -11,8 +11,8 @@ abbrev pub agreedLists : List ℕ → List ℕ → Agreed
 agreedLists values versions = record { values = values; versions = versions }
 
 abbrev pub cells : Slots → List ℕ → List ℕ → List ℕ → Agreed → List ℕ → Cells
-cells s holidays readings reads agreed widths =
-    record { slots = s; holidays = holidays; readings = readings; reads = reads; agreed = agreed; widths = widths }
+cells s holidays readings readVersions agreed widths =
+    record { slots = s; holidays = holidays; readings = readings; readVersions = readVersions; agreed = agreed; widths = widths }
 
 abbrev pub lentSlots : RefT (List ℕ) → RefT (List ℕ) → RefT (List ℕ) → Slots
 lentSlots values versions statuses = slots (now values) (now versions) (now statuses)
@@ -22,6 +22,6 @@ lentAgreed agreed agreedVersions = agreedLists (now agreed) (now agreedVersions)
 
 abbrev pub lentCells : RefT (List ℕ) → RefT (List ℕ) → RefT (List ℕ) → RefT (List ℕ) → RefT (List ℕ) → RefT (List ℕ) → RefT (List ℕ)
     → RefT (List ℕ) → RefT (List ℕ) → Cells
-lentCells values versions statuses holidays readings reads agreed agreedVersions widths =
-    cells (lentSlots values versions statuses) (now holidays) (now readings) (now reads)
+lentCells values versions statuses holidays readings readVersions agreed agreedVersions widths =
+    cells (lentSlots values versions statuses) (now holidays) (now readings) (now readVersions)
     (lentAgreed agreed agreedVersions) (now widths)

@@ -61,7 +61,7 @@ pub record Cells : Type 0 where
   pub slots : Slots
   pub holidays : List ℕ
   pub readings : List ℕ
-  pub reads : List ℕ
+  pub readVersions : List ℕ
   pub agreed : Agreed
   -- of the readings (02, W10)
   pub widths : List ℕ

@@ -50,17 +50,17 @@ isScaled method = eqb method 18 || eqb method 19
 
 -- a boundary whose register version isn't 0
 unfoldable pub isRead : List ℕ → ℕ → Bool
-isRead reads d = not (eqb (getD reads d 0) 0)
+isRead readVersions d = not (eqb (getD readVersions d 0) 0)
 
 -- the last such boundary up to d
 unfoldable pub lastRead : List ℕ → ℕ → Option ℕ
-lastRead reads zero = cond (isRead reads zero) (some zero) none
-lastRead reads (suc d) = cond (isRead reads (suc d)) (some (suc d)) (lastRead reads d)
+lastRead readVersions zero = cond (isRead readVersions zero) (some zero) none
+lastRead readVersions (suc d) = cond (isRead readVersions (suc d)) (some (suc d)) (lastRead readVersions d)
 
 -- the first such boundary among the k from d
 unfoldable pub nextRead : List ℕ → ℕ → ℕ → Option ℕ
-nextRead reads d zero = none
-nextRead reads d (suc k) = cond (isRead reads d) (some d) (nextRead reads (suc d) k)
+nextRead readVersions d zero = none
+nextRead readVersions d (suc k) = cond (isRead readVersions d) (some d) (nextRead readVersions (suc d) k)
 
 -- (later reading − earlier reading) mod 100,000,000, for readings of an eight-digit dial
 unfoldable pub advance : ℕ → ℕ → ℕ
@@ -163,6 +163,10 @@ module _ (h : Head) (b : Cells) (first last : ℕ) where
   unfoldable pub spanOf : Span
   spanOf = record { first = first; last = last; lowest = range .lowest; highest = range .highest; state = stateOf }
 
+-- past the last slot of a list
+abbrev pub noOutcome : Outcome
+noOutcome = record { value = 0; quality = N; method = 0 }
+
 -- past the last span of a list
 abbrev pub noSpan : Span
 noSpan = record { first = 0; last = 0; lowest = 0; highest = 0; state = 0 }
@@ -177,7 +181,7 @@ between h b none last i = filledAt h (b .slots) (b .agreed) (b .holidays) i
 unfoldable pub outcomeAt : Head → Cells → ℕ → Outcome
 outcomeAt h b i =
     let d = i / slotsPerDay h in
-    between h b (lastRead (b .reads) d) (nextRead (b .reads) (d + 1) (h .days - d)) i
+    between h b (lastRead (b .readVersions) d) (nextRead (b .readVersions) (d + 1) (h .days - d)) i
 
 unfoldable pub outcomes : Head → Cells → List Outcome
 outcomes h b = upTo (outcomeAt h b) 0 (slotCount h)
@@ -189,7 +193,7 @@ spanTo h b d (some last) = spanOf h b d last ∷ []
 
 unfoldable pub spanFrom : Head → Cells → ℕ → List Span
 spanFrom h b d =
-    cond (isRead (b .reads) d) (spanTo h b d (nextRead (b .reads) (d + 1) (h .days - d))) []
+    cond (isRead (b .readVersions) d) (spanTo h b d (nextRead (b .readVersions) (d + 1) (h .days - d))) []
 
 -- the spans that begin at one of the k boundaries from d
 unfoldable pub spansFrom : Head → Cells → ℕ → ℕ → List Span

@@ -3,7 +3,7 @@ use crate::Head;
 use crate::Outcome;
 use crate::Quality;
 use crate::linear;
-use crate::linear::Line;
+use crate::linear::StraightLine;
 use crate::opening;
 use crate::tests;
 use crate::weeks;
@@ -41,10 +41,10 @@ pub struct Shaped {
 }
 
 // The same, and the slot's line.
-pub struct Lined {
+pub struct RuledSlot {
     pub outcome: Outcome,
     pub shape: u64,
-    pub line: Line,
+    pub line: StraightLine,
 }
 
 // Slot `at` can be a reference.
@@ -232,7 +232,7 @@ pub fn unscaled(
     holidays: &[u8],
     at: usize,
     outage: bool,
-    line: Line,
+    line: StraightLine,
 ) -> Shaped
     requires { ⌜
         Lent head (lentSlots values versions statuses) (now holidays)
@@ -278,8 +278,8 @@ pub fn fill_cause(
     agreed_versions: &[u32],
     at: usize,
     outage: bool,
-    before: Line,
-) -> Lined
+    before: StraightLine,
+) -> RuledSlot
     requires { ⌜
         (let s = lentSlots values versions statuses in
         Lent head s (now holidays)
@@ -308,7 +308,7 @@ pub fn fill_cause(
         before,
     );
     if 0 < agreed_versions[at] {
-        return Lined {
+        return RuledSlot {
             outcome: by_agreement(agreed[at]),
             shape: 0,
             line: line,
@@ -316,7 +316,7 @@ pub fn fill_cause(
     }
     let shaped = unscaled(head, values, versions, statuses, holidays, at, outage, line);
     let outcome = shaped.outcome;
-    Lined {
+    RuledSlot {
         outcome: outcome,
         shape: shaped.shape,
         line: line,

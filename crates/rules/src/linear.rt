@@ -16,7 +16,7 @@ ghost use Rattle.rules.specs.Inner.Walks.{bareLine, lineAt, lineBefore, 
 
 // A slot's place j in its run and, where the line fills the run, its length g and the values l and r beside it; a slot in no run
 // has place 0.
-pub struct Line {
+pub struct StraightLine {
     pub place: u32,
     pub length: u32,
     pub left: u32,
@@ -24,10 +24,10 @@ pub struct Line {
 }
 
 // The j-th slot of a run that no line fills; 0 where there is no run.
-pub fn bare(place: u32) -> Line
+pub fn bare(place: u32) -> StraightLine
     ensures { λ r. ⌜ r ≡ bareLine place ⌝ }
 {
-    Line {
+    StraightLine {
         place: place,
         length: 0,
         left: 0,
@@ -49,7 +49,7 @@ fn floor_over(z: i64, m: u32) -> i64
 }
 
 // l + (r − l) × j / (g + 1).
-pub fn line_value(line: Line) -> u32
+pub fn line_value(line: StraightLine) -> u32
     requires { ⌜ Drawn line ⌝ }
     ensures { λ r. ⌜ r ≡ lineValue (line .left) (line .right) (line .place) (line .length) ⌝ }
 {
@@ -110,7 +110,7 @@ fn begin(
     statuses: &[u8],
     agreed_versions: &[u32],
     at: usize,
-) -> Line
+) -> StraightLine
     requires { ⌜
         (let s = lentSlots values versions statuses in
         Fitted head s
@@ -136,7 +136,7 @@ fn begin(
         return bare(1);
     }
     let after = at + length;
-    Line {
+    StraightLine {
         place: 1,
         length: length as u32,
         left: values[last],
@@ -154,8 +154,8 @@ pub fn line_unagreed(
     agreed_versions: &[u32],
     at: usize,
     outage: bool,
-    before: Line,
-) -> Line
+    before: StraightLine,
+) -> StraightLine
     requires { ⌜
         (let s = lentSlots values versions statuses in
         Fitted head s
@@ -178,7 +178,7 @@ pub fn line_unagreed(
         return begin(head, values, versions, statuses, agreed_versions, at);
     }
     let place = before.place + 1;
-    Line {
+    StraightLine {
         place: place,
         length: before.length,
         left: before.left,
@@ -195,8 +195,8 @@ pub fn line_on(
     agreed_versions: &[u32],
     at: usize,
     outage: bool,
-    before: Line,
-) -> Line
+    before: StraightLine,
+) -> StraightLine
     requires { ⌜
         (let s = lentSlots values versions statuses in
         Fitted head s

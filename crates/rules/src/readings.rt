@@ -11,13 +11,13 @@ pub enum Next {
 }
 
 // The first boundary from `from` on that has a reading.
-pub fn next_read(reads: &[u32], from: usize) -> Next
-    requires { ⌜ from ≤ length (now reads) ⌝ }
-    ensures { λ r. ⌜ nextMeant r ≡ nextRead (now (reads .entry)) from (length (now (reads .entry)) - from) ⌝ }
+pub fn next_read(read_versions: &[u32], from: usize) -> Next
+    requires { ⌜ from ≤ length (now «read_versions») ⌝ }
+    ensures { λ r. ⌜ nextMeant r ≡ nextRead (now («read_versions» .entry)) from (length (now («read_versions» .entry)) - from) ⌝ }
 {
     let mut d = from;
-    while d < reads.len() {
-        if reads[d] != 0 {
+    while d < read_versions.len() {
+        if read_versions[d] != 0 {
             return Next::At(d);
         }
         d += 1;
@@ -26,13 +26,13 @@ pub fn next_read(reads: &[u32], from: usize) -> Next
 }
 
 // How many spans there are: one fewer than boundaries with a reading.
-pub fn span_count(reads: &[u32]) -> usize
-    ensures { λ r. ⌜ r ≡ readCount (now (reads .entry)) (length (now (reads .entry))) - 1 ⌝ }
+pub fn span_count(read_versions: &[u32]) -> usize
+    ensures { λ r. ⌜ r ≡ readCount (now («read_versions» .entry)) (length (now («read_versions» .entry))) - 1 ⌝ }
 {
     let mut count: usize = 0;
     let mut d = 0;
-    while d < reads.len() {
-        if reads[d] != 0 {
+    while d < read_versions.len() {
+        if read_versions[d] != 0 {
             count += 1;
         }
         d += 1;

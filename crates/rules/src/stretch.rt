@@ -153,7 +153,7 @@ fn reach(
     statuses: &[u8],
     holidays: &[u8],
     readings: &[u32],
-    reads: &[u32],
+    read_versions: &[u32],
     agreed: &[u32],
     agreed_versions: &[u32],
     widths: &[u16],
@@ -162,16 +162,16 @@ fn reach(
     last: usize,
 ) -> Entered
     requires { ⌜
-        (let b = lentCells values versions statuses holidays readings reads agreed «agreed_versions» widths in
+        (let b = lentCells values versions statuses holidays readings «read_versions» agreed «agreed_versions» widths in
         Whole head b × Starts head (lentSlots values versions statuses) (now «agreed_versions») walk day last)
         ⌝ }
     ensures { λ r. ⌜
-        (let b = lentCells (values .entry) (versions .entry) (statuses .entry) (holidays .entry) (readings .entry) (reads .entry)
+        (let b = lentCells (values .entry) (versions .entry) (statuses .entry) (holidays .entry) (readings .entry) («read_versions» .entry)
         (agreed .entry) («agreed_versions» .entry) (widths .entry) in
         (r .begins ≡ beginsWith head b day last) × (r .stretch ≡ stretchFrom head b day last (walk .at)))
         ⌝ }
 {
-    if reads[day] == 0 {
+    if read_versions[day] == 0 {
         return no_span(unscaled_to(last * opening::slots_per_day(head)));
     }
     let met = meet(
@@ -204,7 +204,7 @@ pub fn enter(
     statuses: &[u8],
     holidays: &[u8],
     readings: &[u32],
-    reads: &[u32],
+    read_versions: &[u32],
     agreed: &[u32],
     agreed_versions: &[u32],
     widths: &[u16],
@@ -212,11 +212,11 @@ pub fn enter(
     carried: Stretch,
 ) -> Entered
     requires { ⌜
-        (let b = lentCells values versions statuses holidays readings reads agreed «agreed_versions» widths in
+        (let b = lentCells values versions statuses holidays readings «read_versions» agreed «agreed_versions» widths in
         Whole head b × Before head b walk carried)
         ⌝ }
     ensures { λ r. ⌜
-        (let b = lentCells (values .entry) (versions .entry) (statuses .entry) (holidays .entry) (readings .entry) (reads .entry)
+        (let b = lentCells (values .entry) (versions .entry) (statuses .entry) (holidays .entry) (readings .entry) («read_versions» .entry)
         (agreed .entry) («agreed_versions» .entry) (widths .entry) in
         (r .begins ≡ beginsAt head b (walk .at)) × (r .stretch ≡ stretchAt head b (walk .at)))
         ⌝ }
@@ -226,7 +226,7 @@ pub fn enter(
         return no_span(carried);
     }
     let day = at / opening::slots_per_day(head);
-    let next = readings::next_read(reads, day + 1);
+    let next = readings::next_read(read_versions, day + 1);
     match next {
         Next::At(last) => reach(
             head,
@@ -235,7 +235,7 @@ pub fn enter(
             statuses,
             holidays,
             readings,
-            reads,
+            read_versions,
             agreed,
             agreed_versions,
             widths,

@@ -3,7 +3,7 @@ use crate::Head;
 use crate::Outcome;
 use crate::filling;
 use crate::linear;
-use crate::linear::Line;
+use crate::linear::StraightLine;
 use crate::outage;
 use crate::tests;
 ghost use mathlib.Core.Path.{_≡_};
@@ -18,7 +18,7 @@ ghost use Rattle.rules.specs.Inner.Walks.{walkAt};
 pub struct Walk {
     pub at: usize,
     pub outage: bool,
-    pub line: Line,
+    pub line: StraightLine,
 }
 
 // The outcome of a slot before scaling, its shape, and the walk one slot on.
@@ -29,7 +29,7 @@ pub struct Filled {
 }
 
 // One slot of the walk.
-pub fn fill(
+pub fn fill_at(
     head: Head,
     values: &[u32],
     versions: &[u32],

@@ -5,7 +5,7 @@ use libc::STDOUT_FILENO;
 fn main() {
     let mut buf = [0u8; 65537];
     let mut out = [0u8; 160];
-    match input::fill(&mut buf) {
+    match input::read_all(&mut buf) {
         Input::Bytes(n) => {
             let k = line::line(&buf[..n], &mut out);
             if !io::write_all(STDOUT_FILENO, &out[..k]) {

@@ -51,14 +51,14 @@ abbrev pub pairsOk : ℕ → List ℕ → Bool
 pairsOk days pairs = all (λ k. pairOk days (firstOf pairs k) (endOf pairs k)) 0 (pairCount pairs)
 
 -- each case of the answer, in the order 8, 9, 18, 19
-abbrev pub answerFor : Verdict → Bool → Bool → Performed
-answerFor (verdict.Refused number) lists pairs = Refused number
-answerFor (verdict.Accepted g) false pairs = Refused 18
-answerFor (verdict.Accepted g) true false = Refused 19
-answerFor (verdict.Accepted g) true true = Done
+abbrev pub staysBy : Verdict → Bool → Bool → Performed
+staysBy (verdict.Refused number) lists pairs = Refused number
+staysBy (verdict.Accepted g) false pairs = Refused 18
+staysBy (verdict.Accepted g) true false = Refused 19
+staysBy (verdict.Accepted g) true true = Done
 
 unfoldable pub staysAnswer : List ℕ → List ℕ → List ℕ → Performed
-staysAnswer bs pairs totals = answerFor (readFile bs) (every (listTests pairs (length totals))) (pairsOk (figures bs .days) pairs)
+staysAnswer bs pairs totals = staysBy (readFile bs) (every (listTests pairs (length totals))) (pairsOk (figures bs .days) pairs)
 
 -- a refusal changes no total
 abbrev pub totalsAfter : Performed → List ℕ → List ℕ → List ℕ

@@ -8,7 +8,7 @@ use Rattle.berth.proofs.run.Tie as tie
 
 -- ---- Places
 
-abbrev start : tie.After-fill → tie.Start
+abbrev start : tie.After-make-calls → tie.Start
 start c =
     c .before .before .before .before .before .before .before .before .before .before .before .before .before .before .before .before
     .before .before .before .before .before .before
@@ -16,11 +16,11 @@ start c =
 abbrev after-versions : tie.After-holidays → tie.After-versions
 after-versions c = c .before .before .before .before
 
-abbrev after-holidays : tie.After-reads → tie.After-holidays
+abbrev after-holidays : tie.After-read-versions → tie.After-holidays
 after-holidays c = c .before .before .before .before
 
-abbrev after-reads : tie.After-agreed-versions → tie.After-reads
-after-reads c = c .before .before .before .before
+abbrev after-read-versions : tie.After-agreed-versions → tie.After-read-versions
+after-read-versions c = c .before .before .before .before
 
 abbrev after-agreed-versions : tie.After-widths → tie.After-agreed-versions
 after-agreed-versions c = c .before .before .before .before
@@ -37,38 +37,41 @@ report-requires : tie.Need-report-requires
 report-requires c κs =
     let at-widths = after-widths (c .before .before .before) in
     let at-agreed-versions = after-agreed-versions at-widths in
-    let at-reads = after-reads at-agreed-versions in
-    let at-holidays = after-holidays at-reads in
+    let at-read-versions = after-read-versions at-agreed-versions in
+    let at-holidays = after-holidays at-read-versions in
     let at-versions = after-versions at-holidays in
     let begun = start (at-versions .before .before .before) in
     let p = begun .pre in
-    let left = wrote _ (begun .args .seed) (begun .args .loss) (p .0) _ (p .2) (at-versions .before .before .before .fill .ensures .1)
+    let left = wrote _ (begun .args .seed) (begun .args .loss) (p .0) _ (p .2) (at-versions .before .before .before .make-calls .ensures .1)
     (c .before .before .before .publish .ensures .1) in
     let high = true-high (begun .args .head) (begun .args .seed) (begun .args .loss) (p .0) in (
       p .0,
       omega (arith, p .2, c .before .before .out .given),
       total-written _ (begun .args .seed) (begun .args .loss) (p .0) _ (p .2) left,
-      omega (arith, at-versions .before .before .before .fill .ensures .0),
+      omega (arith, at-versions .before .before .before .make-calls .ensures .0),
     )
 
 same-length : tie.Need-same-length
 same-length c =
-    after-versions (after-holidays (after-reads (after-agreed-versions (after-widths (after-publish c))))) .before .before .values .given
+    after-versions (after-holidays (after-read-versions
+    (after-agreed-versions (after-widths (after-publish c))))) .before .before .values .given
 
 same-length-2 : tie.Need-same-length-2
-same-length-2 c = after-versions (after-holidays (after-reads (after-agreed-versions (after-widths (after-publish c))))) .versions .given
+same-length-2 c = after-versions (after-holidays (after-read-versions
+    (after-agreed-versions (after-widths (after-publish c))))) .versions .given
 
 same-length-3 : tie.Need-same-length-3
-same-length-3 c = after-holidays (after-reads (after-agreed-versions (after-widths (after-publish c)))) .before .before .statuses .given
+same-length-3 c = after-holidays (after-read-versions
+    (after-agreed-versions (after-widths (after-publish c)))) .before .before .statuses .given
 
 same-length-4 : tie.Need-same-length-4
-same-length-4 c = after-holidays (after-reads (after-agreed-versions (after-widths (after-publish c)))) .holidays .given
+same-length-4 c = after-holidays (after-read-versions (after-agreed-versions (after-widths (after-publish c)))) .holidays .given
 
 same-length-5 : tie.Need-same-length-5
-same-length-5 c = after-reads (after-agreed-versions (after-widths (after-publish c))) .before .before .readings .given
+same-length-5 c = after-read-versions (after-agreed-versions (after-widths (after-publish c))) .before .before .readings .given
 
 same-length-6 : tie.Need-same-length-6
-same-length-6 c = after-reads (after-agreed-versions (after-widths (after-publish c))) .reads .given
+same-length-6 c = after-read-versions (after-agreed-versions (after-widths (after-publish c))) .read-versions .given
 
 same-length-7 : tie.Need-same-length-7
 same-length-7 c = after-agreed-versions (after-widths (after-publish c)) .before .before .agreed .given
@@ -87,15 +90,15 @@ returns c =
     let at-publish = after-publish c in
     let at-widths = after-widths at-publish in
     let at-agreed-versions = after-agreed-versions at-widths in
-    let at-reads = after-reads at-agreed-versions in
-    let at-holidays = after-holidays at-reads in
+    let at-read-versions = after-read-versions at-agreed-versions in
+    let at-holidays = after-holidays at-read-versions in
     let at-versions = after-versions at-holidays in
     let begun = start (at-versions .before .before .before) in
     let p = begun .pre in
-    let left = wrote _ (begun .args .seed) (begun .args .loss) (p .0) _ (p .2) (at-versions .before .before .before .fill .ensures .1)
+    let left = wrote _ (begun .args .seed) (begun .args .loss) (p .0) _ (p .2) (at-versions .before .before .before .make-calls .ensures .1)
     (at-publish .publish .ensures .1) in (
-      reported _ _ _ (p .0) _ (p .2) left (at-versions .before .before .before .fill .ensures .0) (c .report .ensures),
-      at-versions .before .before .before .fill .ensures .1,
+      reported _ _ _ (p .0) _ (p .2) left (at-versions .before .before .before .make-calls .ensures .0) (c .report .ensures),
+      at-versions .before .before .before .make-calls .ensures .1,
       left,
     )
 

@@ -14,11 +14,11 @@ start c =
 abbrev passed1 : tie.After-run-arg11 → tie.Else1
 passed1 c = c .before .before .before .before .before .before .before .before .before .before .before
 
-abbrev after-run : tie.After-reads → tie.After-run
+abbrev after-run : tie.After-read-versions → tie.After-run
 after-run c = c .before .before .before .before .before .before .before .before .before .before .before
 
-abbrev after-reads : tie.After-out → tie.After-reads
-after-reads c = c .before .before .before .before .before .before .before .before .before .before
+abbrev after-read-versions : tie.After-out → tie.After-read-versions
+after-read-versions c = c .before .before .before .before .before .before .before .before .before .before
 
 -- ---- Needs
 
@@ -32,12 +32,12 @@ run-requires c κs =
     passes _ (begun .args .seed) (begun .args .loss) _ (begun .args .out .now) _ (past1 .before .refusal .ensures) (past1 .if1 .left)
 
 same-length-17 : tie.Need-same-length-17
-same-length-17 c = after-reads (c .before) .reads .given
+same-length-17 c = after-read-versions (c .before) .read-versions .given
 
 returns-2 : tie.Need-returns-2
 returns-2 c =
-    let at-reads = after-reads (c .before) in
-    let at-run = after-run at-reads in
+    let at-read-versions = after-read-versions (c .before) in
+    let at-run = after-run at-read-versions in
     each (ran _ _ _ _ _ _ (passed1 (at-run .before) .before .refusal .ensures) (passed1 (at-run .before) .if1 .left) (at-run .run .ensures))
 
 pub simulate-spec : {M : Type 1} → statement M

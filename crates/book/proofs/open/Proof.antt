@@ -64,8 +64,8 @@ returns-2 : tie.Need-returns-2
 unfolding openAnswer openAfter cellsFit slotsFit daysFit readsFit agreedFits countsFit bookFits
 returns-2 c = let a = start (c .before) .args in
     let broken : bookFits (a .head)
-    (lentBook (a .values) (a .versions) (a .statuses) (a .holidays) (a .readings) (a .reads) (a .agreed) (a .agreed-versions) (a .counts)
-    (a .widths)) ≡ false =
+    (lentBook (a .values) (a .versions) (a .statuses) (a .holidays) (a .readings) (a .read-versions) (a .agreed) (a .agreed-versions)
+    (a .counts) (a .widths)) ≡ false =
     sym (c .before .book-fits .ensures) ∙ not-true _ (c .if2 .taken) in
     rw (sym (c .before .before .before .head-ok .ensures) ∙ not-false _ (c .before .before .if1 .left), broken)
     (refl, refl)
@@ -84,8 +84,8 @@ returns-3 c =
     let at-clear-words = after-clear-words at-clear-words2 in
     let at-book-fits = after-book-fits (c .before) in
     let a = start at-book-fits .args in
-    let lent = lentBook (a .values) (a .versions) (a .statuses) (a .holidays) (a .readings) (a .reads) (a .agreed) (a .agreed-versions)
-    (a .counts) (a .widths) in
+    let lent = lentBook (a .values) (a .versions) (a .statuses) (a .holidays) (a .readings) (a .read-versions) (a .agreed)
+    (a .agreed-versions) (a .counts) (a .widths) in
     let fit : bookFits (a .head) lent ≡ true = sym (at-book-fits .book-fits .ensures)
     ∙ not-false _ (at-clear-words .before .before .if2 .left) in
     let fits = fits-of (a .head) lent fit in
@@ -99,7 +99,7 @@ returns-3 c =
           (at-clear-bytes .clear-bytes .ensures ∙ ap zeros (long .statuses))
           (at-clear-bytes2 .clear-bytes2 .ensures ∙ ap zeros (long .holidays))
           (at-clear-words3 .clear-words3 .ensures ∙ ap zeros (long .readings))
-          (at-clear-words4 .clear-words4 .ensures ∙ ap zeros (long .reads))
+          (at-clear-words4 .clear-words4 .ensures ∙ ap zeros (long .readVersions))
           (at-clear-words5 .clear-words5 .ensures ∙ ap zeros (long .agreed))
           (at-clear-words6 .clear-words6 .ensures ∙ ap zeros (long .agreedVersions))
           (at-clear-counts .clear-counts .ensures ∙ ap zeros (fits .1))

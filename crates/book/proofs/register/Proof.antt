@@ -32,7 +32,7 @@ after-file-register c = c .before .before .before .before .before
 -- ---- The tests that were passed
 
 abbrev lent : tie.Start → Reads
-lent c = lentReads (c .args .readings) (c .args .reads) (c .args .widths)
+lent c = lentReads (c .args .readings) (c .args .read-versions) (c .args .widths)
 
 abbrev whole : tie.Start → Answer
 whole c = registerAnswer (c .args .head) (lent c) (c .args .boundary) (c .args .version) (c .args .reading) (c .args .width)

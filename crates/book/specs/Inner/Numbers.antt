@@ -34,11 +34,11 @@ readAnswer r boundary version reading width =
     ∷ rule 6 (ltb eightDigits reading)
     ∷ rule 17 (ltb mostWidth width)
     ∷ [])
-    (againstBoundary (getD (r .reads) boundary 0) (readAt r boundary) version (dialRead reading width))
+    (againstBoundary (getD (r .readVersions) boundary 0) (readAt r boundary) version (dialRead reading width))
 
 unfoldable pub readAfter : Reads → ℕ → ℕ → ℕ → ℕ → Reads
 readAfter r boundary version reading width = record {
   readings = storedIn (readAnswer r boundary version reading width) (r .readings) boundary reading;
-  reads = storedIn (readAnswer r boundary version reading width) (r .reads) boundary version;
+  readVersions = storedIn (readAnswer r boundary version reading width) (r .readVersions) boundary version;
   widths = storedIn (readAnswer r boundary version reading width) (r .widths) boundary width;
 }

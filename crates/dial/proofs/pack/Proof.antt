@@ -6,7 +6,7 @@ use borrow.Author.Needs.{needs}
 use borrow.Author.Tests.{eq-eqb, ne-eqb, lt-ltb, le-ltb}
 use lib.ListN.{length}
 use Rattle.dial.specs.Dial.{packAnswer, packAfter}
-use Rattle.dial.proofs.Forms.{form-bytes, filled}
+use Rattle.dial.proofs.PackedForm.{form-bytes, filled}
 use Rattle.dial.proofs.pack.Statement.{statement}
 use Rattle.dial.proofs.pack.Tie as tie
 

@@ -8,7 +8,7 @@ use borrow.Author.Needs.{needs}
 use borrow.Author.Tests.{eq-eqb, ne-eqb}
 use lib.ListN.{length, getD, drop, drop-of-length-le}
 use Rattle.dial.specs.Dial.{aboveNine, unpackAnswer}
-use Rattle.dial.proofs.Forms.{above-next, reading-made}
+use Rattle.dial.proofs.PackedForm.{above-next, reading-made}
 use Rattle.dial.proofs.unpack.Statement.{statement}
 use Rattle.dial.proofs.unpack.Tie as tie
 

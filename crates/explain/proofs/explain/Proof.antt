@@ -28,7 +28,7 @@ after-lists-fit-refused-by3 c = c .before .before .before .before
 
 returns : tie.Need-returns
 returns c = let a = (start (c .before .before)) .args in
-    let b = lentBook (a .values) (a .versions) (a .statuses) (a .holidays) (a .readings) (a .reads) (a .agreed) (a .agreed-versions)
+    let b = lentBook (a .values) (a .versions) (a .statuses) (a .holidays) (a .readings) (a .read-versions) (a .agreed) (a .agreed-versions)
     (a .counts) (a .widths) in
     c .refused-by .ensures
     ∙ refused-1 (a .head) b (a .slot) (sym (c .before .before .head-ok .ensures) ∙ not-true _ (c .before .if1 .taken))
@@ -38,7 +38,7 @@ lists-fit-requires c κs = sym (c .before .head-ok .ensures) ∙ not-false _ (c 
 
 returns-2 : tie.Need-returns-2
 returns-2 c = let a = (start-refused-by2 c) .args in
-    let b = lentBook (a .values) (a .versions) (a .statuses) (a .holidays) (a .readings) (a .reads) (a .agreed) (a .agreed-versions)
+    let b = lentBook (a .values) (a .versions) (a .statuses) (a .holidays) (a .readings) (a .read-versions) (a .agreed) (a .agreed-versions)
     (a .counts) (a .widths) in
     c .refused-by2 .ensures
     ∙ refused-2 (a .head) b (a .slot) (sym (after-head-ok c .head-ok .ensures) ∙ not-false _ (c .before .before .before .if1 .left))
@@ -51,7 +51,7 @@ returns-3 : tie.Need-returns-3
 returns-3 c =
     let at-lists-fit = after-lists-fit-refused-by3 c in
     let a = (start (at-lists-fit .before .before)) .args in
-    let b = lentBook (a .values) (a .versions) (a .statuses) (a .holidays) (a .readings) (a .reads) (a .agreed) (a .agreed-versions)
+    let b = lentBook (a .values) (a .versions) (a .statuses) (a .holidays) (a .readings) (a .read-versions) (a .agreed) (a .agreed-versions)
     (a .counts) (a .widths) in
     c .refused-by3 .ensures
     ∙ refused-3 (a .head) b (a .slot) (sym (at-lists-fit .before .before .head-ok .ensures) ∙ not-false _ (at-lists-fit .before .if1 .left))

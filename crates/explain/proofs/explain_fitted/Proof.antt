@@ -22,7 +22,7 @@ returns : tie.Need-returns
 returns c =
     let begun = start (c .before .before) in
     let a = begun .args in
-    let b = lentBook (a .values) (a .versions) (a .statuses) (a .holidays) (a .readings) (a .reads) (a .agreed) (a .agreed-versions)
+    let b = lentBook (a .values) (a .versions) (a .statuses) (a .holidays) (a .readings) (a .read-versions) (a .agreed) (a .agreed-versions)
     (a .counts) (a .widths) in
     c .refused-by .ensures
     ∙ refused-11 (a .head) b (a .slot) (begun .pre .0) (begun .pre .1) (begun .pre .2)
@@ -33,7 +33,7 @@ unfolding bookOk
 tell-requires c κs =
     let begun = start (c .before) in
     let a = begun .args in
-    let b = lentBook (a .values) (a .versions) (a .statuses) (a .holidays) (a .readings) (a .reads) (a .agreed) (a .agreed-versions)
+    let b = lentBook (a .values) (a .versions) (a .statuses) (a .holidays) (a .readings) (a .read-versions) (a .agreed) (a .agreed-versions)
     (a .counts) (a .widths) in (
       whole-of (a .head) (b .cells) (record {
         head = begun .pre .0;
@@ -47,7 +47,7 @@ returns-2 : tie.Need-returns-2
 returns-2 c =
     let begun = start (c .before .before) in
     let a = begun .args in
-    let b = lentBook (a .values) (a .versions) (a .statuses) (a .holidays) (a .readings) (a .reads) (a .agreed) (a .agreed-versions)
+    let b = lentBook (a .values) (a .versions) (a .statuses) (a .holidays) (a .readings) (a .read-versions) (a .agreed) (a .agreed-versions)
     (a .counts) (a .widths) in
     told (a .head) b (a .slot) (begun .pre .0) (begun .pre .1) (begun .pre .2)
     (sym (c .before .before .book-ok .ensures) ∙ not-false _ (c .before .if1 .left)) _ (c .tell .ensures)

@@ -29,8 +29,8 @@ tell-with-requires c κs =
     let at-fill-slot = after-fill-slot c in
     let begun = start at-fill-slot in
     let a = begun .args in
-    let b = cells (slots (a .values .now) (a .versions .now) (a .statuses .now)) (a .holidays .now) (a .readings .now) (a .reads .now)
-    (agreedLists (a .agreed .now) (a .agreed-versions .now)) (a .widths .now) in
+    let b = cells (slots (a .values .now) (a .versions .now) (a .statuses .now)) (a .holidays .now) (a .readings .now)
+    (a .read-versions .now) (agreedLists (a .agreed .now) (a .agreed-versions .now)) (a .widths .now) in
     simp (at-fill-slot .fill-slot .ensures .0, at-fill-slot .fill-slot .ensures .1, c .hold .ensures .1)
     (fits-are (a .head) (bounded (a .head) (begun .pre .0 .lent .fitted .head)) b (a .slot) (begun .pre .0 .widths .low))
 
@@ -39,8 +39,8 @@ unfolding causeAt
 returns c =
     let at-fill-slot = after-fill-slot (c .before) in
     let a = (start at-fill-slot) .args in
-    let b = cells (slots (a .values .now) (a .versions .now) (a .statuses .now)) (a .holidays .now) (a .readings .now) (a .reads .now)
-    (agreedLists (a .agreed .now) (a .agreed-versions .now)) (a .widths .now) in
+    let b = cells (slots (a .values .now) (a .versions .now) (a .statuses .now)) (a .holidays .now) (a .readings .now)
+    (a .read-versions .now) (agreedLists (a .agreed .now) (a .agreed-versions .now)) (a .widths .now) in
     c .tell-with .ensures
     ∙ told-is (a .head) (bounded (a .head) ((start at-fill-slot) .pre .0 .lent .fitted .head)) b (a .slot) _
     (at-fill-slot .fill-slot .result) (c .before .before .found-by .result) (c .before .hold .result)

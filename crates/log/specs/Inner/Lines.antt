@@ -5,7 +5,7 @@ use Prim.Native.Nat.{ℕ, _-_, _≤_, _<_}
 use lib.ListN.{length, take, drop}
 use Rattle.log.specs.declared.lines.Cut.{Cut}
 use Rattle.log.specs.declared.limits.Limits.{Limits}
-use Rattle.log.specs.declared.line.Line.{Line}
+use Rattle.log.specs.declared.line.LogLine.{LogLine}
 use Rattle.log.specs.Log.{lines, Item, itemIn, items}
 
 -- the line that begins at a place, and those after it
@@ -23,6 +23,6 @@ pub record ItemAt (bytes : List ℕ) (at : ℕ) (x : Item) (next : ℕ) : Type 0
   pub first : items (drop at bytes) ≡ x ∷ items (drop next bytes)
 
 -- it is this line, with some table beside it
-pub record FoundAt (bytes : List ℕ) (at : ℕ) (line : Line) (next : ℕ) : Type 0 where
+pub record FoundAt (bytes : List ℕ) (at : ℕ) (line : LogLine) (next : ℕ) : Type 0 where
   pub limits : Limits
   pub item : ItemAt bytes at (itemIn line limits) next

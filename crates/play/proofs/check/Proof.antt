@@ -7,21 +7,22 @@ use Rattle.play.proofs.check.Tie as tie
 
 -- ---- Places
 
-abbrev after-leading : tie.After-following → tie.After-leading
-after-leading c = c .before .before .before .before
+abbrev after-find-opening : tie.After-following → tie.After-find-opening
+after-find-opening c = c .before .before .before .before
 
 -- ---- Needs
 
 following-requires : tie.Need-following-requires
-following-requires c κs = (rw (c .before .lead .given .1) at (c .before .before .before .leading .ensures)) .0
+following-requires c κs = (rw (c .before .opening .given .1) at (c .before .before .before .find-opening .ensures)) .0
 
 returns : tie.Need-returns
 unfolding checked
 returns c =
-    c .following .ensures ∙ ap (checkedOf _) (sym ((simp (c .before .before .lead .given .1) at (after-leading c .leading .ensures)) .1))
+    c .following .ensures ∙ ap (checkedOf _) (sym ((simp (c .before .before .opening .given .1) at
+    (after-find-opening c .find-opening .ensures)) .1))
 
 returns-2 : tie.Need-returns-2
-returns-2 c = rw (c .before .lead2 .given .1) at (c .before .before .before .leading .ensures)
+returns-2 c = rw (c .before .opening2 .given .1) at (c .before .before .before .find-opening .ensures)
 
 pub check-spec : {M : Type 1} → statement M
 check-spec =

@@ -1,5 +1,5 @@
 -- `play`: by what the bytes are, and whether the lengths are right.
-use Rattle.play.specs.declared.Played.the-variants.{Is}
+use Rattle.play.specs.declared.Played.the-variants.{AsChecked}
 use mathlib.Core.Path.{_≡_, sym, ap, _∙_}
 use borrow.Author.Tests.{not-true, not-false}
 use native.Mathlib.Omega.{arith}
@@ -23,11 +23,11 @@ passed1 c = c .before .before .before .before .before .before .before .before .b
 abbrev after-versions : tie.After-holidays → tie.After-versions
 after-versions c = c .before .before .before .before
 
-abbrev after-holidays : tie.After-reads → tie.After-holidays
+abbrev after-holidays : tie.After-read-versions → tie.After-holidays
 after-holidays c = c .before .before .before .before
 
-abbrev after-reads : tie.After-agreed-versions → tie.After-reads
-after-reads c = c .before .before .before .before
+abbrev after-read-versions : tie.After-agreed-versions → tie.After-read-versions
+after-read-versions c = c .before .before .before .before
 
 abbrev after-agreed-versions : tie.After-widths → tie.After-agreed-versions
 after-agreed-versions c = c .before .before .before .before
@@ -64,8 +64,8 @@ returns c =
 returns-2 : tie.Need-returns-2
 returns-2 c =
     let at-agreed-versions = after-agreed-versions (c .before .before .before) in
-    let at-reads = after-reads at-agreed-versions in
-    let at-holidays = after-holidays at-reads in
+    let at-read-versions = after-read-versions at-agreed-versions in
+    let at-holidays = after-holidays at-read-versions in
     let at-versions = after-versions at-holidays in
     let past1 = passed1 (at-versions .before .before .before) in
     each _ _ _ (not-opened _ (after-check (past1 .before) .check .ensures) _ _ _ (past1 .before .before .found .given .1) _ _
@@ -76,8 +76,8 @@ fill-all-requires : tie.Need-fill-all-requires
 fill-all-requires c κs =
     let past2 = passed2 c in
     let at-agreed-versions = after-agreed-versions (past2 .before .before .before) in
-    let at-reads = after-reads at-agreed-versions in
-    let at-holidays = after-holidays at-reads in
+    let at-read-versions = after-read-versions at-agreed-versions in
+    let at-holidays = after-holidays at-read-versions in
     let at-versions = after-versions at-holidays in
     let past1 = passed1 (at-versions .before .before .before) in
     let at-check = after-check (past1 .before) in (
@@ -93,7 +93,7 @@ same-length-11 c =
     omega (
       arith,
       after-versions
-          (after-holidays (after-reads (after-agreed-versions (after-widths (c .before))))) .before .before .values .given,
+          (after-holidays (after-read-versions (after-agreed-versions (after-widths (c .before))))) .before .before .values .given,
       after-values2 (after-statuses2 (after-readings2 (after-agreed2 (after-counts2 (c .before))))) .values2 .given,
     )
 
@@ -101,7 +101,7 @@ same-length-12 : tie.Need-same-length-12
 same-length-12 c =
     omega (
       arith,
-      after-versions (after-holidays (after-reads (after-agreed-versions (after-widths (c .before))))) .versions .given,
+      after-versions (after-holidays (after-read-versions (after-agreed-versions (after-widths (c .before))))) .versions .given,
       after-statuses2 (after-readings2 (after-agreed2 (after-counts2 (c .before)))) .before .before .versions2 .given,
     )
 
@@ -109,7 +109,7 @@ same-length-13 : tie.Need-same-length-13
 same-length-13 c =
     omega (
       arith,
-      after-holidays (after-reads (after-agreed-versions (after-widths (c .before)))) .before .before .statuses .given,
+      after-holidays (after-read-versions (after-agreed-versions (after-widths (c .before)))) .before .before .statuses .given,
       after-statuses2 (after-readings2 (after-agreed2 (after-counts2 (c .before)))) .statuses2 .given,
     )
 
@@ -117,7 +117,7 @@ same-length-14 : tie.Need-same-length-14
 same-length-14 c =
     omega (
       arith,
-      after-holidays (after-reads (after-agreed-versions (after-widths (c .before)))) .holidays .given,
+      after-holidays (after-read-versions (after-agreed-versions (after-widths (c .before)))) .holidays .given,
       after-readings2 (after-agreed2 (after-counts2 (c .before))) .before .before .holidays2 .given,
     )
 
@@ -125,7 +125,7 @@ same-length-15 : tie.Need-same-length-15
 same-length-15 c =
     omega (
       arith,
-      after-reads (after-agreed-versions (after-widths (c .before))) .before .before .readings .given,
+      after-read-versions (after-agreed-versions (after-widths (c .before))) .before .before .readings .given,
       after-readings2 (after-agreed2 (after-counts2 (c .before))) .readings2 .given,
     )
 
@@ -133,8 +133,8 @@ same-length-16 : tie.Need-same-length-16
 same-length-16 c =
     omega (
       arith,
-      after-reads (after-agreed-versions (after-widths (c .before))) .reads .given,
-      after-agreed2 (after-counts2 (c .before)) .before .before .reads2 .given,
+      after-read-versions (after-agreed-versions (after-widths (c .before))) .read-versions .given,
+      after-agreed2 (after-counts2 (c .before)) .before .before .read-versions2 .given,
     )
 
 same-length-17 : tie.Need-same-length-17
@@ -163,8 +163,8 @@ returns-3 : tie.Need-returns-3
 returns-3 c =
     let at-widths = after-widths (c .before) in
     let at-agreed-versions = after-agreed-versions at-widths in
-    let at-reads = after-reads at-agreed-versions in
-    let at-holidays = after-holidays at-reads in
+    let at-read-versions = after-read-versions at-agreed-versions in
+    let at-holidays = after-holidays at-read-versions in
     let at-versions = after-versions at-holidays in
     let at-counts2 = after-counts2 (c .before) in
     let at-agreed2 = after-agreed2 at-counts2 in
@@ -177,7 +177,7 @@ returns-3 c =
     (start (after-check (past1 .before)) .args .answers .now) (at-versions .before .before .before .«open» .ensures .0)
     (sym (past2 .before .is-done .ensures) ∙ not-false _ (past2 .if2 .left)) (at-versions .before .before .before .«open» .ensures .1)
     (past1 .if1 .left) (at-values2 .before .fill-all .ensures) in
-    (sym (ap Is (past1 .before .before .found .given .1)) ∙ m .answer, m .lists, m .told)
+    (sym (ap AsChecked (past1 .before .before .found .given .1)) ∙ m .answer, m .lists, m .told)
 
 returns-4 : tie.Need-returns-4
 returns-4 c = each _ _ _ (no-log _ _ _ (c .before .before .check .ensures) (λ h e. let z : _≡_ {A = ℕ} 0 1 = cc in omega arith))

@@ -9,19 +9,19 @@ use Rattle.rules.specs.declared.limits.Loaded.{Loaded}
 use Rattle.rules.specs.declared.limits.Loaded.the-variants as loaded
 use Rattle.rules.specs.Limits.{loadAnswer}
 use Rattle.rules.specs.Opening.{headOk}
-use Rattle.log.specs.declared.line.Line.{Line}
-use Rattle.log.specs.declared.line.Line.the-variants as line
+use Rattle.log.specs.declared.line.LogLine.{LogLine}
+use Rattle.log.specs.declared.line.LogLine.the-variants as line
 use Rattle.log.specs.declared.line.Opening.{Opening}
-use Rattle.log.specs.Log.{lines, Item, items, callsIn, readLog, readOpen, headWith, orBuiltIn}
+use Rattle.log.specs.Log.{lines, Item, items, readLog, readOpen, headWith, orBuiltIn}
 use Rattle.log.specs.Log.Item.{passed, table, opening, call, neither}
 use Rattle.log.specs.Inner.Lines.{FoundAt}
 use Rattle.play.specs.declared.Checked.the-variants as coded
-use Rattle.play.specs.declared.reading.Lead.{Lead}
-use Rattle.play.specs.declared.reading.Lead.the-variants as lead
-use Rattle.play.specs.declared.reading.Passing.{Passing}
+use Rattle.play.specs.declared.reading.OpeningFound.{OpeningFound}
+use Rattle.play.specs.declared.reading.OpeningFound.the-variants as opened
+use Rattle.play.specs.declared.reading.TestedLine.{TestedLine}
 use Rattle.play.specs.declared.reading.Step.{Step}
 use Rattle.play.specs.declared.reading.Step.the-variants.{On, Opened, NotACall, Refused}
-use Rattle.play.specs.Playing.{checked, callsOf}
+use Rattle.play.specs.Playing.{checked, logCalls}
 
 -- what a table, and an opening, that loads or does not, comes to
 unfoldable pub tableStep : Loaded → Step
@@ -59,21 +59,21 @@ tableAfter t (call c) = t
 tableAfter t neither = t
 
 -- what was found at line n, with the place after it
-unfoldable pub leadOf : Step → ℕ → ℕ → Lead
-leadOf On at n = lead.Is coded.NoOpening
-leadOf (Opened h) at n = lead.Opened h at n
-leadOf NotACall at n = lead.Is (coded.NotACall n)
-leadOf (Refused k) at n = lead.Is (coded.Refused n k)
+unfoldable pub openingAt : Step → ℕ → ℕ → OpeningFound
+openingAt On at n = opened.Without coded.NoOpening
+openingAt (Opened h) at n = opened.Opened h at n
+openingAt NotACall at n = opened.Without (coded.NotACall n)
+openingAt (Refused k) at n = opened.Without (coded.Refused n k)
 
 -- a line that can stand after the opening, and how many calls it is
-abbrev pub isOutside : Line → Bool
+abbrev pub isOutside : LogLine → Bool
 isOutside line.Passed = false
 isOutside line.Table = true
 isOutside (line.Open o) = true
 isOutside (line.Fill c) = false
 isOutside line.NoCall = true
 
-abbrev pub callsAt : Line → ℕ
+abbrev pub callsAt : LogLine → ℕ
 callsAt line.Passed = 0
 callsAt line.Table = 0
 callsAt (line.Open o) = 0
@@ -81,8 +81,8 @@ callsAt (line.Fill c) = 1
 callsAt line.NoCall = 0
 
 -- the line at a place is such a line or not, and so many calls
-pub record PassingAt (bytes : List ℕ) (at : ℕ) (r : Passing) : Type 0 where
-  pub line : Line
+pub record TestedAt (bytes : List ℕ) (at : ℕ) (r : TestedLine) : Type 0 where
+  pub line : LogLine
   pub found : FoundAt bytes at line (r .next)
   pub outside : r .outside ≡ isOutside line
   pub calls : r .calls ≡ callsAt line
@@ -93,10 +93,10 @@ pub record Reached (bytes : List ℕ) (at n calls : ℕ) : Type 0 where
   pub few : n ≤ at
   pub fewer : calls ≤ n
   pub lineCount : length (lines bytes) ≡ n + length (lines (drop at bytes))
-  pub callCount : length (callsOf bytes) ≡ calls + length (callsOf (drop at bytes))
+  pub callCount : length (logCalls bytes) ≡ calls + length (logCalls (drop at bytes))
 
 -- the opening was found in the line before the place, or the log is none
-abbrev pub LeadMeant : List ℕ → Lead → Type 0
-LeadMeant bytes (lead.Opened h at n) =
+abbrev pub OpeningMeant : List ℕ → OpeningFound → Type 0
+OpeningMeant bytes (opened.Opened h at n) =
     Reached bytes at n 0 × (readLog bytes ≡ readOpen h (suc n) (items (drop at bytes)))
-LeadMeant bytes (lead.Is c) = c ≡ checked bytes
+OpeningMeant bytes (opened.Without c) = c ≡ checked bytes

@@ -17,7 +17,7 @@ entry-taken1 c = c .before .before .before .before .before .before .before .befo
 
 abbrev lent : tie.Start → Book
 lent c =
-    lentBook (c .args .values) (c .args .versions) (c .args .statuses) (c .args .holidays) (c .args .readings) (c .args .reads)
+    lentBook (c .args .values) (c .args .versions) (c .args .statuses) (c .args .holidays) (c .args .readings) (c .args .read-versions)
     (c .args .agreed) (c .args .agreed-versions) (c .args .counts) (c .args .widths)
 
 -- ---- The tests that were passed

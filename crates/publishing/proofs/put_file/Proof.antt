@@ -52,8 +52,8 @@ cast-t20 c =
     let begun = start-known2 (c .before) in
     let a = begun .args in
     let w = bounded (a .head) (begun .pre .0 .whole .lent .fitted .head) in
-    let b = cells (slots (a .values .now) (a .versions .now) (a .statuses .now)) (a .holidays .now) (a .readings .now) (a .reads .now)
-    (agreedLists (a .agreed .now) (a .agreed-versions .now)) (a .widths .now) in
+    let b = cells (slots (a .values .now) (a .versions .now) (a .statuses .now)) (a .holidays .now) (a .readings .now)
+    (a .read-versions .now) (agreedLists (a .agreed .now) (a .agreed-versions .now)) (a .widths .now) in
     omega (arith, begun .pre .1, spans-few (a .head) b, w .days-high)
 
 add-t21 : tie.Need-add-t21
@@ -61,8 +61,8 @@ add-t21 c =
     let begun = start-known2 (c .before .before) in
     let a = begun .args in
     let w = bounded (a .head) (begun .pre .0 .whole .lent .fitted .head) in
-    let b = cells (slots (a .values .now) (a .versions .now) (a .statuses .now)) (a .holidays .now) (a .readings .now) (a .reads .now)
-    (agreedLists (a .agreed .now) (a .agreed-versions .now)) (a .widths .now) in
+    let b = cells (slots (a .values .now) (a .versions .now) (a .statuses .now)) (a .holidays .now) (a .readings .now)
+    (a .read-versions .now) (agreedLists (a .agreed .now) (a .agreed-versions .now)) (a .widths .now) in
     omega (
       arith,
       filled-low (a .head) b (after-put-tables (c .before) .put-tables .result) (after-put-tables (c .before) .put-tables .ensures .0) w,
@@ -73,8 +73,8 @@ mul-put-trailer c =
     let begun = start-known2 (c .before .before .before) in
     let a = begun .args in
     let w = bounded (a .head) (begun .pre .0 .whole .lent .fitted .head) in
-    let b = cells (slots (a .values .now) (a .versions .now) (a .statuses .now)) (a .holidays .now) (a .readings .now) (a .reads .now)
-    (agreedLists (a .agreed .now) (a .agreed-versions .now)) (a .widths .now) in
+    let b = cells (slots (a .values .now) (a .versions .now) (a .statuses .now)) (a .holidays .now) (a .readings .now)
+    (a .read-versions .now) (agreedLists (a .agreed .now) (a .agreed-versions .now)) (a .widths .now) in
     omega (arith, begun .pre .1, spans-few (a .head) b, w .days-high)
 
 add-put-trailer : tie.Need-add-put-trailer
@@ -82,8 +82,8 @@ add-put-trailer c =
     let begun = start-known2 (c .before .before .before) in
     let a = begun .args in
     let w = bounded (a .head) (begun .pre .0 .whole .lent .fitted .head) in
-    let b = cells (slots (a .values .now) (a .versions .now) (a .statuses .now)) (a .holidays .now) (a .readings .now) (a .reads .now)
-    (agreedLists (a .agreed .now) (a .agreed-versions .now)) (a .widths .now) in
+    let b = cells (slots (a .values .now) (a .versions .now) (a .statuses .now)) (a .holidays .now) (a .readings .now)
+    (a .read-versions .now) (agreedLists (a .agreed .now) (a .agreed-versions .now)) (a .widths .now) in
     omega (
       arith,
       begun .pre .1,
@@ -106,8 +106,8 @@ returns c =
     let begun = start-known2 (at-first-day .before) in
     let a = begun .args in
     let w = bounded (a .head) (begun .pre .0 .whole .lent .fitted .head) in
-    let b = cells (slots (a .values .now) (a .versions .now) (a .statuses .now)) (a .holidays .now) (a .readings .now) (a .reads .now)
-    (agreedLists (a .agreed .now) (a .agreed-versions .now)) (a .widths .now) in
+    let b = cells (slots (a .values .now) (a .versions .now) (a .statuses .now)) (a .holidays .now) (a .readings .now)
+    (a .read-versions .now) (agreedLists (a .agreed .now) (a .agreed-versions .now)) (a .widths .now) in
     let f = figures-found (a .head) b (at-put-tables .put-tables .result) (at-put-tables .put-tables .ensures .0)
     (at-first-day .first-day .result) (a .spans) (at-first-day .first-day .ensures) (begun .pre .1) in
     let l : fileLength (a .head) b ≤ length (a .out .now) =

@@ -26,7 +26,7 @@ book-ok-requires c κs = entry c .pre
 returns : tie.Need-returns
 returns c = let start = entry (c .before .before) in
     let a = start .args in
-    let b = lentBook (a .values) (a .versions) (a .statuses) (a .holidays) (a .readings) (a .reads) (a .agreed) (a .agreed-versions)
+    let b = lentBook (a .values) (a .versions) (a .statuses) (a .holidays) (a .readings) (a .read-versions) (a .agreed) (a .agreed-versions)
     (a .counts) (a .widths) in
     refused-11 (a .head) b (a .out .now) (start .pre .0) (start .pre .1) (sym (c .before .book-ok .ensures) ∙ not-true _ (c .if1 .taken))
 
@@ -34,7 +34,7 @@ put-sound-requires : tie.Need-put-sound-requires
 unfolding bookOk
 put-sound-requires c κs = let start = entry (c .before .before .before) in
     let a = start .args in
-    let b = lentBook (a .values) (a .versions) (a .statuses) (a .holidays) (a .readings) (a .reads) (a .agreed) (a .agreed-versions)
+    let b = lentBook (a .values) (a .versions) (a .statuses) (a .holidays) (a .readings) (a .read-versions) (a .agreed) (a .agreed-versions)
     (a .counts) (a .widths) in
     record {
       head = start .pre .0;
@@ -46,7 +46,7 @@ returns-2 : tie.Need-returns-2
 returns-2 c = let at-else = passed1 (c .before) in
     let start = entry (at-else .before .before) in
     let a = start .args in
-    let b = lentBook (a .values) (a .versions) (a .statuses) (a .holidays) (a .readings) (a .reads) (a .agreed) (a .agreed-versions)
+    let b = lentBook (a .values) (a .versions) (a .statuses) (a .holidays) (a .readings) (a .read-versions) (a .agreed) (a .agreed-versions)
     (a .counts) (a .widths) in
     put-left (a .head) b (a .out .now) (start .pre .0) (start .pre .1)
     (sym (at-else .before .book-ok .ensures) ∙ not-false _ (at-else .if1 .left))

@@ -24,14 +24,14 @@ length-of-requires : tie.Need-length-of-requires
 length-of-requires c κs =
     let begun = start c in
     let a = begun .args in
-    let b = cells (slots (a .values .now) (a .versions .now) (a .statuses .now)) (a .holidays .now) (a .readings .now) (a .reads .now)
-    (agreedLists (a .agreed .now) (a .agreed-versions .now)) (a .widths .now) in
+    let b = cells (slots (a .values .now) (a .versions .now) (a .statuses .now)) (a .holidays .now) (a .readings .now)
+    (a .read-versions .now) (agreedLists (a .agreed .now) (a .agreed-versions .now)) (a .widths .now) in
     (begun .pre .head, spans-low (a .head) b (begun .pre) _ (c .span-count .ensures))
 
 returns : tie.Need-returns
 returns c = let a = start (c .before .before) .args in
-    let b = cells (slots (a .values .now) (a .versions .now) (a .statuses .now)) (a .holidays .now) (a .readings .now) (a .reads .now)
-    (agreedLists (a .agreed .now) (a .agreed-versions .now)) (a .widths .now) in
+    let b = cells (slots (a .values .now) (a .versions .now) (a .statuses .now)) (a .holidays .now) (a .readings .now)
+    (a .read-versions .now) (agreedLists (a .agreed .now) (a .agreed-versions .now)) (a .widths .now) in
     refused-7 (a .head) b (a .out .now) _
     (length-found (a .head) b (start (c .before .before) .pre) _ (c .before .before .span-count .ensures) _ (c .before .length-of .ensures))
     (c .if1 .taken)
@@ -40,8 +40,8 @@ put-file-requires : tie.Need-put-file-requires
 put-file-requires c κs =
     let begun = start (c .before .before .before) in
     let a = begun .args in
-    let b = cells (slots (a .values .now) (a .versions .now) (a .statuses .now)) (a .holidays .now) (a .readings .now) (a .reads .now)
-    (agreedLists (a .agreed .now) (a .agreed-versions .now)) (a .widths .now) in
+    let b = cells (slots (a .values .now) (a .versions .now) (a .statuses .now)) (a .holidays .now) (a .readings .now)
+    (a .read-versions .now) (agreedLists (a .agreed .now) (a .agreed-versions .now)) (a .widths .now) in
     let m = spans-found (a .head) b (begun .pre) _ (c .before .before .before .span-count .ensures) in
     let room : 6 * slotCount (a .head) + 14 * length (spans (a .head) b) + 32 ≤ length (a .out .now) =
     omega (arith, m, c .before .if1 .left, c .before .before .length-of .ensures) in
@@ -51,8 +51,8 @@ returns-2 : tie.Need-returns-2
 returns-2 c =
     let past1 = passed1 (c .before) in
     let a = start (past1 .before .before) .args in
-    let b = cells (slots (a .values .now) (a .versions .now) (a .statuses .now)) (a .holidays .now) (a .readings .now) (a .reads .now)
-    (agreedLists (a .agreed .now) (a .agreed-versions .now)) (a .widths .now) in
+    let b = cells (slots (a .values .now) (a .versions .now) (a .statuses .now)) (a .holidays .now) (a .readings .now)
+    (a .read-versions .now) (agreedLists (a .agreed .now) (a .agreed-versions .now)) (a .widths .now) in
     long-enough (a .head) b (a .out .now) _
     (length-found (a .head) b (start (past1 .before .before) .pre) _ (past1 .before .before .span-count .ensures) _
     (past1 .before .length-of .ensures)) (past1 .if1 .left) _ (c .before .before .put-file .ensures)

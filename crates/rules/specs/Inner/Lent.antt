@@ -49,6 +49,6 @@ pub record Widths (h : Head) (widths : List ℕ) : Type 0 where
 pub record Whole (h : Head) (b : Cells) : Type 0 where
   pub lent : Lent h (b .slots) (b .holidays)
   pub dialled : Dialled h (b .readings)
-  pub reads : length (b .reads) ≡ suc (h .days)
+  pub readVersions : length (b .readVersions) ≡ suc (h .days)
   pub settled : Settled h (b .agreed)
   pub widths : Widths h (b .widths)

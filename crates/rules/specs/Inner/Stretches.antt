@@ -64,7 +64,7 @@ stretchOf h b first none i = unscaledTo (slotCount h)
 -- the stretch that day d lies in, before slot i
 unfoldable pub stretchOn : Head → Cells → ℕ → ℕ → Stretch
 stretchOn h b d i =
-    stretchOf h b (lastRead (b .reads) d) (nextRead (b .reads) (d + 1) (h .days - d)) i
+    stretchOf h b (lastRead (b .readVersions) d) (nextRead (b .readVersions) (d + 1) (h .days - d)) i
 
 -- the stretch that slot i lies in
 unfoldable pub stretchAt : Head → Cells → ℕ → Stretch
@@ -107,11 +107,11 @@ beginsAt h b i = cond (eqb (i % slotsPerDay h) 0) (firstOf (spanFrom h b (i / sl
 
 -- the same at boundary d, with the next boundary in hand
 unfoldable pub beginsWith : Head → Cells → ℕ → ℕ → Begins
-beginsWith h b d last = cond (isRead (b .reads) d) (Span (spanOf h b d last)) Nothing
+beginsWith h b d last = cond (isRead (b .readVersions) d) (Span (spanOf h b d last)) Nothing
 
 unfoldable pub stretchFrom : Head → Cells → ℕ → ℕ → ℕ → Stretch
 stretchFrom h b d last i =
-    cond (isRead (b .reads) d) (spanStretch h b d last i) (unscaledTo (last * slotsPerDay h))
+    cond (isRead (b .readVersions) d) (spanStretch h b d last i) (unscaledTo (last * slotsPerDay h))
 
 -- the pass stands at the first slot of the span between two boundaries
 pub record Starts (h : Head) (s : Slots) (agreed : List ℕ) (walk : Walk) (first last : ℕ) : Type 0 where

@@ -10,7 +10,7 @@ use Rattle.rules.specs.declared.Head.{Head}
 use Rattle.rules.specs.declared.Outcome.{Outcome}
 use Rattle.rules.specs.declared.Quality.the-variants.{A, S, F}
 use Rattle.rules.specs.declared.walk.Walk.{Walk}
-use Rattle.rules.specs.declared.linear.Line.{Line}
+use Rattle.rules.specs.declared.linear.StraightLine.{StraightLine}
 use Rattle.rules.specs.Opening.{Slots, Agreed, slotCount}
 use Rattle.rules.specs.Tests.{isGap, goodAt}
 use Rattle.rules.specs.Filling.{outageBefore, outageAfter, isAgreed, inRun, runBefore, runFrom, runStart, runLength, isLinear}
@@ -61,11 +61,11 @@ pub record DirectTo (h : Head) (s : Slots) (a : Agreed) (from to end : ℕ) (las
   pub outage : last ≡ zeroBefore (s .versions) (s .statuses) (slotCount h) end
 
 -- the j-th slot of a run that no line fills; 0 where there is no run
-abbrev pub bareLine : ℕ → Line
+abbrev pub bareLine : ℕ → StraightLine
 bareLine j = record { place = j; length = 0; left = 0; right = 0 }
 
 -- slot i of a run that the line fills: j, g, l and r
-abbrev pub fullLine : Head → Slots → List ℕ → ℕ → Line
+abbrev pub fullLine : Head → Slots → List ℕ → ℕ → StraightLine
 fullLine h s agreed i = record {
   place = suc (runBefore h s agreed i);
   length = runLength h s agreed i;
@@ -74,16 +74,16 @@ fullLine h s agreed i = record {
 }
 
 -- slot i of a run
-unfoldable pub lineThrough : Head → Slots → List ℕ → ℕ → Line
+unfoldable pub lineThrough : Head → Slots → List ℕ → ℕ → StraightLine
 lineThrough h s agreed i =
     cond (isLinear h s agreed i) (fullLine h s agreed i) (bareLine (suc (runBefore h s agreed i)))
 
 -- the run of slot i, if it lies in one
-unfoldable pub lineAt : Head → Slots → List ℕ → ℕ → Line
+unfoldable pub lineAt : Head → Slots → List ℕ → ℕ → StraightLine
 lineAt h s agreed i = cond (inRun h s agreed i) (lineThrough h s agreed i) (bareLine 0)
 
 -- that of the slot before slot i
-unfoldable pub lineBefore : Head → Slots → List ℕ → ℕ → Line
+unfoldable pub lineBefore : Head → Slots → List ℕ → ℕ → StraightLine
 lineBefore h s agreed zero = bareLine 0
 lineBefore h s agreed (suc i) = lineAt h s agreed i
 
@@ -98,14 +98,14 @@ lengthWithin h s agreed i =
     cond (every (endTests h s i g)) g 0
 
 -- figures of a line that fit
-pub record Drawn (l : Line) : Type 0 where
+pub record Drawn (l : StraightLine) : Type 0 where
   pub place : l .place ≤ l .length
   pub length : l .length ≤ 24
   pub left : l .left ≤ 500_000
   pub right : l .right ≤ 500_000
 
 -- the outcome before scaling of a slot that has a cause and is not agreed, from its line and its references
-unfoldable pub ruledBy : Bool → Line → List ℕ → Outcome
+unfoldable pub ruledBy : Bool → StraightLine → List ℕ → Outcome
 ruledBy zeroed l xs =
     cond zeroed (record { value = 0; quality = A; method = 1 })
     (cond (ltb 0 (l .length)) (record { value = lineValue (l .left) (l .right) (l .place) (l .length); quality = S; method = 2 })

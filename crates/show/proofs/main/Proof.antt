@@ -7,16 +7,17 @@ use Rattle.show.proofs.main.Tie as tie
 
 -- ---- Places
 
-abbrev after-fill : tie.After-n → tie.After-fill
-after-fill c = c .before .before .before
+abbrev after-read-all : tie.After-n → tie.After-read-all
+after-read-all c = c .before .before .before
 
 -- ---- Needs
 
 array-share-prefix-buf : tie.Need-array-share-prefix-buf
-array-share-prefix-buf c = simp (c .before .n .given .1) at (after-fill (c .before) .fill .ensures)
+array-share-prefix-buf c = simp (c .before .n .given .1) at (after-read-all (c .before) .read-all .ensures)
 
 slice-aggregate-line : tie.Need-slice-aggregate-line
-slice-aggregate-line c = sym (length-take-le _ _ (simp (c .before .before .n .given .1) at (after-fill (c .before .before) .fill .ensures)))
+slice-aggregate-line c = sym (length-take-le _ _ (simp (c .before .before .n .given .1) at
+    (after-read-all (c .before .before) .read-all .ensures)))
 
 slice-aggregate-write-all : tie.Need-slice-aggregate-write-all
 slice-aggregate-write-all c = sym (length-take-le _ _ (search needs))

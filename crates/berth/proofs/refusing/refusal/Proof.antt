@@ -9,7 +9,7 @@ use Rattle.berth.proofs.refusing.refusal.Tie as tie
 
 -- ---- Places
 
-abbrev after-head-ok : tie.After-beside-lists → tie.After-head-ok
+abbrev after-head-ok : tie.After-refusal-past-lengths → tie.After-head-ok
 after-head-ok c = c .before .before .before .before
 
 -- ---- Needs
@@ -28,14 +28,15 @@ returns-2 c =
       sym (c .before .book-fits .ensures) ∙ not-true _ (c .if2 .taken),
     )
 
-beside-lists-requires : tie.Need-beside-lists-requires
-beside-lists-requires c κs = sym (c .before .before .before .head-ok .ensures) ∙ not-false _ (c .before .before .if1 .left)
+refusal-past-lengths-requires : tie.Need-refusal-past-lengths-requires
+refusal-past-lengths-requires c κs = sym (c .before .before .before .head-ok .ensures) ∙ not-false _ (c .before .before .if1 .left)
 
 returns-3 : tie.Need-returns-3
 unfolding cellsFit slotsFit daysFit readsFit agreedFits countsFit bookFits
 returns-3 c =
     let good = sym (after-head-ok c .head-ok .ensures) ∙ not-false _ (c .before .before .before .if1 .left) in
-    rw (good, sym (c .before .before .book-fits .ensures) ∙ not-false _ (c .before .if2 .left), file-size) (c .beside-lists .ensures)
+    rw (good, sym (c .before .before .book-fits .ensures) ∙ not-false _ (c .before .if2 .left), file-size)
+    (c .refusal-past-lengths .ensures)
 
 pub refusal-spec : {M : Type 1} → statement M
 refusal-spec =
@@ -45,5 +46,5 @@ refusal-spec =
     returns
     book-fits-requires
     returns-2
-    beside-lists-requires
+    refusal-past-lengths-requires
     returns-3)

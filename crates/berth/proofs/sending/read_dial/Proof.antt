@@ -1,11 +1,10 @@
 -- `sending::read_dial`: the second read is given the lists as the first left them.
-use mathlib.Core.Path.{_≡_, ap, _∙_}
-use Rattle.book.specs.Lent.{readLists, lentReads}
+use mathlib.Core.Path.{ap, _∙_}
+use Rattle.book.specs.Lent.{lentReads}
 use Prim.Native.Nat.{_%_}
 use mathlib.Core.Path.{ap, _∙_}
 use Rattle.book.specs.Cells.{Reads}
 use Rattle.book.specs.Filling.{registerAfter}
-use Rattle.book.specs.Lent.{readLists}
 use borrow.Author.Needs.{needs}
 use Rattle.berth.proofs.sending.read_dial.Statement.{statement}
 use Rattle.berth.proofs.sending.read_dial.Tie as tie
@@ -29,7 +28,7 @@ returns c =
     let a = after-register at-register2 .register .ensures .1 in
     let b = at-register2 .register2 .ensures .1 in
     let e = start (after-register at-register2) .args in
-    let old = lentReads (e .readings) (e .reads) (e .widths) in
+    let old = lentReads (e .readings) (e .read-versions) (e .widths) in
     let then : Reads → Reads = λ r. registerAfter (e .head) r (e .head .days) 1 (e .total % 100_000_000) 0 in
     b ∙ ap then a
 

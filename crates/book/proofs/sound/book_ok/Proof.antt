@@ -17,7 +17,7 @@ start c = c .before .before .before .before .before .before .before .before .bef
 
 cells-ok-requires : tie.Need-cells-ok-requires
 cells-ok-requires c κs = let a = start c .args in
-    fits-of (a .head) (lentBook (a .values) (a .versions) (a .statuses) (a .holidays) (a .readings) (a .reads) (a .agreed)
+    fits-of (a .head) (lentBook (a .values) (a .versions) (a .statuses) (a .holidays) (a .readings) (a .read-versions) (a .agreed)
     (a .agreed-versions) (a .counts) (a .widths)) (start c .pre .1) .0
 
 returns : tie.Need-returns
@@ -28,7 +28,7 @@ bad-count-requires : tie.Need-bad-count-requires
 bad-count-requires c κs =
     let begun = start (c .before .before) in
     let a = begun .args in
-    let b = lentBook (a .values) (a .versions) (a .statuses) (a .holidays) (a .readings) (a .reads) (a .agreed) (a .agreed-versions)
+    let b = lentBook (a .values) (a .versions) (a .statuses) (a .holidays) (a .readings) (a .read-versions) (a .agreed) (a .agreed-versions)
     (a .counts) (a .widths) in
     let fits = fits-of (a .head) b (begun .pre .1) in
     (begun .pre .0, lengths-of (a .head) (b .cells) (fits .0) .versions, fits .1)
@@ -38,7 +38,7 @@ unfolding bookOk
 returns-2 c =
     let begun = start (c .before .before .before) in
     let a = begun .args in
-    let b = lentBook (a .values) (a .versions) (a .statuses) (a .holidays) (a .readings) (a .reads) (a .agreed) (a .agreed-versions)
+    let b = lentBook (a .values) (a .versions) (a .statuses) (a .holidays) (a .readings) (a .read-versions) (a .agreed) (a .agreed-versions)
     (a .counts) (a .widths) in
     let fits = fits-of (a .head) b (begun .pre .1) in
     let found : any (countFaultAt (a .head) (a .versions .now) (a .counts .now)) 0 (a .head .days) ≡ c .bad-count .result =

@@ -29,16 +29,16 @@ after-bad-day-bad-agreed c = c .before .before .before .before
 
 bad-slot-requires : tie.Need-bad-slot-requires
 bad-slot-requires c κs = let a = start c .args in
-    let b = cells (slots (a .values .now) (a .versions .now) (a .statuses .now)) (a .holidays .now) (a .readings .now) (a .reads .now)
-    (agreedLists (a .agreed .now) (a .agreed-versions .now)) (a .widths .now) in
+    let b = cells (slots (a .values .now) (a .versions .now) (a .statuses .now)) (a .holidays .now) (a .readings .now)
+    (a .read-versions .now) (agreedLists (a .agreed .now) (a .agreed-versions .now)) (a .widths .now) in
     let l = lengths-of (a .head) b (start c .pre) in
     (l .versions ∙ sym (l .values), l .statuses ∙ sym (l .values))
 
 returns : tie.Need-returns
 unfolding cellsOk
 returns c = let a = start (c .before .before) .args in
-    let b = cells (slots (a .values .now) (a .versions .now) (a .statuses .now)) (a .holidays .now) (a .readings .now) (a .reads .now)
-    (agreedLists (a .agreed .now) (a .agreed-versions .now)) (a .widths .now) in
+    let b = cells (slots (a .values .now) (a .versions .now) (a .statuses .now)) (a .holidays .now) (a .readings .now)
+    (a .read-versions .now) (agreedLists (a .agreed .now) (a .agreed-versions .now)) (a .widths .now) in
     let l = lengths-of (a .head) b (start (c .before .before) .pre) in
     let s : any (slotFaultAt (b .slots)) 0 (slotCount (a .head)) ≡ true =
     rw (l .values) at (sym (c .before .bad-slot .ensures) ∙ c .if1 .taken) in
@@ -47,8 +47,8 @@ returns c = let a = start (c .before .before) .args in
 returns-2 : tie.Need-returns-2
 unfolding cellsOk
 returns-2 c = let a = start-bad-day (c .before) .args in
-    let b = cells (slots (a .values .now) (a .versions .now) (a .statuses .now)) (a .holidays .now) (a .readings .now) (a .reads .now)
-    (agreedLists (a .agreed .now) (a .agreed-versions .now)) (a .widths .now) in
+    let b = cells (slots (a .values .now) (a .versions .now) (a .statuses .now)) (a .holidays .now) (a .readings .now)
+    (a .read-versions .now) (agreedLists (a .agreed .now) (a .agreed-versions .now)) (a .widths .now) in
     let l = lengths-of (a .head) b (start-bad-day (c .before) .pre) in
     let s : any (slotFaultAt (b .slots)) 0 (slotCount (a .head)) ≡ false =
     rw (l .values) at (sym (c .before .before .before .bad-slot .ensures) ∙ c .before .before .if1 .left) in
@@ -58,18 +58,18 @@ returns-2 c = let a = start-bad-day (c .before) .args in
 
 bad-read-requires : tie.Need-bad-read-requires
 bad-read-requires c κs = let a = start-bad-day (c .before) .args in
-    let b = cells (slots (a .values .now) (a .versions .now) (a .statuses .now)) (a .holidays .now) (a .readings .now) (a .reads .now)
-    (agreedLists (a .agreed .now) (a .agreed-versions .now)) (a .widths .now) in
+    let b = cells (slots (a .values .now) (a .versions .now) (a .statuses .now)) (a .holidays .now) (a .readings .now)
+    (a .read-versions .now) (agreedLists (a .agreed .now) (a .agreed-versions .now)) (a .widths .now) in
     let l = lengths-of (a .head) b (start-bad-day (c .before) .pre) in
-    (l .reads ∙ sym (l .readings), l .widths ∙ sym (l .readings))
+    (l .readVersions ∙ sym (l .readings), l .widths ∙ sym (l .readings))
 
 returns-3 : tie.Need-returns-3
 unfolding cellsOk
 returns-3 c =
     let at-bad-day = after-bad-day c in
     let a = start-bad-day at-bad-day .args in
-    let b = cells (slots (a .values .now) (a .versions .now) (a .statuses .now)) (a .holidays .now) (a .readings .now) (a .reads .now)
-    (agreedLists (a .agreed .now) (a .agreed-versions .now)) (a .widths .now) in
+    let b = cells (slots (a .values .now) (a .versions .now) (a .statuses .now)) (a .holidays .now) (a .readings .now)
+    (a .read-versions .now) (agreedLists (a .agreed .now) (a .agreed-versions .now)) (a .widths .now) in
     let l = lengths-of (a .head) b (start-bad-day at-bad-day .pre) in
     let s : any (slotFaultAt (b .slots)) 0 (slotCount (a .head)) ≡ false =
     rw (l .values) at (sym (at-bad-day .before .before .bad-slot .ensures) ∙ at-bad-day .before .if1 .left) in
@@ -83,8 +83,8 @@ bad-agreed-requires : tie.Need-bad-agreed-requires
 bad-agreed-requires c κs =
     let begun = start-bad-day (c .before .before .before) in
     let a = begun .args in
-    let b = cells (slots (a .values .now) (a .versions .now) (a .statuses .now)) (a .holidays .now) (a .readings .now) (a .reads .now)
-    (agreedLists (a .agreed .now) (a .agreed-versions .now)) (a .widths .now) in
+    let b = cells (slots (a .values .now) (a .versions .now) (a .statuses .now)) (a .holidays .now) (a .readings .now)
+    (a .read-versions .now) (agreedLists (a .agreed .now) (a .agreed-versions .now)) (a .widths .now) in
     let l = lengths-of (a .head) b (begun .pre) in
     l .agreedVersions ∙ sym (l .agreed)
 
@@ -93,8 +93,8 @@ unfolding cellsOk
 returns-4 c =
     let at-bad-day = after-bad-day-bad-agreed c in
     let a = start-bad-day at-bad-day .args in
-    let b = cells (slots (a .values .now) (a .versions .now) (a .statuses .now)) (a .holidays .now) (a .readings .now) (a .reads .now)
-    (agreedLists (a .agreed .now) (a .agreed-versions .now)) (a .widths .now) in
+    let b = cells (slots (a .values .now) (a .versions .now) (a .statuses .now)) (a .holidays .now) (a .readings .now)
+    (a .read-versions .now) (agreedLists (a .agreed .now) (a .agreed-versions .now)) (a .widths .now) in
     let l = lengths-of (a .head) b (start-bad-day at-bad-day .pre) in
     let s : any (slotFaultAt (b .slots)) 0 (slotCount (a .head)) ≡ false =
     rw (l .values) at (sym (at-bad-day .before .before .bad-slot .ensures) ∙ at-bad-day .before .if1 .left) in

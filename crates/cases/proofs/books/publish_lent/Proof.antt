@@ -9,11 +9,11 @@ use Rattle.cases.proofs.books.publish_lent.Tie as tie
 abbrev after-versions : tie.After-holidays → tie.After-versions
 after-versions c = c .before .before .before .before
 
-abbrev after-holidays : tie.After-reads → tie.After-holidays
+abbrev after-holidays : tie.After-read-versions → tie.After-holidays
 after-holidays c = c .before .before .before .before
 
-abbrev after-reads : tie.After-agreed-versions → tie.After-reads
-after-reads c = c .before .before .before .before
+abbrev after-read-versions : tie.After-agreed-versions → tie.After-read-versions
+after-read-versions c = c .before .before .before .before
 
 abbrev after-agreed-versions : tie.After-widths → tie.After-agreed-versions
 after-agreed-versions c = c .before .before .before .before
@@ -45,41 +45,44 @@ same-length-11 c =
     let at-statuses2 = after-statuses2 (after-readings2 at-agreed2) in
     after-values2 at-statuses2 .values2 .given
     ∙ after-versions (after-holidays
-    (after-reads (after-agreed-versions (after-widths (after-values2 at-statuses2))))) .before .before .values .given
+    (after-read-versions (after-agreed-versions (after-widths (after-values2 at-statuses2))))) .before .before .values .given
 
 same-length-12 : tie.Need-same-length-12
 same-length-12 c =
     let at-agreed2 = after-agreed2 (after-counts2 (c .before)) in
     let at-statuses2 = after-statuses2 (after-readings2 at-agreed2) in
     at-statuses2 .before .before .versions2 .given
-    ∙ after-versions (after-holidays (after-reads (after-agreed-versions (after-widths (after-values2 at-statuses2))))) .versions .given
+    ∙ after-versions (after-holidays (after-read-versions
+    (after-agreed-versions (after-widths (after-values2 at-statuses2))))) .versions .given
 
 same-length-13 : tie.Need-same-length-13
 same-length-13 c =
     let at-agreed2 = after-agreed2 (after-counts2 (c .before)) in
     let at-statuses2 = after-statuses2 (after-readings2 at-agreed2) in
     at-statuses2 .statuses2 .given
-    ∙ after-holidays (after-reads (after-agreed-versions (after-widths (after-values2 at-statuses2)))) .before .before .statuses .given
+    ∙ after-holidays (after-read-versions (after-agreed-versions
+    (after-widths (after-values2 at-statuses2)))) .before .before .statuses .given
 
 same-length-14 : tie.Need-same-length-14
 same-length-14 c =
     let at-agreed2 = after-agreed2 (after-counts2 (c .before)) in
     after-readings2 at-agreed2 .before .before .holidays2 .given
-    ∙ after-holidays (after-reads
+    ∙ after-holidays (after-read-versions
     (after-agreed-versions (after-widths (after-values2 (after-statuses2 (after-readings2 at-agreed2)))))) .holidays .given
 
 same-length-15 : tie.Need-same-length-15
 same-length-15 c =
     let at-agreed2 = after-agreed2 (after-counts2 (c .before)) in
     after-readings2 at-agreed2 .readings2 .given
-    ∙ after-reads (after-agreed-versions
+    ∙ after-read-versions (after-agreed-versions
     (after-widths (after-values2 (after-statuses2 (after-readings2 at-agreed2))))) .before .before .readings .given
 
 same-length-16 : tie.Need-same-length-16
 same-length-16 c =
     let at-agreed2 = after-agreed2 (after-counts2 (c .before)) in
-    at-agreed2 .before .before .reads2 .given
-    ∙ after-reads (after-agreed-versions (after-widths (after-values2 (after-statuses2 (after-readings2 at-agreed2))))) .reads .given
+    at-agreed2 .before .before .read-versions2 .given
+    ∙ after-read-versions (after-agreed-versions (after-widths
+    (after-values2 (after-statuses2 (after-readings2 at-agreed2))))) .read-versions .given
 
 same-length-17 : tie.Need-same-length-17
 same-length-17 c =

@@ -12,8 +12,8 @@ start c = c .before .before .before .before .before .before .before
 
 -- ---- Needs
 
-fill-requires : tie.Need-fill-requires
-fill-requires c κs =
+fill-at-requires : tie.Need-fill-at-requires
+fill-at-requires c κs =
     let begun = start c in
     let a = begun .args in
     let s = slots (a .values .now) (a .versions .now) (a .statuses .now) in
@@ -28,7 +28,7 @@ returns : tie.Need-returns
 returns c = let a = (start (c .before)) .args in
     let s = slots (a .values .now) (a .versions .now) (a .statuses .now) in
     let p = walk-place (a .head) s (a .agreed-versions .now) (c .before .fills-before .result) (a .at) (c .before .fills-before .ensures) in
-    rw p at (c .fill .ensures)
+    rw p at (c .fill-at .ensures)
 
 pub fill-slot-spec : {M : Type 1} → statement M
-fill-slot-spec = tie.close (tie.spec (λ c κs. search needs) fill-requires returns)
+fill-slot-spec = tie.close (tie.spec (λ c κs. search needs) fill-at-requires returns)

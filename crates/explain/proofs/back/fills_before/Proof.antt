@@ -1,6 +1,6 @@
 -- `back::fills_before`: what a pass knows before slot k, from a good slot on.
 use mathlib.Core.List.{List}
-use Rattle.rules.specs.declared.linear.Line.{Line}
+use Rattle.rules.specs.declared.linear.StraightLine.{StraightLine}
 use Rattle.rules.specs.declared.Head.{Head}
 use borrow.Author.Needs.{needs}
 use Prim.Native.Nat.{ℕ, _≤_, _<_, _-_}
@@ -16,11 +16,12 @@ use Rattle.explain.proofs.Passing.{none-before, zero-next, line-next, w
 use Rattle.explain.proofs.back.fills_before.Statement.{statement}
 use Rattle.explain.proofs.back.fills_before.Tie as tie
 
-record Held (head : Head) (values versions statuses agreed-versions : List ℕ) (at k : ℕ) (outage : Bool) (line : Line) : Type 0 where
-  inside : k ≤ at
-  zeroed : outage ≡ zeroBefore versions statuses (slotCount head) k
-  drawn : line ≡ lineBefore head (slots values versions statuses) agreed-versions k
-  none : (j : ℕ) → k ≤ j → j < at → goodAt head (slots values versions statuses) j ≡ false
+record Held (head : Head) (values versions statuses agreed-versions : List ℕ) (at k : ℕ) (outage : Bool) (line : StraightLine) : Type 0
+  where
+    inside : k ≤ at
+    zeroed : outage ≡ zeroBefore versions statuses (slotCount head) k
+    drawn : line ≡ lineBefore head (slots values versions statuses) agreed-versions k
+    none : (j : ℕ) → k ≤ j → j < at → goodAt head (slots values versions statuses) j ≡ false
 
 abbrev Inv-loop : tie.InvT-loop
 Inv-loop head values versions statuses agreed-versions at k₀ outage₀ line₀ k outage line =

@@ -11,7 +11,7 @@ use Rattle.rules.specs.Lent.{slots, agreedLists, cells}
 use Rattle.rules.specs.Inner.Stretches.{nextMeant}
 use Rattle.rules.proofs.Bounds.{bounded, day-below}
 use Rattle.rules.proofs.Stretches.{next-behind}
-use Rattle.rules.proofs.Meeting.{stretch-versions}
+use Rattle.rules.proofs.SpanSums.{stretch-versions}
 use Rattle.explain.proofs.Holding.{between-read, spanned-versions, outside-first, outside-last, inside-both}
 use Rattle.explain.proofs.held.hold.Statement.{statement}
 use Rattle.explain.proofs.held.hold.Tie as tie
@@ -57,13 +57,13 @@ last-read-requires c κs =
     let begun = start (c .before) in
     let a = begun .args in
     let y = day-below (a .head) (bounded (a .head) (begun .pre .0 .lent .fitted .head)) (a .slot) (begun .pre .1) in
-    rw (c .slots-per-day .ensures, begun .pre .0 .reads) (omega (arith, y))
+    rw (c .slots-per-day .ensures, begun .pre .0 .readVersions) (omega (arith, y))
 
 returns : tie.Need-returns
 returns c = let a = (start-last-read (after-last-read c)) .args in
-    let b = cells (slots (a .values .now) (a .versions .now) (a .statuses .now)) (a .holidays .now) (a .readings .now) (a .reads .now)
-    (agreedLists (a .agreed .now) (a .agreed-versions .now)) (a .widths .now) in
-    let e : lastRead (a .reads .now) (a .slot / slotsPerDay (a .head)) ≡ none =
+    let b = cells (slots (a .values .now) (a .versions .now) (a .statuses .now)) (a .holidays .now) (a .readings .now)
+    (a .read-versions .now) (agreedLists (a .agreed .now) (a .agreed-versions .now)) (a .widths .now) in
+    let e : lastRead (a .read-versions .now) (a .slot / slotsPerDay (a .head)) ≡ none =
     rw (after-last-read c .before .slots-per-day .ensures) at
     (sym (c .before .before .before .last-read .ensures) ∙ ap nextMeant (c .before .enum-told .given .1)) in
     let o = outside-first (a .head) b (a .slot) e in
@@ -83,22 +83,22 @@ next-read-requires c κs =
     let begun = start-last-read at-last-read in
     let a = begun .args in
     let y = day-below (a .head) (bounded (a .head) (begun .pre .0 .lent .fitted .head)) (a .slot) (begun .pre .1) in
-    rw (at-last-read .before .slots-per-day .ensures, begun .pre .0 .reads) (omega (arith, y))
+    rw (at-last-read .before .slots-per-day .ensures, begun .pre .0 .readVersions) (omega (arith, y))
 
 returns-2 : tie.Need-returns-2
 returns-2 c =
     let at-next-read = after-next-read-outside2 c in
     let at-last-read = after-last-read-next-read at-next-read in
     let a = (start-last-read at-last-read) .args in
-    let b = cells (slots (a .values .now) (a .versions .now) (a .statuses .now)) (a .holidays .now) (a .readings .now) (a .reads .now)
-    (agreedLists (a .agreed .now) (a .agreed-versions .now)) (a .widths .now) in
+    let b = cells (slots (a .values .now) (a .versions .now) (a .statuses .now)) (a .holidays .now) (a .readings .now)
+    (a .read-versions .now) (agreedLists (a .agreed .now) (a .agreed-versions .now)) (a .widths .now) in
     let d = a .slot / slotsPerDay (a .head) in
     let first = at-next-read .before .before .first .given .0 .0 in
-    let e : lastRead (a .reads .now) d ≡ some first =
+    let e : lastRead (a .read-versions .now) d ≡ some first =
     simp (at-last-read .before .slots-per-day .ensures) at
     (sym (at-last-read .last-read .ensures) ∙ ap nextMeant (at-next-read .before .before .first .given .1)) in
-    let f : nextRead (a .reads .now) (d + 1) (a .head .days - d) ≡ none =
-    next-behind (a .head) (a .reads .now) d none ((start-last-read at-last-read) .pre .0 .reads)
+    let f : nextRead (a .read-versions .now) (d + 1) (a .head .days - d) ≡ none =
+    next-behind (a .head) (a .read-versions .now) d none ((start-last-read at-last-read) .pre .0 .readVersions)
     (rw (at-last-read .before .slots-per-day .ensures) at
     (sym (c .before .before .before .next-read .ensures) ∙ ap nextMeant (c .before .enum-told2 .given .1))) in
     let o = outside-last (a .head) b (a .slot) first e f in
@@ -113,18 +113,18 @@ between-requires c κs =
     let d = a .slot / slotsPerDay (a .head) in
     let first = at-next-read .before .before .first .given .0 .0 in
     let last = c .before .last .given .0 .0 in
-    let e : lastRead (a .reads .now) d ≡ some first =
+    let e : lastRead (a .read-versions .now) d ≡ some first =
     simp (at-last-read .before .slots-per-day .ensures) at
     (sym (at-last-read .last-read .ensures) ∙ ap nextMeant (at-next-read .before .before .first .given .1)) in
-    let f : nextRead (a .reads .now) (d + 1) (a .head .days - d) ≡ some last =
-    next-behind (a .head) (a .reads .now) d (some last) (begun .pre .0 .reads)
+    let f : nextRead (a .read-versions .now) (d + 1) (a .head .days - d) ≡ some last =
+    next-behind (a .head) (a .read-versions .now) d (some last) (begun .pre .0 .readVersions)
     (rw (at-last-read .before .slots-per-day .ensures) at
     (sym (c .before .before .before .next-read .ensures) ∙ ap nextMeant (c .before .last .given .1))) in (
       begun .pre .0 .lent,
       begun .pre .0 .dialled,
       begun .pre .0 .settled,
       begun .pre .0 .widths,
-      between-read (a .head) (bounded (a .head) (begun .pre .0 .lent .fitted .head)) (a .reads .now) (a .slot) first last e f,
+      between-read (a .head) (bounded (a .head) (begun .pre .0 .lent .fitted .head)) (a .read-versions .now) (a .slot) first last e f,
     )
 
 returns-3 : tie.Need-returns-3
@@ -134,23 +134,25 @@ returns-3 c =
     let a = (start-last-read at-last-read) .args in
     let s = slots (a .values .now) (a .versions .now) (a .statuses .now) in
     let g = agreedLists (a .agreed .now) (a .agreed-versions .now) in
-    let b = cells s (a .holidays .now) (a .readings .now) (a .reads .now) g (a .widths .now) in
+    let b = cells s (a .holidays .now) (a .readings .now) (a .read-versions .now) g (a .widths .now) in
     let d = a .slot / slotsPerDay (a .head) in
     let first = at-next-read .before .before .first .given .0 .0 in
     let last = c .before .before .last .given .0 .0 in
-    let e : lastRead (a .reads .now) d ≡ some first =
+    let e : lastRead (a .read-versions .now) d ≡ some first =
     simp (at-last-read .before .slots-per-day .ensures) at
     (sym (at-last-read .last-read .ensures) ∙ ap nextMeant (at-next-read .before .before .first .given .1)) in
-    let f : nextRead (a .reads .now) (d + 1) (a .head .days - d) ≡ some last =
-    next-behind (a .head) (a .reads .now) d (some last) ((start-last-read at-last-read) .pre .0 .reads)
+    let f : nextRead (a .read-versions .now) (d + 1) (a .head .days - d) ≡ some last =
+    next-behind (a .head) (a .read-versions .now) d (some last) ((start-last-read at-last-read) .pre .0 .readVersions)
     (simp (at-last-read .before .slots-per-day .ensures) at
     (sym (at-next-read .next-read .ensures) ∙ ap nextMeant (c .before .before .last .given .1))) in
     let o = inside-both (a .head) b (a .slot) first last e f in (
       c .between .ensures .0
-          ∙ spanned-versions (a .head) s (a .holidays .now) (a .readings .now) _ (a .reads .now) g (a .widths .now) first last ∙ o .0,
+          ∙ spanned-versions (a .head) s (a .holidays .now) (a .readings .now) _ (a .read-versions .now) g (a .widths .now) first last
+          ∙ o .0,
       c .between .ensures .1
           ∙ ap (λ (x : Stretch). x .by)
-          (stretch-versions (a .head) s (a .holidays .now) (a .readings .now) _ (a .reads .now) g (a .widths .now) first last (a .slot)
+          (stretch-versions (a .head) s (a .holidays .now) (a .readings .now) _ (a .read-versions .now) g (a .widths .now) first last
+          (a .slot)
           ∙ o .1),
     )
 

@@ -10,15 +10,15 @@ use Rattle.explain.proofs.Holding.{last-at, last-on, last-none}
 use Rattle.explain.proofs.held.last_read.Statement.{statement}
 use Rattle.explain.proofs.held.last_read.Tie as tie
 
-record Held (reads : List ℕ) (day d : ℕ) : Type 0 where
+record Held (readVersions : List ℕ) (day d : ℕ) : Type 0 where
   inside : d ≤ day
-  known : lastRead reads day ≡ lastRead reads d
+  known : lastRead readVersions day ≡ lastRead readVersions d
 
 abbrev Inv-loop : tie.InvT-loop
-Inv-loop reads day d₀ d = Held reads day d
+Inv-loop readVersions day d₀ d = Held readVersions day d
 
 abbrev μ-loop : tie.MeasureT-loop
-μ-loop reads day d₀ d = d
+μ-loop readVersions day d₀ d = d
 
 -- ---- Places
 
@@ -34,12 +34,12 @@ loop-holds : tie.Need-loop-holds Inv-loop μ-loop
 loop-holds c = record { inside = omega arith; known = refl }
 
 returns : tie.Need-returns Inv-loop μ-loop
-returns c = let r = (start-known (c .before)) .args .reads .now in
+returns c = let r = (start-known (c .before)) .args .read-versions .now in
     sym (c .before .before .before .loop .inv .known
     ∙ last-at r (c .before .before .before .loop .d) (is-read r (c .before .before .before .loop .d) (c .if1 .taken)))
 
 loop-again : tie.Need-loop-again Inv-loop μ-loop
-loop-again c = let r = (start-known (c .before)) .args .reads .now in
+loop-again c = let r = (start-known (c .before)) .args .read-versions .now in
     record {
       inside = omega arith;
       known =
@@ -49,12 +49,12 @@ loop-again c = let r = (start-known (c .before)) .args .reads .now in
     }
 
 returns-2 : tie.Need-returns-2 Inv-loop μ-loop
-returns-2 c = let r = (start (c .before)) .args .reads .now in
+returns-2 c = let r = (start (c .before)) .args .read-versions .now in
     let z : c .before .before .before .loop .d ≡ 0 = omega arith in
     sym (c .before .before .before .loop .inv .known ∙ ap (lastRead r) z ∙ last-at r 0 (is-read r 0 (c .if2 .taken)))
 
 returns-3 : tie.Need-returns-3 Inv-loop μ-loop
-returns-3 c = let r = (start (c .before)) .args .reads .now in
+returns-3 c = let r = (start (c .before)) .args .read-versions .now in
     let z : c .before .before .before .loop .d ≡ 0 = omega arith in
     sym (c .before .before .before .loop .inv .known ∙ ap (lastRead r) z ∙ last-none r (unread r 0 (c .if2 .left)))
 

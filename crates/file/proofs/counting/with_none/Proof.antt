@@ -22,4 +22,5 @@ returns c =
     met-none (s .args .found) (s .args .slot) (s .pre .1) (tested .both .result) same
 
 pub with-none-spec : {M : Type 1} → statement M
-with-none-spec = tie.close (tie.spec (λ c κs. search needs) (λ c κs. search needs) (λ c. search needs) (λ c. search needs) (λ c. search needs) returns)
+with-none-spec = tie.close (tie.spec (λ c κs. search needs) (λ c κs. search needs) (λ c. search needs) (λ c. search needs)
+    (λ c. search needs) returns)

@@ -5,7 +5,7 @@ use Prim.Native.Nat.{ℕ}
 use native.Mathlib.Omega.{arith}
 use lib.ListN.{length, set, length-set}
 use borrow.Author.Tests.{eq-eqb, ne-eqb}
-use Rattle.host.specs.Codes.{readAnswer, figuresAfter}
+use Rattle.host.specs.Codes.{readAnswer, readAfter}
 use borrow.Author.Needs.{needs}
 use Rattle.host.proofs.files.sawmauve_read.Statement.{statement}
 use Rattle.host.proofs.files.sawmauve_read.Tie as tie
@@ -38,7 +38,7 @@ nine (x0 ∷ x1 ∷ x2 ∷ x3 ∷ x4 ∷ x5 ∷ x6 ∷ x7 ∷ x8 ∷ []) l = ref
 nine (x0 ∷ x1 ∷ x2 ∷ x3 ∷ x4 ∷ x5 ∷ x6 ∷ x7 ∷ x8 ∷ y ∷ ys) l = absurd (omega arith)
 
 returns : tie.Need-returns
-unfolding readAnswer figuresAfter
+unfolding readAnswer readAfter
 returns c = rw (ne-eqb _ _ (c .if1 .taken)) (refl, refl)
 
 slice-write-figures-3 : tie.Need-slice-write-figures-3
@@ -66,7 +66,7 @@ same-length : tie.Need-same-length
 same-length c = simp length-set (omega arith)
 
 returns-2 : tie.Need-returns-2
-unfolding readAnswer figuresAfter
+unfolding readAnswer readAfter
 returns-2 c =
     let v = after-verdict c in
     let i = v .before .before .before in
@@ -74,7 +74,7 @@ returns-2 c =
     (refl, nine (start v .args .figures .now) (i .if1 .left))
 
 returns-3 : tie.Need-returns-3
-unfolding readAnswer figuresAfter
+unfolding readAnswer readAfter
 returns-3 c =
     let v = c .before in
     rw (

@@ -27,7 +27,7 @@ returns-2 c = let a = start (c .before .before) .args in
     sym (sym (supplied-by
     (texts [] (a .from .now) (a .to .now) (a .configuration .now) (a .register .now) (a .suffix .now) (a .stream .now) (a .serial .now)
     (a .next-read .now) (a .reason .now) (a .created .now)) (a .codes)) ∙ rw (sym (c .before .before .are-headers .ensures)
-    ∙ not-false _ (c .before .if1 .left)) (sym (c .are-others .ensures)))
+    ∙ not-false _ (c .before .if1 .left)) (sym (c .are-reason-time-codes .ensures)))
 
 pub are-supplied-spec : {M : Type 1} → statement M
 are-supplied-spec = tie.close (tie.spec (λ c κs. search needs) returns (λ c κs. search needs) returns-2)

@@ -13,18 +13,19 @@ use Rattle.play.proofs.filling.fill_all.Statement.{statement}
 use Rattle.play.proofs.filling.fill_all.Tie as tie
 
 record Held (log : List ℕ) (head : Head)
-    (values₀ versions₀ statuses₀ holidays₀ readings₀ reads₀ agreed₀ agreed-versions₀ counts₀ widths₀ answers₀ values versions statuses
-    holidays readings reads agreed agreed-versions counts widths answers : List ℕ) (at i : ℕ) : Type 0 where
+    (values₀ versions₀ statuses₀ holidays₀ readings₀ readVersions₀ agreed₀ agreed-versions₀ counts₀ widths₀ answers₀ values versions
+    statuses holidays readings readVersions agreed agreed-versions counts widths answers : List ℕ) (at i : ℕ) : Type 0 where
   walked : Walked head log
-      (book (cells (slots values₀ versions₀ statuses₀) holidays₀ readings₀ reads₀ (agreedLists agreed₀ agreed-versions₀) widths₀) counts₀)
-      answers (book (cells (slots values versions statuses) holidays readings reads (agreedLists agreed agreed-versions) widths) counts) at
-      i
+      (book (cells (slots values₀ versions₀ statuses₀) holidays₀ readings₀ readVersions₀ (agreedLists agreed₀ agreed-versions₀) widths₀)
+      counts₀)
+      answers (book (cells (slots values versions statuses) holidays readings readVersions (agreedLists agreed agreed-versions) widths)
+      counts) at i
   long-values : length values ≡ length values₀
   long-versions : length versions ≡ length versions₀
   long-statuses : length statuses ≡ length statuses₀
   long-holidays : length holidays ≡ length holidays₀
   long-readings : length readings ≡ length readings₀
-  long-reads : length reads ≡ length reads₀
+  long-reads : length readVersions ≡ length readVersions₀
   long-agreed : length agreed ≡ length agreed₀
   long-agreed-versions : length agreed-versions ≡ length agreed-versions₀
   long-counts : length counts ≡ length counts₀
@@ -32,14 +33,14 @@ record Held (log : List ℕ) (head : Head)
   long-answers : length answers ≡ length answers₀
 
 abbrev Inv-loop : tie.InvT-loop
-Inv-loop log head values₀ versions₀ statuses₀ holidays₀ readings₀ reads₀ agreed₀ agreed-versions₀ counts₀ widths₀ answers₀ at₀ i₀ values
-    versions statuses holidays readings reads agreed agreed-versions counts widths answers at i =
-    Held log head values₀ versions₀ statuses₀ holidays₀ readings₀ reads₀ agreed₀ agreed-versions₀ counts₀ widths₀ answers₀ values versions
-    statuses holidays readings reads agreed agreed-versions counts widths answers at i
+Inv-loop log head values₀ versions₀ statuses₀ holidays₀ readings₀ readVersions₀ agreed₀ agreed-versions₀ counts₀ widths₀ answers₀ at₀ i₀
+    values versions statuses holidays readings readVersions agreed agreed-versions counts widths answers at i =
+    Held log head values₀ versions₀ statuses₀ holidays₀ readings₀ readVersions₀ agreed₀ agreed-versions₀ counts₀ widths₀ answers₀ values
+    versions statuses holidays readings readVersions agreed agreed-versions counts widths answers at i
 
 abbrev μ-loop : tie.MeasureT-loop
-μ-loop log head values₀ versions₀ statuses₀ holidays₀ readings₀ reads₀ agreed₀ agreed-versions₀ counts₀ widths₀ answers₀ at₀ i₀ values
-    versions statuses holidays readings reads agreed agreed-versions counts widths answers at i =
+μ-loop log head values₀ versions₀ statuses₀ holidays₀ readings₀ readVersions₀ agreed₀ agreed-versions₀ counts₀ widths₀ answers₀ at₀ i₀
+    values versions statuses holidays readings readVersions agreed agreed-versions counts widths answers at i =
     length log - at
 
 -- ---- Places
@@ -47,11 +48,11 @@ abbrev μ-loop : tie.MeasureT-loop
 abbrev entry : tie.After-slice-known11 Inv-loop μ-loop → tie.Start Inv-loop μ-loop
 entry c = c .before .before .before .before .before .before .before .before .before .before .before .before
 
-abbrev after-line-from : tie.After-fill-arg10 Inv-loop μ-loop → tie.After-line-from Inv-loop μ-loop
+abbrev after-line-from : tie.After-play-line-arg10 Inv-loop μ-loop → tie.After-line-from Inv-loop μ-loop
 after-line-from c = c .before .before .before .before .before .before .before .before .before .before
 
-abbrev after-fill : tie.After-widths Inv-loop μ-loop → tie.After-fill Inv-loop μ-loop
-after-fill c =
+abbrev after-play-line : tie.After-widths Inv-loop μ-loop → tie.After-play-line Inv-loop μ-loop
+after-play-line c =
     c .before .before .before .before .before .before .before .before .before .before .before .before .before .before .before .before
     .before .before .before
 
@@ -74,8 +75,8 @@ loop-holds c =
       long-answers = refl;
     }
 
-fill-requires : tie.Need-fill-requires Inv-loop μ-loop
-fill-requires c κs =
+play-line-requires : tie.Need-play-line-requires Inv-loop μ-loop
+play-line-requires c κs =
     let inv = after-line-from c .before .before .loop .inv in
     let start = entry (after-line-from c .before .before .before) in (
       start .pre .0,
@@ -85,20 +86,20 @@ fill-requires c κs =
 
 slice-write-answers : tie.Need-slice-write-answers Inv-loop μ-loop
 slice-write-answers c =
-    let at-line-from = after-line-from (after-fill (c .before) .before) in
+    let at-line-from = after-line-from (after-play-line (c .before) .before) in
     walk-room _ _ _ (at-line-from .before .before .loop .inv .walked) (at-line-from .line-from .ensures)
 
 add-i : tie.Need-add-i Inv-loop μ-loop
 add-i c =
-    let at-fill = after-fill (c .before) in
-    let at-line-from = after-line-from (at-fill .before) in
+    let at-play-line = after-play-line (c .before) in
+    let at-line-from = after-line-from (at-play-line .before) in
     let room = walk-room _ _ _ (at-line-from .before .before .loop .inv .walked) (at-line-from .line-from .ensures) in
     omega (arith, (entry (at-line-from .before .before .before)) .good, at-line-from .before .before .loop .inv .long-answers, room)
 
 loop-less : tie.Need-loop-less Inv-loop μ-loop
 loop-less c =
-    let at-fill = after-fill (c .before) in
-    let at-line-from = after-line-from (at-fill .before) in
+    let at-play-line = after-play-line (c .before) in
+    let at-line-from = after-line-from (at-play-line .before) in
     omega (
       arith,
       at-line-from .line-from .ensures .item .further,
@@ -108,11 +109,11 @@ loop-less c =
 
 loop-again : tie.Need-loop-again Inv-loop μ-loop
 loop-again c =
-    let at-fill = after-fill (c .before) in
-    let at-line-from = after-line-from (at-fill .before) in
+    let at-play-line = after-play-line (c .before) in
+    let at-line-from = after-line-from (at-play-line .before) in
     record {
       walked = walk-next _ _ _ (at-line-from .before .before .loop .inv .walked) (at-line-from .line-from .ensures) _ _
-          (at-fill .fill .ensures);
+          (at-play-line .play-line .ensures);
       long-values = search needs;
       long-versions = search needs;
       long-statuses = search needs;
@@ -137,7 +138,7 @@ fill-all-spec =
     μ-loop
     loop-holds
     (λ c κs. search needs)
-    fill-requires
+    play-line-requires
     slice-write-answers
     add-i
     loop-less

@@ -19,21 +19,21 @@ loop-holds : tie.Need-loop-holds Inv-loop μ-loop
 loop-holds c = following-first ((c .before) .pre)
 
 -- the line of this turn, after the test that it can stand here
-abbrev passed : tie.Else1 Inv-loop μ-loop → tie.After-passing-at Inv-loop μ-loop
+abbrev passed : tie.Else1 Inv-loop μ-loop → tie.After-tested-at Inv-loop μ-loop
 passed c = c .before
 
-abbrev turn : tie.After-passing-at Inv-loop μ-loop → tie.In-loop Inv-loop μ-loop
+abbrev turn : tie.After-tested-at Inv-loop μ-loop → tie.In-loop Inv-loop μ-loop
 turn c = c .before
 
 returns : tie.Need-returns Inv-loop μ-loop
 returns c =
     let found = c .before in
-    let told = found .passing-at .ensures in
+    let told = found .tested-at .ensures in
     following-ends (turn found .before .loop .inv) (told .found) (sym (told .outside) ∙ c .if1 .taken)
 
 add-calls : tie.Need-add-calls Inv-loop μ-loop
 add-calls c =
-    let told = passed (c .before) .passing-at .ensures in
+    let told = passed (c .before) .tested-at .ensures in
     let loop = turn (passed (c .before)) .before in
     omega (
       arith,
@@ -47,12 +47,12 @@ add-calls c =
 
 loop-less : tie.Need-loop-less Inv-loop μ-loop
 loop-less c =
-    let found = passed (c .before) .passing-at .ensures .found in
+    let found = passed (c .before) .tested-at .ensures .found in
     omega (arith, found .item .further, found .item .inside, turn (passed (c .before)) .loop-test .taken)
 
 loop-again : tie.Need-loop-again Inv-loop μ-loop
 loop-again c =
-    let told = passed (c .before) .passing-at .ensures in
+    let told = passed (c .before) .tested-at .ensures in
     following-next (turn (passed (c .before)) .before .loop .inv) (told .found) (sym (told .outside) ∙ c .before .if1 .left) _ (told .calls)
 
 returns-2 : tie.Need-returns-2 Inv-loop μ-loop

@@ -1,7 +1,7 @@
 -- `tables::put_direct`. Before each slot the records of the direct slots so far are written.
 use mathlib.Core.Bool.{true, false}
 use mathlib.Core.Logic.{⊎-elim}
-use mathlib.Core.Path.{_≡_, refl, sym, ap, _∙_}
+use mathlib.Core.Path.{_≡_, refl, sym, _∙_}
 use Prim.Native.Nat.{ℕ, _+_, _-_, _*_, _≤_, _<_}
 use native.Mathlib.Nat.{le-refl}
 use native.Mathlib.Omega.{arith}
@@ -16,7 +16,7 @@ use Rattle.rules.specs.Inner.Walks.{actualOf, agreedOf, directOf}
 use Rattle.rules.proofs.Bounds.{bounded, count-high}
 use Rattle.rules.proofs.Directs.{direct-good, direct-agreed, direct-none}
 use Rattle.rules.proofs.Outages.{zero-none, good-delivered}
-use Rattle.file.specs.Layout.{row, table, slotRow}
+use Rattle.file.specs.Layout.{table}
 use Rattle.publishing.specs.Inner.Publishing.{directTotals, Countable}
 use Rattle.publishing.proofs.Buffers.{written-none}
 use Rattle.publishing.proofs.Records.{Ran, ran-on, ran-end}

@@ -1,7 +1,7 @@
 -- `tables::put_inside`. Before each turn what is known and written is that of the slots so far, inside the stretch.
 use mathlib.Core.Bool.{false}
 use mathlib.Core.Path.{_≡_, refl, sym, ap, _∙_}
-use Prim.Native.Nat.{ℕ, _+_, _-_, _*_, _≤_, _<_}
+use Prim.Native.Nat.{_+_, _-_, _*_, _≤_, _<_}
 use native.Mathlib.Nat.{le-refl}
 use native.Mathlib.Omega.{arith}
 use borrow.Author.Needs.{needs}
@@ -12,7 +12,6 @@ use Rattle.rules.specs.Lent.{slots, agreedLists, cells}
 use Rattle.rules.specs.Tests.{goodAt}
 use Rattle.rules.specs.Spans.{spans}
 use Rattle.rules.specs.Filling.{isOutageZero, isAgreed, filledAt, shapeAt}
-use Rattle.rules.specs.Inner.Stretches.{stretchAt}
 use Rattle.rules.proofs.Bounds.{Bounded, bounded, count-high}
 use Rattle.rules.proofs.Directs.{run-line, none-direct}
 use Rattle.rules.proofs.Lines.{walk-outage, walk-line}
@@ -22,7 +21,6 @@ use Rattle.rules.proofs.Steps.{step-scalable}
 use Rattle.rules.proofs.Stretches.{stretch-ahead}
 use Rattle.file.specs.Layout.{row, slotRow}
 use Rattle.file.specs.Inner.Writing.{written}
-use Rattle.publishing.specs.Inner.Publishing.{addedTo}
 use Rattle.publishing.proofs.Inside.{Inside, inside-next, inside-run, run-countable, passed}
 use Rattle.publishing.proofs.Records.{none-put}
 use Rattle.publishing.proofs.Totals.{countable}
@@ -30,16 +28,14 @@ use Rattle.publishing.proofs.tables.put_inside.Statement.{statement}
 use Rattle.publishing.proofs.tables.put_inside.Tie as tie
 
 abbrev Inv-loop : tie.InvT-loop
-Inv-loop head values versions statuses holidays readings reads agreed agreed-versions widths out₀ from at₀ outage₀ line₀ stretch₀ totals₀
-    until
-    out at outage line stretch totals =
-    let b = cells (slots values versions statuses) holidays readings reads (agreedLists agreed agreed-versions) widths in
+Inv-loop head values versions statuses holidays readings readVersions agreed agreed-versions widths out₀ from at₀ outage₀ line₀ stretch₀
+    totals₀ until out at outage line stretch totals =
+    let b = cells (slots values versions statuses) holidays readings readVersions (agreedLists agreed agreed-versions) widths in
     Inside head b out₀ (from .pass .walk .at) (from .pass .stretch .until) outage line stretch totals out at
 
 abbrev μ-loop : tie.MeasureT-loop
-μ-loop head values versions statuses holidays readings reads agreed agreed-versions widths out₀ from at₀ outage₀ line₀ stretch₀ totals₀
-    until
-    out at outage line stretch totals =
+μ-loop head values versions statuses holidays readings readVersions agreed agreed-versions widths out₀ from at₀ outage₀ line₀ stretch₀
+    totals₀ until out at outage line stretch totals =
     until - at
 
 -- ---- Places
@@ -81,7 +77,7 @@ wrote c = c .before .before .before
 abbrev lent : tie.Start Inv-loop μ-loop → Cells
 lent c =
     let a = c .args in
-    cells (slots (a .values .now) (a .versions .now) (a .statuses .now)) (a .holidays .now) (a .readings .now) (a .reads .now)
+    cells (slots (a .values .now) (a .versions .now) (a .statuses .now)) (a .holidays .now) (a .readings .now) (a .read-versions .now)
     (agreedLists (a .agreed .now) (a .agreed-versions .now)) (a .widths .now)
 
 bounds : (c : tie.Start Inv-loop μ-loop) → Bounded (c .args .head)

@@ -1,5 +1,4 @@
 -- `tables::put_stretch`: enter the stretch, the record of the span that begins there, those of its slots.
-use mathlib.Core.Bool.{true}
 use mathlib.Core.Path.{_≡_, sym, ap, _∙_}
 use Prim.Native.Nat.{_+_, _*_, _≤_}
 use native.Mathlib.Omega.{arith}
@@ -12,7 +11,7 @@ use Rattle.rules.specs.Spans.{spans}
 use Rattle.rules.specs.Inner.Stretches.{beginsAt}
 use Rattle.rules.specs.Inner.Passes.{passAt, listOf, begunBefore}
 use Rattle.rules.proofs.Bounds.{Bounded, bounded}
-use Rattle.rules.proofs.Begun.{begun-room}
+use Rattle.rules.proofs.SpansInOrder.{begun-room}
 use Rattle.publishing.specs.declared.tables.Progress.{Progress}
 use Rattle.publishing.specs.Inner.Publishing.{progressAt}
 use Rattle.publishing.proofs.Inside.{spans-begun, bytes-begun, whole-progress, whole-buffer}
@@ -36,7 +35,7 @@ done c = c .before .before
 abbrev lent : tie.Start → Cells
 lent c =
     let a = c .args in
-    cells (slots (a .values .now) (a .versions .now) (a .statuses .now)) (a .holidays .now) (a .readings .now) (a .reads .now)
+    cells (slots (a .values .now) (a .versions .now) (a .statuses .now)) (a .holidays .now) (a .readings .now) (a .read-versions .now)
     (agreedLists (a .agreed .now) (a .agreed-versions .now)) (a .widths .now)
 
 bounds : (c : tie.Start) → Bounded (c .args .head)

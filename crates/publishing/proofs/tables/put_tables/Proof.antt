@@ -1,7 +1,7 @@
 -- `tables::put_tables`. Before slot i the buffer holds the records of the first i slots and of the spans begun.
 use mathlib.Core.List.{List}
 use mathlib.Core.Path.{_≡_, refl, sym, ap, _∙_}
-use Prim.Native.Nat.{ℕ, _+_, _-_, _*_, _≤_, _<_, zero-le}
+use Prim.Native.Nat.{ℕ, _-_, _≤_, zero-le}
 use native.Mathlib.Omega.{arith}
 use borrow.Author.Needs.{needs}
 use lib.ListN.{length}
@@ -23,11 +23,12 @@ record Held (h : Head) (b : Cells) (d₀ : List ℕ) (n : ℕ) (d : List ℕ) (h
   bytes : d ≡ bufferAt h b d₀ i
 
 abbrev Inv-loop : tie.InvT-loop
-Inv-loop head values versions statuses holidays readings reads agreed agreed-versions widths out₀ table n here₀ i₀ out here i =
-    Held head (cells (slots values versions statuses) holidays readings reads (agreedLists agreed agreed-versions) widths) out₀ n out here i
+Inv-loop head values versions statuses holidays readings readVersions agreed agreed-versions widths out₀ table n here₀ i₀ out here i =
+    Held head (cells (slots values versions statuses) holidays readings readVersions (agreedLists agreed agreed-versions) widths) out₀ n
+    out here i
 
 abbrev μ-loop : tie.MeasureT-loop
-μ-loop head values versions statuses holidays readings reads agreed agreed-versions widths out₀ table n here₀ i₀ out here i = n - i
+μ-loop head values versions statuses holidays readings readVersions agreed agreed-versions widths out₀ table n here₀ i₀ out here i = n - i
 
 -- ---- Places
 
@@ -54,7 +55,7 @@ put c = c .before .before .before
 abbrev lent : tie.Start Inv-loop μ-loop → Cells
 lent c =
     let a = c .args in
-    cells (slots (a .values .now) (a .versions .now) (a .statuses .now)) (a .holidays .now) (a .readings .now) (a .reads .now)
+    cells (slots (a .values .now) (a .versions .now) (a .statuses .now)) (a .holidays .now) (a .readings .now) (a .read-versions .now)
     (agreedLists (a .agreed .now) (a .agreed-versions .now)) (a .widths .now)
 
 place : (c : tie.At-loop Inv-loop μ-loop) → c .loop .here .pass .walk .at ≡ c .loop .i

@@ -29,7 +29,7 @@ passed3 c = c .before .before .before .before
 returns : tie.Need-returns
 returns c = let a = (start (c .before .before)) .args in
     let h = headOf (a .year) (a .month) (a .day) (a .days) (a .interval) (a .limit) (a .tolerance) in
-    let b = lentBook (a .values) (a .versions) (a .statuses) (a .holidays) (a .readings) (a .reads) (a .agreed) (a .agreed-versions)
+    let b = lentBook (a .values) (a .versions) (a .statuses) (a .holidays) (a .readings) (a .read-versions) (a .agreed) (a .agreed-versions)
     (a .counts) (a .widths) in
     refused-head h b (a .slot) (a .fields .now) (c .before .before .explain .result)
     (rw (c .before .before .before .head-of .ensures) at (c .before .before .explain .ensures)) (c .if1 .taken)
@@ -37,7 +37,7 @@ returns c = let a = (start (c .before .before)) .args in
 returns-2 : tie.Need-returns-2
 returns-2 c = let a = (start (after-explain c)) .args in
     let h = headOf (a .year) (a .month) (a .day) (a .days) (a .interval) (a .limit) (a .tolerance) in
-    let b = lentBook (a .values) (a .versions) (a .statuses) (a .holidays) (a .readings) (a .reads) (a .agreed) (a .agreed-versions)
+    let b = lentBook (a .values) (a .versions) (a .statuses) (a .holidays) (a .readings) (a .read-versions) (a .agreed) (a .agreed-versions)
     (a .counts) (a .widths) in
     refused-fields h b (a .slot) (a .fields .now) (c .before .before .before .explain .result)
     (rw (after-explain c .before .head-of .ensures) at (c .before .before .before .explain .ensures)) (c .before .if1 .left) (c .if2 .taken)
@@ -47,7 +47,7 @@ returns-3 c =
     let at-explain = after-explain-passed2 (c .before .before .before) in
     let a = (start at-explain) .args in
     let h = headOf (a .year) (a .month) (a .day) (a .days) (a .interval) (a .limit) (a .tolerance) in
-    let b = lentBook (a .values) (a .versions) (a .statuses) (a .holidays) (a .readings) (a .reads) (a .agreed) (a .agreed-versions)
+    let b = lentBook (a .values) (a .versions) (a .statuses) (a .holidays) (a .readings) (a .read-versions) (a .agreed) (a .agreed-versions)
     (a .counts) (a .widths) in
     refused-rest h b (a .slot) (a .fields .now) (at-explain .explain .result)
     (simp (at-explain .before .head-of .ensures) at (at-explain .explain .ensures)) (c .before .before .before .if2 .left)
@@ -62,7 +62,7 @@ returns-4 c =
     let at-explain = after-explain-passed2 past2 in
     let a = (start at-explain) .args in
     let h = headOf (a .year) (a .month) (a .day) (a .days) (a .interval) (a .limit) (a .tolerance) in
-    let b = lentBook (a .values) (a .versions) (a .statuses) (a .holidays) (a .readings) (a .reads) (a .agreed) (a .agreed-versions)
+    let b = lentBook (a .values) (a .versions) (a .statuses) (a .holidays) (a .readings) (a .read-versions) (a .agreed) (a .agreed-versions)
     (a .counts) (a .widths) in
     let x = explained h b (a .slot) (a .fields .now) (at-explain .explain .result)
     (simp (at-explain .before .head-of .ensures) at (at-explain .explain .ensures)) (past2 .if2 .left) (passed3 (c .before) .if3 .left) in

@@ -50,4 +50,5 @@ returns-3 c =
 pub unscaled-spec : {M : Type 1} → statement M
 unscaled-spec =
     tie.close
-    (tie.spec (λ c κs. search needs) returns line-value-requires (λ c. search needs) (λ c. search needs) returns-2 (λ c κs. search needs) returns-3)
+    (tie.spec (λ c κs. search needs) returns line-value-requires (λ c. search needs) (λ c. search needs) returns-2 (λ c κs. search needs)
+    returns-3)

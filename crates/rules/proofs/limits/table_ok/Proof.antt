@@ -1,6 +1,5 @@
 -- `limits::table_ok` tests in the order of the specification.
 use mathlib.Core.Bool.{and-true}
-use mathlib.Core.Path.{sym, _∙_}
 use borrow.Author.Tests.{le-leb, lt-leb}
 use Rattle.rules.specs.Limits.{tableOk}
 use borrow.Author.Needs.{needs}

@@ -10,7 +10,7 @@ use Rattle.rules.proofs.Lines.{line-first-slot, line-no-left, line-no-r
 use borrow.Author.Needs.{needs}
 use Rattle.rules.proofs.linear.begin.Statement.{statement}
 use Rattle.rules.proofs.linear.begin.Tie as tie
-use Rattle.rules.proofs.linear.begin.Reads as reads
+use Rattle.rules.proofs.linear.begin.Reads as readVersions
 use Rattle.rules.proofs.linear.begin.Lts as lts
 use Rattle.rules.proofs.linear.bare.Reads as bare-reads
 use Rattle.rules.proofs.linear.length_within.Reads as length-within-reads
@@ -45,7 +45,7 @@ Past3 =
       is-good-reads.Learnt,
       length-within-reads.Asked,
       length-within-reads.Learnt,
-    ) reads.Pre reads.Post
+    ) readVersions.Pre readVersions.Post
 
 -- a slot follows the run
 inside : (c : Past3) → start-passed3 c .args .at + c .before .length-within .result < slotCount (start-passed3 c .args .head)

@@ -2,7 +2,6 @@
 use Prim.Native.Nat.{_+_, _≤_}
 use native.Mathlib.Omega.{arith}
 use borrow.Author.Tests.{le-leb}
-use borrow.Author.Needs.{needs}
 use Rattle.calendar.proofs.Dates.{last-day, early-day}
 use Rattle.rules.specs.Opening.{firstDay}
 use Rattle.rules.proofs.opening.ends_in_time.Statement.{statement}

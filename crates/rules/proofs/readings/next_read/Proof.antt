@@ -11,15 +11,15 @@ use Rattle.rules.proofs.Stretches.{is-read, unread, next-end, next-at, 
 use Rattle.rules.proofs.readings.next_read.Statement.{statement}
 use Rattle.rules.proofs.readings.next_read.Tie as tie
 
-record Held (reads : List ℕ) (from d : ℕ) : Type 0 where
-  inside : d ≤ length reads
-  known : nextRead reads from (length reads - from) ≡ nextRead reads d (length reads - d)
+record Held (readVersions : List ℕ) (from d : ℕ) : Type 0 where
+  inside : d ≤ length readVersions
+  known : nextRead readVersions from (length readVersions - from) ≡ nextRead readVersions d (length readVersions - d)
 
 abbrev Inv-loop : tie.InvT-loop
-Inv-loop reads from d₀ d = Held reads from d
+Inv-loop readVersions from d₀ d = Held readVersions from d
 
 abbrev μ-loop : tie.MeasureT-loop
-μ-loop reads from d₀ d = length reads - d
+μ-loop readVersions from d₀ d = length readVersions - d
 
 -- ---- Places
 
@@ -32,13 +32,13 @@ loop-holds : tie.Need-loop-holds Inv-loop μ-loop
 loop-holds c = record { inside = omega arith; known = refl }
 
 returns : tie.Need-returns Inv-loop μ-loop
-returns c = let r = start (c .before) .args .reads .now in
+returns c = let r = start (c .before) .args .read-versions .now in
     sym (c .before .before .before .loop .inv .known
     ∙ next-at r (length r) (c .before .before .before .loop .d) (c .before .before .loop-test .taken)
     (is-read r (c .before .before .before .loop .d) (c .if1 .taken)))
 
 loop-again : tie.Need-loop-again Inv-loop μ-loop
-loop-again c = let r = start (c .before) .args .reads .now in
+loop-again c = let r = start (c .before) .args .read-versions .now in
     record {
       inside = omega arith;
       known =
@@ -48,7 +48,7 @@ loop-again c = let r = start (c .before) .args .reads .now in
     }
 
 returns-2 : tie.Need-returns-2 Inv-loop μ-loop
-returns-2 c = let r = c .before .before .args .reads .now in
+returns-2 c = let r = c .before .before .args .read-versions .now in
     sym (c .before .loop .inv .known ∙ next-end r (length r) (c .before .loop .d) (c .loop-test .left))
 
 pub next-read-spec : {M : Type 1} → statement M

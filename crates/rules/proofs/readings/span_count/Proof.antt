@@ -11,16 +11,16 @@ use Rattle.rules.proofs.Counts.{count-none, count-read, count-unread}
 use Rattle.rules.proofs.readings.span_count.Statement.{statement}
 use Rattle.rules.proofs.readings.span_count.Tie as tie
 
-record Held (reads : List ℕ) (count d : ℕ) : Type 0 where
-  inside : d ≤ length reads
+record Held (readVersions : List ℕ) (count d : ℕ) : Type 0 where
+  inside : d ≤ length readVersions
   few : count ≤ d
-  known : count ≡ readCount reads d
+  known : count ≡ readCount readVersions d
 
 abbrev Inv-loop : tie.InvT-loop
-Inv-loop reads count₀ d₀ count d = Held reads count d
+Inv-loop readVersions count₀ d₀ count d = Held readVersions count d
 
 abbrev μ-loop : tie.MeasureT-loop
-μ-loop reads count₀ d₀ count d = length reads - d
+μ-loop readVersions count₀ d₀ count d = length readVersions - d
 
 -- ---- Places
 
@@ -30,10 +30,10 @@ start c = c .before .before .before .before
 -- ---- Needs
 
 loop-holds : tie.Need-loop-holds Inv-loop μ-loop
-loop-holds c = record { inside = zero-le; few = zero-le; known = sym (count-none (c .args .reads .now)) }
+loop-holds c = record { inside = zero-le; few = zero-le; known = sym (count-none (c .args .read-versions .now)) }
 
 loop-again : tie.Need-loop-again Inv-loop μ-loop
-loop-again c = let r = start c .args .reads .now in
+loop-again c = let r = start c .args .read-versions .now in
     let d = c .before .before .before .loop .d in
     ⊎-elim (λ w. record {
       inside = omega arith;
@@ -46,12 +46,12 @@ loop-again c = let r = start c .args .reads .now in
     }) (c .if1 .came)
 
 returns : tie.Need-returns Inv-loop μ-loop
-returns c = let r = c .before .before .before .args .reads .now in
+returns c = let r = c .before .before .before .args .read-versions .now in
     let e : c .before .before .loop .d ≡ length r = omega arith in
     omega (arith, c .before .before .loop .inv .known, ap (readCount r) e)
 
 returns-2 : tie.Need-returns-2 Inv-loop μ-loop
-returns-2 c = let r = c .before .before .before .args .reads .now in
+returns-2 c = let r = c .before .before .before .args .read-versions .now in
     let e : c .before .before .loop .d ≡ length r = omega arith in
     omega (arith, c .before .before .loop .inv .known, ap (readCount r) e)
 

@@ -10,4 +10,5 @@ unfolding advance
 returns c = refl
 
 pub advanced-spec : {M : Type 1} → statement M
-advanced-spec = tie.close (tie.spec (λ c. search needs) (λ c. search needs) (λ c. search needs) (λ c. search needs) (λ c. search needs) returns)
+advanced-spec = tie.close (tie.spec (λ c. search needs) (λ c. search needs) (λ c. search needs) (λ c. search needs) (λ c. search needs)
+    returns)

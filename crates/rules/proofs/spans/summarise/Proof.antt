@@ -8,7 +8,7 @@ use native.Mathlib.Omega.{arith}
 use borrow.Author.Needs.{needs}
 use Rattle.base.specs.Lists.{sum, any}
 use Rattle.rules.specs.declared.Head.{Head}
-use Rattle.rules.specs.declared.linear.Line.{Line}
+use Rattle.rules.specs.declared.linear.StraightLine.{StraightLine}
 use Rattle.rules.specs.declared.spans.Summary.{Summary}
 use Rattle.rules.specs.Opening.{Slots, Agreed, slotCount}
 use Rattle.rules.specs.Tests.{goodAt}
@@ -25,7 +25,8 @@ use Rattle.rules.proofs.Summaries.{summary-on, summary-fits}
 use Rattle.rules.proofs.spans.summarise.Statement.{statement}
 use Rattle.rules.proofs.spans.summarise.Tie as tie
 
-record Held (h : Head) (s : Slots) (a : Agreed) (holidays : List ℕ) (start count : ℕ) (m : Summary) (o : Bool) (l : Line) (k : ℕ) : Type 0
+record Held (h : Head) (s : Slots) (a : Agreed) (holidays : List ℕ) (start count : ℕ) (m : Summary) (o : Bool) (l : StraightLine) (k : ℕ) :
+    Type 0
   where
     inside : k ≤ count
     outage : o ≡ zeroBefore (s .versions) (s .statuses) (slotCount h) (start + k)

@@ -36,8 +36,8 @@ returns c =
     let begun = start (c .before .before) in
     let a = begun .args in
     let w = bounded (a .head) (begun .pre .0 .lent .fitted .head) in
-    let b = cells (slots (a .values .now) (a .versions .now) (a .statuses .now)) (a .holidays .now) (a .readings .now) (a .reads .now)
-    (agreedLists (a .agreed .now) (a .agreed-versions .now)) (a .widths .now) in
+    let b = cells (slots (a .values .now) (a .versions .now) (a .statuses .now)) (a .holidays .now) (a .readings .now)
+    (a .read-versions .now) (agreedLists (a .agreed .now) (a .agreed-versions .now)) (a .widths .now) in
     let k = carried-on (a .head) w b (a .walk .at) (begun .pre .1 .inside)
     (λ z. c .before .if1 .taken (z ∙ ap (λ (s : Stretch). s .until) (sym (begun .pre .1 .stretch)))) in
     (c .no-span .ensures .0 ∙ sym (k .0), c .no-span .ensures .1 ∙ begun .pre .1 .stretch ∙ k .1)
@@ -61,7 +61,7 @@ next-read-requires c κs =
     let begun = start (c .before .before) in
     let a = begun .args in
     let w = bounded (a .head) (begun .pre .0 .lent .fitted .head) in
-    rw (c .slots-per-day .ensures, begun .pre .0 .reads) (omega (arith, day-below (a .head) w (a .walk .at) (begun .pre .1 .inside)))
+    rw (c .slots-per-day .ensures, begun .pre .0 .readVersions) (omega (arith, day-below (a .head) w (a .walk .at) (begun .pre .1 .inside)))
 
 reach-requires : tie.Need-reach-requires
 reach-requires c κs =
@@ -69,15 +69,15 @@ reach-requires c κs =
     let begun = start (at-next-read .before .before .before) in
     let a = begun .args in
     let w = bounded (a .head) (begun .pre .0 .lent .fitted .head) in
-    let b = cells (slots (a .values .now) (a .versions .now) (a .statuses .now)) (a .holidays .now) (a .readings .now) (a .reads .now)
-    (agreedLists (a .agreed .now) (a .agreed-versions .now)) (a .widths .now) in
+    let b = cells (slots (a .values .now) (a .versions .now) (a .statuses .now)) (a .holidays .now) (a .readings .now)
+    (a .read-versions .now) (agreedLists (a .agreed .now) (a .agreed-versions .now)) (a .widths .now) in
     let d = a .walk .at / slotsPerDay (a .head) in
     let last = c .before .next .given .0 .0 in
-    let e : nextRead (a .reads .now) (d + 1) (a .head .days - d) ≡ some last =
-    next-behind (a .head) (a .reads .now) d (some last) (begun .pre .0 .reads)
+    let e : nextRead (a .read-versions .now) (d + 1) (a .head .days - d) ≡ some last =
+    next-behind (a .head) (a .read-versions .now) d (some last) (begun .pre .0 .readVersions)
     (rw (at-next-read .before .slots-per-day .ensures) at
     (sym (c .before .before .before .next-read .ensures) ∙ ap nextMeant (c .before .next .given .1))) in
-    let t = next-tells (a .reads .now) (a .head .days - d) (d + 1) last e in
+    let t = next-tells (a .read-versions .now) (a .head .days - d) (d + 1) last e in
     let k = carried-ends (a .head) w b (a .walk .at) (begun .pre .1 .inside)
     (at-next-read .before .before .if1 .left ∙ ap (λ (s : Stretch). s .until) (begun .pre .1 .stretch)) in
     let y = day-below (a .head) w (a .walk .at) (begun .pre .1 .inside) in
@@ -92,12 +92,12 @@ returns-2 c =
     let begun = start (at-next-read .before .before .before) in
     let a = begun .args in
     let w = bounded (a .head) (begun .pre .0 .lent .fitted .head) in
-    let b = cells (slots (a .values .now) (a .versions .now) (a .statuses .now)) (a .holidays .now) (a .readings .now) (a .reads .now)
-    (agreedLists (a .agreed .now) (a .agreed-versions .now)) (a .widths .now) in
+    let b = cells (slots (a .values .now) (a .versions .now) (a .statuses .now)) (a .holidays .now) (a .readings .now)
+    (a .read-versions .now) (agreedLists (a .agreed .now) (a .agreed-versions .now)) (a .widths .now) in
     let d = a .walk .at / slotsPerDay (a .head) in
     let last = c .before .before .next .given .0 .0 in
-    let e : nextRead (a .reads .now) (d + 1) (a .head .days - d) ≡ some last =
-    next-behind (a .head) (a .reads .now) d (some last) (begun .pre .0 .reads)
+    let e : nextRead (a .read-versions .now) (d + 1) (a .head .days - d) ≡ some last =
+    next-behind (a .head) (a .read-versions .now) d (some last) (begun .pre .0 .readVersions)
     (simp (at-next-read .before .slots-per-day .ensures) at
     (sym (at-next-read .next-read .ensures) ∙ ap nextMeant (c .before .before .next .given .1))) in
     let k = carried-ends (a .head) w b (a .walk .at) (begun .pre .1 .inside)
@@ -111,11 +111,11 @@ returns-3 c =
     let begun = start (at-next-read .before .before .before) in
     let a = begun .args in
     let w = bounded (a .head) (begun .pre .0 .lent .fitted .head) in
-    let b = cells (slots (a .values .now) (a .versions .now) (a .statuses .now)) (a .holidays .now) (a .readings .now) (a .reads .now)
-    (agreedLists (a .agreed .now) (a .agreed-versions .now)) (a .widths .now) in
+    let b = cells (slots (a .values .now) (a .versions .now) (a .statuses .now)) (a .holidays .now) (a .readings .now)
+    (a .read-versions .now) (agreedLists (a .agreed .now) (a .agreed-versions .now)) (a .widths .now) in
     let d = a .walk .at / slotsPerDay (a .head) in
-    let e : nextRead (a .reads .now) (d + 1) (a .head .days - d) ≡ none =
-    next-behind (a .head) (a .reads .now) d none (begun .pre .0 .reads)
+    let e : nextRead (a .read-versions .now) (d + 1) (a .head .days - d) ≡ none =
+    next-behind (a .head) (a .read-versions .now) d none (begun .pre .0 .readVersions)
     (simp (at-next-read .before .slots-per-day .ensures) at
     (sym (at-next-read .next-read .ensures) ∙ ap nextMeant (c .before .before .before .enum-told .given .1))) in
     let k = carried-ends (a .head) w b (a .walk .at) (begun .pre .1 .inside)

@@ -10,7 +10,7 @@ use Rattle.rules.specs.Lent.{slots, agreedLists, cells}
 use Rattle.rules.specs.Inner.Summaries.{summaryOf}
 use Rattle.rules.proofs.Bounds.{bounded}
 use Rattle.rules.proofs.Places.{slots-within}
-use Rattle.rules.proofs.Meeting.{compared-advance, meet-span, meet-stretch}
+use Rattle.rules.proofs.SpanSums.{compared-advance, meet-span, meet-stretch}
 use borrow.Author.Needs.{needs}
 use Rattle.rules.proofs.stretch.meet.Statement.{statement}
 use Rattle.rules.proofs.stretch.meet.Tie as tie

@@ -8,7 +8,7 @@ use native.Mathlib.Omega.{arith}
 use Rattle.rules.specs.Lent.{slots, agreedLists}
 use Rattle.rules.specs.Inner.Stretches.{beginsWith, stretchFrom}
 use Rattle.rules.proofs.Bounds.{bounded}
-use Rattle.rules.proofs.Meeting.{span-versions, stretch-versions}
+use Rattle.rules.proofs.SpanSums.{span-versions, stretch-versions}
 use Rattle.rules.proofs.Stretches.{is-read, unread}
 use borrow.Author.Needs.{needs}
 use Rattle.rules.proofs.stretch.reach.Statement.{statement}
@@ -30,7 +30,7 @@ start-stretch c = start (c .before .before .before .before)
 shared-slice-read-if1 : tie.Need-shared-slice-read-if1
 shared-slice-read-if1 c =
     let begun = start c in
-    omega (arith, begun .pre .0 .reads, begun .pre .1 .ordered, begun .pre .1 .within)
+    omega (arith, begun .pre .0 .readVersions, begun .pre .1 .ordered, begun .pre .1 .within)
 
 slots-per-day-requires : tie.Need-slots-per-day-requires
 slots-per-day-requires c κs = start (c .before) .pre .0 .lent .fitted .head
@@ -46,7 +46,7 @@ mul-unscaled-to c =
 returns : tie.Need-returns
 unfolding beginsWith stretchFrom
 returns c =
-    rw (unread (start-no-span c .args .reads .now) (start-no-span c .args .day) (c .before .before .before .if1 .taken))
+    rw (unread (start-no-span c .args .read-versions .now) (start-no-span c .args .day) (c .before .before .before .if1 .taken))
     (c .no-span .ensures .0, c .no-span .ensures .1 ∙ c .before .unscaled-to .ensures ∙ (rw (c .before .before .slots-per-day .ensures)))
 
 meet-requires : tie.Need-meet-requires
@@ -59,12 +59,13 @@ unfolding beginsWith stretchFrom
 returns-2 c = let a = start-stretch c .args in
     let s = slots (a .values .now) (a .versions .now) (a .statuses .now) in
     let g = agreedLists (a .agreed .now) (a .agreed-versions .now) in
-    rw (is-read (a .reads .now) (a .day) (c .before .before .before .if1 .left)) (
+    rw (is-read (a .read-versions .now) (a .day) (c .before .before .before .if1 .left)) (
       ap Span (c .before .before .meet .ensures .0
-          ∙ span-versions (a .head) s (a .holidays .now) (a .readings .now) [] (a .reads .now) g (a .widths .now) (a .day) (a .last)),
+          ∙ span-versions (a .head) s (a .holidays .now) (a .readings .now) [] (a .read-versions .now) g (a .widths .now) (a .day)
+          (a .last)),
       c .before .before .meet .ensures .1
-          ∙ stretch-versions (a .head) s (a .holidays .now) (a .readings .now) [] (a .reads .now) g (a .widths .now) (a .day) (a .last)
-          (a .walk .at),
+          ∙ stretch-versions (a .head) s (a .holidays .now) (a .readings .now) [] (a .read-versions .now) g (a .widths .now) (a .day)
+          (a .last) (a .walk .at),
     )
 
 pub reach-spec : {M : Type 1} → statement M

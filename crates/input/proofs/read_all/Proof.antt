@@ -1,11 +1,11 @@
--- `input::fill`: what was read never passes the buffer.
+-- `input::read_all`: what was read never passes the buffer.
 use mathlib.Core.List.{List}
 use mathlib.Core.Path.{_≡_}
 use Prim.Native.Nat.{ℕ, _≤_, _-_}
 use borrow.Author.Needs.{needs}
 use lib.ListN.{length}
-use Rattle.input.proofs.fill.Statement.{statement}
-use Rattle.input.proofs.fill.Tie as tie
+use Rattle.input.proofs.read_all.Statement.{statement}
+use Rattle.input.proofs.read_all.Tie as tie
 
 record Held (buf₀ buf : List ℕ) (n : ℕ) : Type 0 where
   inside : n ≤ length buf
@@ -17,8 +17,8 @@ Inv-loop buf₀ n₀ buf n = Held buf₀ buf n
 abbrev μ-loop : tie.MeasureT-loop
 μ-loop buf₀ n₀ buf n = length buf₀ - n
 
-pub fill-spec : {M : Type 1} → statement M
-fill-spec =
+pub read-all-spec : {M : Type 1} → statement M
+read-all-spec =
     tie.close
     (tie.spec
     Inv-loop

@@ -1,10 +1,9 @@
--- `fill`: the lists of each kind of call make up the book that the calls of the run leave.
-use mathlib.Core.Path.{_≡_, _∙_}
-use Rattle.book.specs.Lent.{readLists}
+-- `make_calls`: the lists of each kind of call make up the book that the calls of the run leave.
+use mathlib.Core.Path.{_∙_}
 use Rattle.berth.proofs.Lists.{run-lists, opens}
 use borrow.Author.Needs.{needs}
-use Rattle.berth.proofs.fill.Statement.{statement}
-use Rattle.berth.proofs.fill.Tie as tie
+use Rattle.berth.proofs.make_calls.Statement.{statement}
+use Rattle.berth.proofs.make_calls.Tie as tie
 
 -- ---- Places
 
@@ -39,8 +38,8 @@ returns c =
     let r = at-read-dial .read-dial .ensures in
     (at-send-all .send-all .ensures .0, run-lists _ _ _ _ _ _ _ o (at-send-all .send-all .ensures .0) (at-send-all .send-all .ensures .1) r)
 
-pub fill-spec : {M : Type 1} → statement M
-fill-spec =
+pub make-calls-spec : {M : Type 1} → statement M
+make-calls-spec =
     tie.close
     (tie.spec
     (λ c κs. search needs)

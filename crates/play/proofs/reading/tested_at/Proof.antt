@@ -1,8 +1,8 @@
--- `reading::passing_at`: a delivery that is not read, or the line read.
+-- `reading::tested_at`: a delivery that is not read, or the line read.
 use borrow.Author.Needs.{needs}
 use Rattle.play.proofs.Stepping.{passing-delivery}
-use Rattle.play.proofs.reading.passing_at.Statement.{statement}
-use Rattle.play.proofs.reading.passing_at.Tie as tie
+use Rattle.play.proofs.reading.tested_at.Statement.{statement}
+use Rattle.play.proofs.reading.tested_at.Tie as tie
 
 returns : tie.Need-returns
 returns c = passing-delivery (c .before .delivery-end .ensures (c .if1 .taken))
@@ -15,7 +15,7 @@ returns-2 c = record {
   calls = c .calls-at .ensures;
 }
 
-pub passing-at-spec : {M : Type 1} → statement M
-passing-at-spec =
+pub tested-at-spec : {M : Type 1} → statement M
+tested-at-spec =
     tie.close
     (tie.spec (λ c κs. search needs) returns (λ c κs. search needs) (λ c κs. search needs) (λ c κs. search needs) returns-2)

@@ -1,8 +1,8 @@
--- `calls::fill`: the call of each kind is lent its own lists, and the others stay.
+-- `calls::make`: the call of each kind is lent its own lists, and the others stay.
 use Rattle.book.proofs.EachCall.{delivered, named, registered, settled}
 use borrow.Author.Needs.{needs}
-use Rattle.book.proofs.calls.fill.Statement.{statement}
-use Rattle.book.proofs.calls.fill.Tie as tie
+use Rattle.book.proofs.calls.make.Statement.{statement}
+use Rattle.book.proofs.calls.make.Tie as tie
 
 -- ---- Places
 
@@ -44,8 +44,8 @@ returns-4 : tie.Need-returns-4
 returns-4 c = let e = after-agree (c .before) .agree .ensures in
     settled _ _ _ _ _ _ _ _ _ _ (after-call4 (after-agree (c .before)) .call4 .given .1) (e .0) (e .1)
 
-pub fill-spec : {M : Type 1} → statement M
-fill-spec =
+pub make-spec : {M : Type 1} → statement M
+make-spec =
     tie.close
     (tie.spec
     (λ c. search needs)

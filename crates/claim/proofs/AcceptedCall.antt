@@ -1,20 +1,20 @@
 -- The accepted calls of a list are those that the plain book keeps.
-use mathlib.Core.Bool.{Bool, true, false, cond, false≢true}
+use mathlib.Core.Bool.{Bool, true, false, cond}
 use mathlib.Core.List.{List, [], _∷_, List·Memᴰ, List·Memᴰ·head, List·Memᴰ·tail, List·Memᴰ·not-nil}
 use mathlib.Core.Logic.{_⊎_, inl, inr, ⊎-elim}
-use mathlib.Core.Path.{_≡_, refl, sym, subst, ap, _∙_}
+use mathlib.Core.Path.{_≡_, refl, sym, subst}
 use Prim.Native.Nat.{ℕ, zero, suc, _<_}
 use native.Mathlib.Omega.{arith}
 use lib.ListN.{length, getD}
 use Rattle.rules.specs.declared.Head.{Head}
-use Rattle.book.specs.Answers.{Answer, isAccepted}
+use Rattle.book.specs.Answers.{isAccepted}
 use Rattle.book.specs.Answers.Answer.{done}
 use Rattle.book.specs.Arguments.{Call}
 use Rattle.book.specs.Cells.{Book}
 use Rattle.book.specs.Filling.{answers}
 use Rattle.book.specs.Plain.{plainAnswer, keep, plainAnswers, keptOf}
 use Rattle.book.proofs.AnyOrder.{kept-on, accepted-kept}
-use Rattle.claim.specs.Claim.{Accepted}
+use Rattle.claim.specs.Claim.{AcceptedCall}
 
 -- of the plain book's answers from the kept calls on
 record AcceptedAfter (h : Head) (kept cs : List Call) (x : Call) : Type 0 where
@@ -49,10 +49,10 @@ module _ (h : Head) (x : Call) where
 
 -- from lists that answer as the plain book does
 module _ (h : Head) (b : Book) (cs : List Call) (same : answers h b cs ≡ plainAnswers h [] cs) (x : Call) where
-  pub kept-of : Accepted h b cs x → List·Memᴰ x (keptOf h [] cs)
+  pub kept-of : AcceptedCall h b cs x → List·Memᴰ x (keptOf h [] cs)
   kept-of a = is-kept h x [] cs (a .place) (a .inside) (a .call) (rw same at (a .answered))
 
-  pub accepted-of : List·Memᴰ x (keptOf h [] cs) → Accepted h b cs x
+  pub accepted-of : List·Memᴰ x (keptOf h [] cs) → AcceptedCall h b cs x
   accepted-of m =
       ⊎-elim (λ k. absurd (List·Memᴰ·not-nil k))
       (λ a. record { place = a .place; inside = a .inside; call = a .call; answered = rw same (a .answered) })

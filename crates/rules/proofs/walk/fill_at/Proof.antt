@@ -1,4 +1,4 @@
--- `walk::fill`: a good slot has its value, another is filled.
+-- `walk::fill_at`: a good slot has its value, another is filled.
 use mathlib.Core.Path.{_∙_, sym, refl}
 use native.Mathlib.Omega.{arith}
 use Rattle.rules.specs.Lent.{slots, agreedLists}
@@ -7,8 +7,8 @@ use Rattle.rules.proofs.Outages.{zero-none, zero-applies, good-delivere
 use Rattle.rules.proofs.Lines.{line-none, walk-outage, walk-line, walk-next}
 use Rattle.rules.proofs.Shapes.{shape-good}
 use borrow.Author.Needs.{needs}
-use Rattle.rules.proofs.walk.fill.Statement.{statement}
-use Rattle.rules.proofs.walk.fill.Tie as tie
+use Rattle.rules.proofs.walk.fill_at.Statement.{statement}
+use Rattle.rules.proofs.walk.fill_at.Tie as tie
 
 -- ---- Places
 
@@ -71,8 +71,8 @@ returns-2 c =
           (at-outage-zero .outage-zero .ensures) _ (c .before .before .fill-cause .ensures .2),
     )
 
-pub fill-spec : {M : Type 1} → statement M
-fill-spec =
+pub fill-at-spec : {M : Type 1} → statement M
+fill-at-spec =
     tie.close
     (tie.spec
     (λ c. search needs)

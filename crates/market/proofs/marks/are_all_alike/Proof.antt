@@ -1,4 +1,4 @@
--- `marks::is_one` meets its contract.
+-- `marks::are_all_alike` meets its contract.
 use mathlib.Core.List.{List}
 use Rattle.market.specs.declared.Codes.{Codes}
 use borrow.Author.Needs.{needs}
@@ -10,8 +10,8 @@ use Rattle.base.specs.Lists.{all}
 use Rattle.base.proofs.Sums.{all-more, all-fails, all-done}
 use Rattle.file.specs.Reader.{slotAt}
 use Rattle.market.specs.Fields.{markOf, alike, oneMark}
-use Rattle.market.proofs.marks.is_one.Statement.{statement}
-use Rattle.market.proofs.marks.is_one.Tie as tie
+use Rattle.market.proofs.marks.are_all_alike.Statement.{statement}
+use Rattle.market.proofs.marks.are_all_alike.Tie as tie
 
 record Held (file : List ℕ) (codes : Codes) (a n j : ℕ) : Type 0 where
   inside : j ≤ n
@@ -58,8 +58,8 @@ loop-again c =
 returns-2 : tie.Need-returns-2 Inv-loop μ-loop
 returns-2 c = sym (c .before .loop .inv .known ∙ all-done _ (c .before .loop .j) _ (search needs))
 
-pub is-one-spec : {M : Type 1} → statement M
-is-one-spec =
+pub are-all-alike-spec : {M : Type 1} → statement M
+are-all-alike-spec =
     tie.close
     (tie.spec
     Inv-loop

@@ -1,10 +1,10 @@
--- `checks::are_others` meets its contract.
+-- `checks::are_reason_time_codes` meets its contract.
 use mathlib.Core.Bool.{and-true}
 use mathlib.Core.Path.{sym, _∙_}
 use borrow.Author.Tests.{not-true, not-false}
 use borrow.Author.Needs.{needs}
-use Rattle.market.proofs.checks.are_others.Statement.{statement}
-use Rattle.market.proofs.checks.are_others.Tie as tie
+use Rattle.market.proofs.checks.are_reason_time_codes.Statement.{statement}
+use Rattle.market.proofs.checks.are_reason_time_codes.Tie as tie
 
 -- ---- Places
 
@@ -31,7 +31,7 @@ returns-3 c =
       and-true,
     ) (c .are-codes .ensures)
 
-pub are-others-spec : {M : Type 1} → statement M
-are-others-spec =
+pub are-reason-time-codes-spec : {M : Type 1} → statement M
+are-reason-time-codes-spec =
     tie.close
     (tie.spec (λ c κs. search needs) returns (λ c κs. search needs) returns-2 (λ c κs. search needs) returns-3)

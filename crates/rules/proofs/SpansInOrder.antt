@@ -25,7 +25,7 @@ module _ (h : Head) (b : Cells) where
   -- at most one span begins at a boundary
   one-span : (d : ℕ) → listOf (firstOf (spanFrom h b d)) ≡ spanFrom h b d
   unfolding spanFrom spanTo
-  one-span d = go (isRead (b .reads) d) (nextRead (b .reads) (d + 1) (h .days - d))
+  one-span d = go (isRead (b .readVersions) d) (nextRead (b .readVersions) (d + 1) (h .days - d))
     where
       go : (t : Bool) (o : Option ℕ) → listOf (firstOf (cond t (spanTo h b d o) [])) ≡ cond t (spanTo h b d o) []
       go true none = refl

@@ -1,8 +1,8 @@
--- `refusing::beside_lists`: 7, 20 and 21 in this order.
+-- `refusing::refusal_past_lengths`: 7, 20 and 21 in this order.
 use borrow.Author.Tests.{lt-ltb, le-ltb, eq-eqb, ne-eqb}
 use borrow.Author.Needs.{needs}
-use Rattle.berth.proofs.refusing.beside_lists.Statement.{statement}
-use Rattle.berth.proofs.refusing.beside_lists.Tie as tie
+use Rattle.berth.proofs.refusing.refusal_past_lengths.Statement.{statement}
+use Rattle.berth.proofs.refusing.refusal_past_lengths.Tie as tie
 
 returns : tie.Need-returns
 returns c = rw (lt-ltb _ _ (rw (c .before .file-size .ensures) at (c .if1 .taken)))
@@ -26,5 +26,5 @@ returns-4 c =
       le-ltb _ _ (c .if3 .left),
     )
 
-pub beside-lists-spec : {M : Type 1} → statement M
-beside-lists-spec = tie.close (tie.spec (λ c κs. search needs) returns returns-2 returns-3 returns-4)
+pub refusal-past-lengths-spec : {M : Type 1} → statement M
+refusal-past-lengths-spec = tie.close (tie.spec (λ c κs. search needs) returns returns-2 returns-3 returns-4)

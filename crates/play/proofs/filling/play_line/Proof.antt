@@ -1,51 +1,51 @@
--- `filling::fill`: by what the line is.
+-- `filling::play_line`: by what the line is.
 use mathlib.Core.Path.{refl, ap, _∙_}
 use Rattle.book.specs.Answers.{answerCode}
 use Rattle.log.specs.Log.{itemIn}
-use Rattle.play.specs.Playing.{codeOf, afterItem}
+use Rattle.play.specs.Playing.{itemCode, afterItem}
 use borrow.Author.Needs.{needs}
-use Rattle.play.proofs.filling.fill.Statement.{statement}
-use Rattle.play.proofs.filling.fill.Tie as tie
+use Rattle.play.proofs.filling.play_line.Statement.{statement}
+use Rattle.play.proofs.filling.play_line.Tie as tie
 
 -- ---- Places
 
-abbrev after-line : tie.After-fill → tie.After-line
+abbrev after-line : tie.After-make → tie.After-line
 after-line c = c .before .before .before .before .before .before .before .before .before .before .before .before
 
-abbrev after-fill : tie.After-code-of → tie.After-fill
-after-fill c =
+abbrev after-make : tie.After-code-of → tie.After-make
+after-make c =
     c .before .before .before .before .before .before .before .before .before .before .before .before .before .before .before .before
     .before .before .before .before .before
 
 -- ---- Needs
 
 returns : tie.Need-returns
-unfolding codeOf afterItem itemIn
+unfolding itemCode afterItem itemIn
 returns c = λ limits. rw (c .enum-told .given .1) (refl, refl)
 
 returns-2 : tie.Need-returns-2
-unfolding codeOf afterItem itemIn
+unfolding itemCode afterItem itemIn
 returns-2 c = λ limits. rw (c .enum-told2 .given .1) (refl, refl)
 
 returns-3 : tie.Need-returns-3
-unfolding codeOf afterItem itemIn
+unfolding itemCode afterItem itemIn
 returns-3 c = λ limits. rw (c .enum-told3 .given .1) (refl, refl)
 
 returns-4 : tie.Need-returns-4
-unfolding codeOf afterItem itemIn
+unfolding itemCode afterItem itemIn
 returns-4 c =
-    let at-fill = after-fill c in
-    λ limits. rw (after-line at-fill .line .given .1) (
-      c .code-of .ensures ∙ ap answerCode (at-fill .fill .ensures .0),
-      at-fill .fill .ensures .1,
+    let at-make = after-make c in
+    λ limits. rw (after-line at-make .line .given .1) (
+      c .code-of .ensures ∙ ap answerCode (at-make .make .ensures .0),
+      at-make .make .ensures .1,
     )
 
 returns-5 : tie.Need-returns-5
-unfolding codeOf afterItem itemIn
+unfolding itemCode afterItem itemIn
 returns-5 c = λ limits. rw (c .enum-told4 .given .1) (refl, refl)
 
-pub fill-spec : {M : Type 1} → statement M
-fill-spec =
+pub play-line-spec : {M : Type 1} → statement M
+play-line-spec =
     tie.close
     (tie.spec
     (λ c. search needs)
