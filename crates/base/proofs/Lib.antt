@@ -1,3 +1,4 @@
+pub mod Known
 pub mod Logic
 pub mod Sums
 pub mod Lists

@@ -2,6 +2,7 @@
 use mathlib.Core.Path.{_∙_}
 use Rattle.berth.proofs.Lists.{run-lists, opens}
 use borrow.Author.Needs.{needs}
+use Rattle.base.proofs.Known.{known}
 use Rattle.berth.proofs.make_calls.Statement.{statement}
 use Rattle.berth.proofs.make_calls.Tie as tie
 
@@ -42,17 +43,17 @@ pub make-calls-spec : {M : Type 1} → statement M
 make-calls-spec =
     tie.close
     (tie.spec
-    (λ c κs. search needs)
+    (λ c κs. search known)
     send-all-requires
-    (λ c κs. search needs)
+    (λ c κs. search known)
     (λ c. search needs)
     (λ c. search needs)
     (λ c. search needs)
+    (λ c. search known)
     (λ c. search needs)
     (λ c. search needs)
-    (λ c. search needs)
-    (λ c. search needs)
-    (λ c. search needs)
+    (λ c. search known)
+    (λ c. search known)
     (λ c. search needs)
     (λ c. search needs)
     returns)

@@ -2,7 +2,7 @@
 use native.Mathlib.Omega.{arith}
 use Rattle.berth.proofs.Sends.{true-high}
 use Rattle.berth.proofs.Answers.{wrote, total-written, reported}
-use borrow.Author.Needs.{needs}
+use Rattle.base.proofs.Known.{known}
 use Rattle.berth.proofs.run.Statement.{statement}
 use Rattle.berth.proofs.run.Tie as tie
 
@@ -106,8 +106,8 @@ pub run-spec : {M : Type 1} → statement M
 run-spec =
     tie.close
     (tie.spec
-    (λ c κs. search needs)
-    (λ c κs. search needs)
+    (λ c κs. search known)
+    (λ c κs. search known)
     report-requires
     same-length
     same-length-2
@@ -119,5 +119,5 @@ run-spec =
     same-length-8
     same-length-9
     same-length-10
-    (λ c. search needs)
+    (λ c. search known)
     returns)

@@ -1,7 +1,7 @@
 -- `agree`: 1 and 2 are looked for, and the rest is that of a value, 12.
 use mathlib.Core.Bool.{true}
 use mathlib.Core.Path.{_≡_, refl, sym, _∙_}
-use borrow.Author.Needs.{needs}
+use Rattle.base.proofs.Known.{known}
 use Rattle.rules.specs.Opening.{headOk, Agreed}
 use Rattle.rules.specs.Lent.{lentAgreed}
 use Rattle.book.specs.Cells.{agreedFits}
@@ -74,11 +74,11 @@ pub agree-spec : {M : Type 1} → statement M
 agree-spec =
     tie.close
     (tie.spec
-    (λ c κs. search needs)
+    (λ c κs. search known)
     returns
     agreed-fit-requires
     returns-2
     file-number-requires
-    (λ c. search needs)
-    (λ c. search needs)
+    (λ c. search known)
+    (λ c. search known)
     returns-3)

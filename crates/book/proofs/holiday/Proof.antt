@@ -6,7 +6,7 @@ use Prim.Native.Nat.{ℕ, _<_, _≤_}
 use native.Mathlib.Omega.{arith}
 use lib.ListN.{length, getD, drop}
 use borrow.Author.Tests.{le-leb, lt-leb}
-use borrow.Author.Needs.{needs}
+use Rattle.base.proofs.Known.{known}
 use Rattle.base.specs.Refusals.{unless}
 use Rattle.rules.specs.Opening.{headOk}
 use Rattle.book.specs.Answers.{Answer, receivedMeant}
@@ -115,15 +115,15 @@ pub holiday-spec : {M : Type 1} → statement M
 holiday-spec =
     tie.close
     (tie.spec
-    (λ c κs. search needs)
+    (λ c κs. search known)
     returns
-    (λ c κs. search needs)
+    (λ c κs. search known)
     returns-2
     returns-3
     slice-read-against-day
-    (λ c κs. search needs)
-    (λ c κs. search needs)
+    (λ c κs. search known)
+    (λ c κs. search known)
     slice-write-holidays
-    (λ c. search needs)
+    (λ c. search known)
     returns-4
     returns-5)

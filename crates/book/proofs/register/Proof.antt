@@ -1,7 +1,7 @@
 -- `register`: 1 and 2 are looked for, and the rest is that of `file_register`.
 use mathlib.Core.Bool.{true}
 use mathlib.Core.Path.{_≡_, refl, sym, _∙_}
-use borrow.Author.Needs.{needs}
+use Rattle.base.proofs.Known.{known}
 use Rattle.rules.specs.Opening.{headOk}
 use Rattle.book.specs.Lent.{lentReads}
 use Rattle.book.specs.Cells.{Reads, readsFit}
@@ -79,12 +79,12 @@ pub register-spec : {M : Type 1} → statement M
 register-spec =
     tie.close
     (tie.spec
-    (λ c κs. search needs)
+    (λ c κs. search known)
     returns
-    (λ c κs. search needs)
+    (λ c κs. search known)
     returns-2
     file-register-requires
-    (λ c. search needs)
-    (λ c. search needs)
-    (λ c. search needs)
+    (λ c. search known)
+    (λ c. search known)
+    (λ c. search known)
     returns-3)

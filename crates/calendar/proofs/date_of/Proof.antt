@@ -1,7 +1,7 @@
 -- `date_of` places the number in a year, and what is left in a month.
 use Prim.Native.Nat.{_≤_}
 use native.Mathlib.Omega.{arith}
-use borrow.Author.Needs.{needs}
+use Rattle.base.proofs.Known.{known}
 use Rattle.calendar.specs.Calendar.{monthLength, yearLength, dateOf}
 use Rattle.calendar.proofs.Places.{left-small}
 use Rattle.calendar.proofs.date_of.Statement.{statement}
@@ -21,4 +21,4 @@ unfolding dateOf
 returns c = rw (c .before .month-at .ensures, c .before .before .year-at .ensures)
 
 pub date-of-spec : {M : Type 1} → statement M
-date-of-spec = tie.close (tie.spec (λ c κs. search needs) (λ c κs. search needs) add-t4 returns)
+date-of-spec = tie.close (tie.spec (λ c κs. search known) (λ c κs. search known) add-t4 returns)

@@ -3,6 +3,7 @@ use mathlib.Core.Bool.{Bool, true, false}
 use Prim.Native.Nat.{_<_, _-_}
 use native.Mathlib.Omega.{arith}
 use borrow.Author.Needs.{needs}
+use Rattle.base.proofs.Known.{known}
 use lib.Dec.{lit<}
 use mir.Val.{boolByte}
 use Rattle.calendar.proofs.Starts.{each-entry}
@@ -29,9 +30,9 @@ pub days-before-month-spec : {M : Type 1} → statement M
 days-before-month-spec =
     tie.close
     (tie.spec
-    (λ c κs. search needs)
-    (λ c. search needs)
-    (λ c. search needs)
+    (λ c κs. search known)
+    (λ c. search known)
+    (λ c. search known)
     (λ c. search needs)
     mul-result
     (λ c. search needs)

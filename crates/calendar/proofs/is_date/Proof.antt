@@ -4,7 +4,7 @@ use Prim.Native.Nat.{_≤_}
 use native.Mathlib.Omega.{arith}
 use lib.Dec.{leb}
 use borrow.Author.Tests.{le-leb, lt-leb}
-use borrow.Author.Needs.{needs}
+use Rattle.base.proofs.Known.{known}
 use Rattle.calendar.specs.Calendar.{monthLength, isDate}
 use Rattle.calendar.proofs.Closed.{at-least-28}
 use Rattle.calendar.proofs.is_date.Statement.{statement}
@@ -80,4 +80,4 @@ returns-7 c = rw (before-last (c .before .before), c .month-length .ensures)
 pub is-date-spec : {M : Type 1} → statement M
 is-date-spec =
     tie.close
-    (tie.spec returns returns-2 returns-3 returns-4 returns-5 returns-6 (λ c κs. search needs) returns-7)
+    (tie.spec returns returns-2 returns-3 returns-4 returns-5 returns-6 (λ c κs. search known) returns-7)

@@ -5,6 +5,7 @@ use Prim.Native.Nat.{ℕ, _-_, _≤_, _<_}
 use native.Mathlib.Nat.{sub-zero}
 use native.Mathlib.Omega.{arith}
 use borrow.Author.Needs.{needs}
+use Rattle.base.proofs.Known.{known}
 use Rattle.base.specs.Lists.{sum}
 use Rattle.calendar.specs.Calendar.{monthLength, daysBeforeMonth, place}
 use Rattle.calendar.proofs.Places.{place-here, place-next}
@@ -75,10 +76,10 @@ month-at-spec =
     loop-holds
     (λ c. search needs)
     (λ c κs. search needs)
-    (λ c. search needs)
+    (λ c. search known)
     returns
     (λ c. search needs)
     (λ c. search needs)
     loop-again
-    (λ c. search needs)
+    (λ c. search known)
     returns-2)

@@ -4,7 +4,7 @@ use mathlib.Core.Logic.{inl, inr, ⊎-elim}
 use Prim.Native.Nat.{_<_, _-_, _≤_}
 use native.Mathlib.Omega.{arith}
 use borrow.Author.Tests.{ne-eqb}
-use borrow.Author.Needs.{needs}
+use Rattle.base.proofs.Known.{known}
 use lib.ListN.{List·getD-eq-default}
 use Rattle.calendar.specs.Calendar.{leap, monthLengths, monthLength}
 use Rattle.calendar.proofs.Closed.{month-length}
@@ -45,4 +45,4 @@ returns-5 c =
 
 pub month-length-spec : {M : Type 1} → statement M
 month-length-spec =
-    tie.close (tie.spec returns (λ c κs. search needs) returns-2 returns-3 returns-4 returns-5)
+    tie.close (tie.spec returns (λ c κs. search known) returns-2 returns-3 returns-4 returns-5)

@@ -3,6 +3,7 @@ use mathlib.Core.Path.{_≡_, sym, _∙_}
 use Prim.Native.Nat.{ℕ, _-_, _≤_, _<_}
 use native.Mathlib.Omega.{arith}
 use borrow.Author.Needs.{needs}
+use Rattle.base.proofs.Known.{known}
 use Rattle.calendar.specs.Calendar.{yearLength, place}
 use Rattle.calendar.proofs.Places.{place-here, place-next}
 use Rattle.calendar.proofs.year_at.Statement.{statement}
@@ -46,8 +47,8 @@ year-at-spec =
     (tie.spec
     Inv-loop
     μ-loop
-    (λ c. search needs)
-    (λ c κs. search needs)
+    (λ c. search known)
+    (λ c κs. search known)
     returns
     (λ c. search needs)
     (λ c. search needs)

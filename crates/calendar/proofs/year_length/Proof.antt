@@ -1,6 +1,6 @@
 -- `year_length` is the specification's `yearLength`.
 use mathlib.Core.Path.{sym, _∙_}
-use borrow.Author.Needs.{needs}
+use Rattle.base.proofs.Known.{known}
 use Rattle.calendar.specs.Calendar.{yearLength}
 use Rattle.calendar.proofs.year_length.Statement.{statement}
 use Rattle.calendar.proofs.year_length.Tie as tie
@@ -14,4 +14,4 @@ unfolding yearLength
 returns-2 c = simp (sym (c .before .is-leap .ensures) ∙ c .if1 .left)
 
 pub year-length-spec : {M : Type 1} → statement M
-year-length-spec = tie.close (tie.spec (λ c κs. search needs) returns returns-2)
+year-length-spec = tie.close (tie.spec (λ c κs. search known) returns returns-2)

@@ -3,6 +3,7 @@ use mathlib.Core.Path.{_≡_, refl, _∙_}
 use Prim.Native.Nat.{_≤_, _<_}
 use native.Mathlib.Omega.{arith}
 use borrow.Author.Needs.{needs}
+use Rattle.base.proofs.Known.{known}
 use borrow.Author.Tests.{eq-eqb, ne-eqb, lt-ltb, le-ltb}
 use lib.ListN.{length}
 use Rattle.dial.specs.Dial.{packAnswer, packAfter}
@@ -50,13 +51,13 @@ pack-spec =
     (tie.spec
     returns
     returns-2
-    (λ c κs. search needs)
+    (λ c κs. search known)
     (λ c. search needs)
-    (λ c κs. search needs)
+    (λ c κs. search known)
     (λ c. search needs)
-    (λ c κs. search needs)
+    (λ c κs. search known)
     (λ c. search needs)
-    (λ c κs. search needs)
+    (λ c κs. search known)
     (λ c. search needs)
-    (λ c. search needs)
+    (λ c. search known)
     returns-3)

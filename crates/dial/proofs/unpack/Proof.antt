@@ -5,6 +5,7 @@ use mathlib.Core.Path.{_≡_, sym, _∙_}
 use Prim.Native.Nat.{ℕ, _≤_, _-_}
 use native.Mathlib.Omega.{arith}
 use borrow.Author.Needs.{needs}
+use Rattle.base.proofs.Known.{known}
 use borrow.Author.Tests.{eq-eqb, ne-eqb}
 use lib.ListN.{length, getD, drop, drop-of-length-le}
 use Rattle.dial.specs.Dial.{aboveNine, unpackAnswer}
@@ -82,23 +83,23 @@ unpack-spec =
     Inv-loop
     μ-loop
     returns
-    (λ c. search needs)
-    (λ c. search needs)
-    (λ c κs. search needs)
+    (λ c. search known)
+    (λ c. search known)
+    (λ c κs. search known)
     returns-2
     (λ c. search needs)
     (λ c. search needs)
     loop-again
     (λ c. search needs)
-    (λ c κs. search needs)
+    (λ c κs. search known)
     (λ c. search needs)
-    (λ c κs. search needs)
+    (λ c κs. search known)
     (λ c. search needs)
     (λ c. search needs)
     (λ c. search needs)
-    (λ c κs. search needs)
+    (λ c κs. search known)
     (λ c. search needs)
-    (λ c κs. search needs)
+    (λ c κs. search known)
     (λ c. search needs)
     (λ c. search needs)
     (λ c. search needs)

@@ -3,7 +3,7 @@ use mathlib.Core.Path.{sym, _∙_}
 use borrow.Author.Tests.{not-true, not-false}
 use Rattle.book.specs.Lent.{lentBook}
 use Rattle.explain.proofs.Answering.{refused-1, refused-2, refused-3}
-use borrow.Author.Needs.{needs}
+use Rattle.base.proofs.Known.{known}
 use Rattle.explain.proofs.explain.Statement.{statement}
 use Rattle.explain.proofs.explain.Tie as tie
 
@@ -69,14 +69,14 @@ pub explain-spec : {M : Type 1} → statement M
 explain-spec =
     tie.close
     (tie.spec
-    (λ c κs. search needs)
-    (λ c κs. search needs)
+    (λ c κs. search known)
+    (λ c κs. search known)
     returns
     lists-fit-requires
-    (λ c κs. search needs)
+    (λ c κs. search known)
     returns-2
     slot-count-requires
-    (λ c κs. search needs)
+    (λ c κs. search known)
     returns-3
     explain-fitted-requires
-    (λ c. search needs))
+    (λ c. search known))

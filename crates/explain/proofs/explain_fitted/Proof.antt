@@ -7,7 +7,7 @@ use Rattle.book.specs.Lent.{lentBook}
 use Rattle.book.proofs.Fits.{fits-of}
 use Rattle.publishing.proofs.Publishing.{whole-of}
 use Rattle.explain.proofs.Answering.{refused-11, told}
-use borrow.Author.Needs.{needs}
+use Rattle.base.proofs.Known.{known}
 use Rattle.explain.proofs.explain_fitted.Statement.{statement}
 use Rattle.explain.proofs.explain_fitted.Tie as tie
 
@@ -54,4 +54,4 @@ returns-2 c =
 
 pub explain-fitted-spec : {M : Type 1} → statement M
 explain-fitted-spec =
-    tie.close (tie.spec (λ c κs. search needs) (λ c κs. search needs) returns tell-requires returns-2)
+    tie.close (tie.spec (λ c κs. search known) (λ c κs. search known) returns tell-requires returns-2)

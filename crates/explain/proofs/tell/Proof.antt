@@ -5,6 +5,7 @@ use Rattle.rules.specs.Lent.{slots, agreedLists, cells}
 use Rattle.rules.proofs.Bounds.{bounded}
 use Rattle.explain.proofs.Telling.{fits-are, told-is}
 use borrow.Author.Needs.{needs}
+use Rattle.base.proofs.Known.{known}
 use Rattle.explain.proofs.tell.Statement.{statement}
 use Rattle.explain.proofs.tell.Tie as tie
 
@@ -57,9 +58,9 @@ tell-spec =
     (λ c. search needs)
     (λ c. search needs)
     (λ c. search needs)
-    (λ c κs. search needs)
-    (λ c κs. search needs)
-    (λ c κs. search needs)
+    (λ c κs. search known)
+    (λ c κs. search known)
+    (λ c κs. search known)
     found-by-requires
     hold-requires
     tell-with-requires

@@ -3,6 +3,7 @@ use mathlib.Core.Bool.{true, and-true}
 use mathlib.Core.Path.{_≡_, sym, _∙_}
 use lib.Dec.{eqb}
 use borrow.Author.Needs.{needs}
+use Rattle.base.proofs.Known.{known}
 use borrow.Author.Tests.{eq-eqb, ne-eqb, not-true, not-false}
 use Rattle.file.specs.Reader.{layoutFits}
 use Rattle.file.proofs.figures_ok.Statement.{statement}
@@ -69,6 +70,6 @@ figures-ok-spec =
     returns-2
     (λ c. search needs)
     returns-3
-    (λ c κs. search needs)
+    (λ c κs. search known)
     returns-4
     returns-5)

@@ -4,7 +4,7 @@ use mathlib.Core.List.{List}
 use mathlib.Core.Path.{_≡_, sym, ap, _∙_}
 use Prim.Native.Nat.{ℕ}
 use native.Mathlib.Omega.{arith}
-use borrow.Author.Needs.{needs}
+use Rattle.base.proofs.Known.{known}
 use borrow.Author.Tests.{not-true, not-false}
 use Rattle.file.specs.declared.Figures.{Figures}
 use Rattle.file.specs.Reader.{fileSlots, trailerOk, tablesOk, figuresOk}
@@ -100,13 +100,13 @@ read-spec =
     tie.close
     (tie.spec
     returns
-    (λ c κs. search needs)
-    (λ c κs. search needs)
+    (λ c κs. search known)
+    (λ c κs. search known)
     returns-2
     slot-count-requires
     totals-requires
     tables-ok-requires
     returns-3
-    (λ c κs. search needs)
+    (λ c κs. search known)
     returns-4
     returns-5)

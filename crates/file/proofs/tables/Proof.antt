@@ -2,6 +2,7 @@
 use mathlib.Core.Path.{sym, _∙_, ap}
 use native.Mathlib.Omega.{arith}
 use borrow.Author.Needs.{needs}
+use Rattle.base.proofs.Known.{known}
 use lib.Seq.{length-take-le}
 use Rattle.file.specs.Reader.{partOf, tablesPart}
 use Rattle.file.proofs.Answers.{long-enough}
@@ -45,11 +46,11 @@ pub tables-spec : {M : Type 1} → statement M
 tables-spec =
     tie.close
     (tie.spec
-    (λ c κs. search needs)
-    (λ c. search needs)
+    (λ c κs. search known)
+    (λ c. search known)
     sub-end
     slice-aggregate-result
-    (λ c. search needs)
+    (λ c. search known)
     slice-aggregate-result-2
     returns
     returns-2)

@@ -1,7 +1,7 @@
 -- `file::tables_ok`: the forms were counted, and the spans are tested here.
 use mathlib.Core.Bool.{true, and-true}
 use mathlib.Core.Path.{_≡_, sym, _∙_}
-use borrow.Author.Needs.{needs}
+use Rattle.base.proofs.Known.{known}
 use borrow.Author.Tests.{not-true, not-false}
 use Rattle.base.specs.Lists.{all}
 use Rattle.file.specs.Reader.{slotAt, recordOk, fileSlots, tablesAt, spanOk, stateOk, tablesOk}
@@ -73,7 +73,7 @@ pub tables-ok-spec : {M : Type 1} → statement M
 tables-ok-spec =
     tie.close
     (tie.spec
-    (λ c κs. search needs)
+    (λ c κs. search known)
     returns
     spans-ok-requires
     returns-2

@@ -1,5 +1,6 @@
 -- `filed_code`: the code of each answer, by the equation of its arm, so that a wrong code is refused here.
 use borrow.Author.Needs.{needs}
+use Rattle.base.proofs.Known.{known}
 use Rattle.host.proofs.filed_code.Statement.{statement}
 use Rattle.host.proofs.filed_code.Tie as tie
 
@@ -16,12 +17,12 @@ pub filed-code-spec : {M : Type 1} → statement M
 filed-code-spec =
     tie.close
     (tie.spec
-    (λ c. search needs)
-    (λ c. search needs)
-    (λ c. search needs)
-    (λ c. search needs)
+    (λ c. search known)
+    (λ c. search known)
+    (λ c. search known)
+    (λ c. search known)
     (λ c. search needs)
     returns
     returns-2
     returns-3
-    (λ c. search needs))
+    (λ c. search known))

@@ -1,7 +1,7 @@
 -- `sawmauve_agree`: the answer of an agreed call as its code, and the lists as the call leaves them.
 use mathlib.Core.Path.{ap, _∙_}
 use Rattle.book.specs.Answers.{answerCode}
-use borrow.Author.Needs.{needs}
+use Rattle.base.proofs.Known.{known}
 use Rattle.host.proofs.sawmauve_agree.Statement.{statement}
 use Rattle.host.proofs.sawmauve_agree.Tie as tie
 
@@ -22,9 +22,9 @@ pub sawmauve-agree-spec : {M : Type 1} → statement M
 sawmauve-agree-spec =
     tie.close
     (tie.spec
-    (λ c κs. search needs)
-    (λ c κs. search needs)
-    (λ c κs. search needs)
-    (λ c. search needs)
-    (λ c. search needs)
+    (λ c κs. search known)
+    (λ c κs. search known)
+    (λ c κs. search known)
+    (λ c. search known)
+    (λ c. search known)
     returns)

@@ -1,7 +1,7 @@
 -- `sawmauve_deliver`: the answer of a delivery as its code, and the lists as the delivery leaves them.
 use mathlib.Core.Path.{ap, _∙_}
 use Rattle.book.specs.Answers.{answerCode}
-use borrow.Author.Needs.{needs}
+use Rattle.base.proofs.Known.{known}
 use Rattle.host.proofs.sawmauve_deliver.Statement.{statement}
 use Rattle.host.proofs.sawmauve_deliver.Tie as tie
 
@@ -25,11 +25,11 @@ pub sawmauve-deliver-spec : {M : Type 1} → statement M
 sawmauve-deliver-spec =
     tie.close
     (tie.spec
-    (λ c κs. search needs)
-    (λ c κs. search needs)
-    (λ c κs. search needs)
-    (λ c. search needs)
-    (λ c. search needs)
-    (λ c. search needs)
-    (λ c. search needs)
+    (λ c κs. search known)
+    (λ c κs. search known)
+    (λ c κs. search known)
+    (λ c. search known)
+    (λ c. search known)
+    (λ c. search known)
+    (λ c. search known)
     returns)

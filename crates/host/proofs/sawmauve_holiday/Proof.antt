@@ -1,7 +1,7 @@
 -- `sawmauve_holiday`: the answer of a holiday as its code, and the list as the holiday leaves it.
 use mathlib.Core.Path.{ap, _∙_}
 use Rattle.book.specs.Answers.{answerCode}
-use borrow.Author.Needs.{needs}
+use Rattle.base.proofs.Known.{known}
 use Rattle.host.proofs.sawmauve_holiday.Statement.{statement}
 use Rattle.host.proofs.sawmauve_holiday.Tie as tie
 
@@ -20,4 +20,4 @@ returns c =
 
 pub sawmauve-holiday-spec : {M : Type 1} → statement M
 sawmauve-holiday-spec =
-    tie.close (tie.spec (λ c κs. search needs) (λ c κs. search needs) (λ c κs. search needs) (λ c. search needs) returns)
+    tie.close (tie.spec (λ c κs. search known) (λ c κs. search known) (λ c κs. search known) (λ c. search known) returns)

@@ -4,7 +4,7 @@ use Rattle.base.specs.declared.Performed.{Performed}
 use Rattle.base.specs.declared.Performed.the-variants.{Done, Refused}
 use Rattle.base.specs.Refusals.{codeOf}
 use Rattle.book.specs.Answers.{answerCode, openedMeant}
-use borrow.Author.Needs.{needs}
+use Rattle.base.proofs.Known.{known}
 use Rattle.host.proofs.sawmauve_open.Statement.{statement}
 use Rattle.host.proofs.sawmauve_open.Tie as tie
 
@@ -33,17 +33,17 @@ pub sawmauve-open-spec : {M : Type 1} → statement M
 sawmauve-open-spec =
     tie.close
     (tie.spec
-    (λ c κs. search needs)
-    (λ c κs. search needs)
-    (λ c κs. search needs)
-    (λ c. search needs)
-    (λ c. search needs)
-    (λ c. search needs)
-    (λ c. search needs)
-    (λ c. search needs)
-    (λ c. search needs)
-    (λ c. search needs)
-    (λ c. search needs)
-    (λ c. search needs)
-    (λ c. search needs)
+    (λ c κs. search known)
+    (λ c κs. search known)
+    (λ c κs. search known)
+    (λ c. search known)
+    (λ c. search known)
+    (λ c. search known)
+    (λ c. search known)
+    (λ c. search known)
+    (λ c. search known)
+    (λ c. search known)
+    (λ c. search known)
+    (λ c. search known)
+    (λ c. search known)
     returns)

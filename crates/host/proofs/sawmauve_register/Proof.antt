@@ -1,7 +1,7 @@
 -- `sawmauve_register`: the answer of a register read as its code, and the lists as the read leaves them.
 use mathlib.Core.Path.{ap, _∙_}
 use Rattle.book.specs.Answers.{answerCode}
-use borrow.Author.Needs.{needs}
+use Rattle.base.proofs.Known.{known}
 use Rattle.host.proofs.sawmauve_register.Statement.{statement}
 use Rattle.host.proofs.sawmauve_register.Tie as tie
 
@@ -25,10 +25,10 @@ pub sawmauve-register-spec : {M : Type 1} → statement M
 sawmauve-register-spec =
     tie.close
     (tie.spec
-    (λ c κs. search needs)
-    (λ c κs. search needs)
-    (λ c κs. search needs)
-    (λ c. search needs)
-    (λ c. search needs)
-    (λ c. search needs)
+    (λ c κs. search known)
+    (λ c κs. search known)
+    (λ c κs. search known)
+    (λ c. search known)
+    (λ c. search known)
+    (λ c. search known)
     returns)

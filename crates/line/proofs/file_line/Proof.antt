@@ -2,7 +2,7 @@
 use mathlib.Core.Path.{refl, sym, _∙_}
 use Rattle.file.proofs.Answers.{first-lt}
 use Rattle.line.specs.Line.{lineAnswer, lineAfter}
-use borrow.Author.Needs.{needs}
+use Rattle.base.proofs.Known.{known}
 use Rattle.line.proofs.file_line.Statement.{statement}
 use Rattle.line.proofs.file_line.Tie as tie
 
@@ -38,10 +38,10 @@ pub file-line-spec : {M : Type 1} → statement M
 file-line-spec =
     tie.close
     (tie.spec
-    (λ c κs. search needs)
-    (λ c. search needs)
+    (λ c κs. search known)
+    (λ c. search known)
     fit-line-requires
-    (λ c. search needs)
-    (λ c. search needs)
+    (λ c. search known)
+    (λ c. search known)
     returns
     returns-2)

@@ -1,6 +1,6 @@
 -- `line::fit_line`: 7 where the figures have no room, else they are put.
 use native.Mathlib.Omega.{arith}
-use borrow.Author.Needs.{needs}
+use Rattle.base.proofs.Known.{known}
 use Rattle.line.proofs.Lengths.{line-refused, line-fits}
 use Rattle.line.proofs.fit_line.Statement.{statement}
 use Rattle.line.proofs.fit_line.Tie as tie
@@ -24,9 +24,9 @@ pub fit-line-spec : {M : Type 1} → statement M
 fit-line-spec =
     tie.close
     (tie.spec
-    (λ c. search needs)
-    (λ c κs. search needs)
+    (λ c. search known)
+    (λ c κs. search known)
     returns
-    (λ c κs. search needs)
-    (λ c. search needs)
+    (λ c κs. search known)
+    (λ c. search known)
     returns-2)

@@ -1,5 +1,6 @@
 -- `line::put_counts` meets its contract.
 use borrow.Author.Needs.{needs}
+use Rattle.base.proofs.Known.{known}
 use Rattle.line.proofs.Putting.{then}
 use Rattle.line.proofs.put_counts.Statement.{statement}
 use Rattle.line.proofs.put_counts.Tie as tie
@@ -26,10 +27,10 @@ put-counts-spec =
     tie.close
     (tie.spec
     (λ c. search needs)
-    (λ c κs. search needs)
+    (λ c κs. search known)
     (λ c. search needs)
-    (λ c κs. search needs)
+    (λ c κs. search known)
     (λ c. search needs)
-    (λ c κs. search needs)
-    (λ c. search needs)
+    (λ c κs. search known)
+    (λ c. search known)
     returns)

@@ -1,5 +1,6 @@
 -- `line::put_date` meets its contract.
 use borrow.Author.Needs.{needs}
+use Rattle.base.proofs.Known.{known}
 use Rattle.line.specs.Line.{dateText}
 use Rattle.line.proofs.Putting.{then}
 use Rattle.line.proofs.put_date.Statement.{statement}
@@ -38,14 +39,14 @@ put-date-spec =
     tie.close
     (tie.spec
     (λ c. search needs)
-    (λ c κs. search needs)
+    (λ c κs. search known)
+    (λ c. search known)
+    (λ c κs. search known)
     (λ c. search needs)
-    (λ c κs. search needs)
+    (λ c κs. search known)
+    (λ c. search known)
+    (λ c κs. search known)
     (λ c. search needs)
-    (λ c κs. search needs)
-    (λ c. search needs)
-    (λ c κs. search needs)
-    (λ c. search needs)
-    (λ c κs. search needs)
+    (λ c κs. search known)
     (λ c. search needs)
     returns)

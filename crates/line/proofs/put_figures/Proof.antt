@@ -1,5 +1,5 @@
 -- `line::put_figures`: the figures, and the line's end.
-use borrow.Author.Needs.{needs}
+use Rattle.base.proofs.Known.{known}
 use Rattle.line.proofs.Putting.{then}
 use Rattle.line.proofs.put_figures.Statement.{statement}
 use Rattle.line.proofs.put_figures.Tie as tie
@@ -18,4 +18,4 @@ returns c =
     then (line-put .ensures) (end-put .put-text .ensures)
 
 pub put-figures-spec : {M : Type 1} → statement M
-put-figures-spec = tie.close (tie.spec (λ c κs. search needs) (λ c. search needs) (λ c κs. search needs) (λ c. search needs) returns)
+put-figures-spec = tie.close (tie.spec (λ c κs. search known) (λ c. search known) (λ c κs. search known) (λ c. search known) returns)

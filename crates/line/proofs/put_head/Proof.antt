@@ -1,6 +1,7 @@
 -- `line::put_head` meets its contract.
 use mathlib.Core.Path.{ap}
 use borrow.Author.Needs.{needs}
+use Rattle.base.proofs.Known.{known}
 use Rattle.line.specs.Line.{dateText}
 use Rattle.line.proofs.Putting.{then, same}
 use Rattle.line.proofs.put_head.Statement.{statement}
@@ -29,11 +30,11 @@ pub put-head-spec : {M : Type 1} → statement M
 put-head-spec =
     tie.close
     (tie.spec
-    (λ c κs. search needs)
-    (λ c κs. search needs)
+    (λ c κs. search known)
+    (λ c κs. search known)
     (λ c. search needs)
-    (λ c κs. search needs)
+    (λ c κs. search known)
     (λ c. search needs)
-    (λ c κs. search needs)
-    (λ c. search needs)
+    (λ c κs. search known)
+    (λ c. search known)
     returns)

@@ -1,5 +1,5 @@
 -- `line::put_line`: first day, D, L, the counts and the sum one after another.
-use borrow.Author.Needs.{needs}
+use Rattle.base.proofs.Known.{known}
 use Rattle.line.specs.Line.{figuresText}
 use Rattle.line.proofs.Putting.{then}
 use Rattle.line.proofs.put_line.Statement.{statement}
@@ -27,8 +27,8 @@ pub put-line-spec : {M : Type 1} → statement M
 put-line-spec =
     tie.close
     (tie.spec
-    (λ c κs. search needs)
-    (λ c κs. search needs)
-    (λ c κs. search needs)
-    (λ c. search needs)
+    (λ c κs. search known)
+    (λ c κs. search known)
+    (λ c κs. search known)
+    (λ c. search known)
     returns)

@@ -8,7 +8,7 @@ use Rattle.market.specs.Fields.{texts}
 use Rattle.market.specs.Export.{contentOf, bodyOf, exportOf}
 use Rattle.line.proofs.Putting.{then}
 use Rattle.market.proofs.Answers.{time-long, room-for, refused-7, exported}
-use borrow.Author.Needs.{needs}
+use Rattle.base.proofs.Known.{known}
 use Rattle.market.proofs.export_in.Statement.{statement}
 use Rattle.market.proofs.export_in.Tie as tie
 
@@ -82,10 +82,10 @@ export-in-spec =
     tie.close
     (tie.spec
     body-length-requires
-    (λ c κs. search needs)
+    (λ c κs. search known)
     returns
     put-body-requires
-    (λ c. search needs)
-    (λ c κs. search needs)
-    (λ c. search needs)
+    (λ c. search known)
+    (λ c κs. search known)
+    (λ c. search known)
     returns-2)

@@ -4,7 +4,7 @@ use borrow.Author.Tests.{not-true, not-false}
 use Rattle.market.specs.Fields.{texts}
 use Rattle.market.specs.Export.{suppliedOk}
 use Rattle.market.proofs.Answers.{refused-14, refused-15}
-use borrow.Author.Needs.{needs}
+use Rattle.base.proofs.Known.{known}
 use Rattle.market.proofs.export_of.Statement.{statement}
 use Rattle.market.proofs.export_of.Tie as tie
 
@@ -48,10 +48,10 @@ pub export-of-spec : {M : Type 1} → statement M
 export-of-spec =
     tie.close
     (tie.spec
-    (λ c κs. search needs)
+    (λ c κs. search known)
     returns
-    (λ c κs. search needs)
+    (λ c κs. search known)
     returns-2
     export-in-requires
-    (λ c. search needs)
-    (λ c. search needs))
+    (λ c. search known)
+    (λ c. search known))

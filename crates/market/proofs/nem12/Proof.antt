@@ -2,7 +2,7 @@
 use mathlib.Core.Path.{sym, _∙_}
 use Rattle.market.specs.Fields.{texts}
 use Rattle.market.proofs.Answers.{refused-by-reader}
-use borrow.Author.Needs.{needs}
+use Rattle.base.proofs.Known.{known}
 use Rattle.market.proofs.nem12.Statement.{statement}
 use Rattle.market.proofs.nem12.Tie as tie
 
@@ -29,10 +29,10 @@ pub nem12-spec : {M : Type 1} → statement M
 nem12-spec =
     tie.close
     (tie.spec
-    (λ c κs. search needs)
-    (λ c. search needs)
+    (λ c κs. search known)
+    (λ c. search known)
     export-of-requires
-    (λ c. search needs)
-    (λ c. search needs)
-    (λ c. search needs)
+    (λ c. search known)
+    (λ c. search known)
+    (λ c. search known)
     returns-2)

@@ -11,6 +11,7 @@ use Rattle.market.specs.Export.{contentOf, bodyOf}
 use Rattle.line.proofs.Putting.{then, same}
 use Rattle.file.proofs.Answers.{dates-le, figures-are, some-interval, tabled}
 use borrow.Author.Needs.{needs}
+use Rattle.base.proofs.Known.{known}
 use Rattle.market.proofs.put_body.Statement.{statement}
 use Rattle.market.proofs.put_body.Tie as tie
 
@@ -56,4 +57,4 @@ returns c =
 pub put-body-spec : {M : Type 1} → statement M
 put-body-spec =
     tie.close
-    (tie.spec (λ c κs. search needs) (λ c κs. search needs) (λ c. search needs) div-n put-days-requires (λ c. search needs) returns)
+    (tie.spec (λ c κs. search known) (λ c κs. search known) (λ c. search needs) div-n put-days-requires (λ c. search needs) returns)

@@ -1,7 +1,7 @@
 -- `check`: the opening is found, or the log is none.
 use mathlib.Core.Path.{sym, ap, _∙_}
 use Rattle.play.specs.Playing.{checkedOf, checked}
-use borrow.Author.Needs.{needs}
+use Rattle.base.proofs.Known.{known}
 use Rattle.play.proofs.check.Statement.{statement}
 use Rattle.play.proofs.check.Tie as tie
 
@@ -28,9 +28,9 @@ pub check-spec : {M : Type 1} → statement M
 check-spec =
     tie.close
     (tie.spec
-    (λ c κs. search needs)
-    (λ c. search needs)
+    (λ c κs. search known)
+    (λ c. search known)
     following-requires
-    (λ c. search needs)
+    (λ c. search known)
     returns
     returns-2)

@@ -2,6 +2,7 @@
 use native.Mathlib.Omega.{arith}
 use Rattle.rules.proofs.Bounds.{bounded, count-high}
 use borrow.Author.Needs.{needs}
+use Rattle.base.proofs.Known.{known}
 use Rattle.publishing.proofs.length_of.Statement.{statement}
 use Rattle.publishing.proofs.length_of.Tie as tie
 
@@ -20,4 +21,4 @@ add-result-2 c =
 pub length-of-spec : {M : Type 1} → statement M
 length-of-spec =
     tie.close
-    (tie.spec (λ c κs. search needs) mul-result (λ c. search needs) add-result add-result-2 (λ c. search needs))
+    (tie.spec (λ c κs. search known) mul-result (λ c. search needs) add-result add-result-2 (λ c. search needs))

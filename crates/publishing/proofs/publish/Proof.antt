@@ -1,5 +1,5 @@
 -- `publish` refuses in the order of 01.
-use borrow.Author.Needs.{needs}
+use Rattle.base.proofs.Known.{known}
 use mathlib.Core.Bool.{true}
 use mathlib.Core.Path.{_≡_, sym, _∙_}
 use borrow.Author.Tests.{not-true, not-false}
@@ -60,10 +60,10 @@ pub publish-spec : {M : Type 1} → statement M
 publish-spec =
     tie.close
     (tie.spec
-    (λ c κs. search needs)
+    (λ c κs. search known)
     returns
     lists-fit-requires
     returns-2
     put-fitted-requires
-    (λ c. search needs)
+    (λ c. search known)
     returns-3)

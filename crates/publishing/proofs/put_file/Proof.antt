@@ -12,7 +12,7 @@ use Rattle.rules.proofs.Bounds.{bounded, count-high}
 use Rattle.rules.proofs.Neighbours.{spans-few}
 use Rattle.publishing.specs.Publishing.{fileLength}
 use Rattle.publishing.proofs.Totals.{filled-low, figures-found}
-use borrow.Author.Needs.{needs}
+use Rattle.base.proofs.Known.{known}
 use Rattle.publishing.proofs.put_file.Statement.{statement}
 use Rattle.publishing.proofs.put_file.Tie as tie
 
@@ -130,5 +130,5 @@ put-file-spec =
     mul-put-trailer
     add-put-trailer
     put-trailer-requires
-    (λ c. search needs)
+    (λ c. search known)
     returns)

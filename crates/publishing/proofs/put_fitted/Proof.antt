@@ -1,5 +1,5 @@
 -- `put_fitted` refuses cells and counts that no calls could leave.
-use borrow.Author.Needs.{needs}
+use Rattle.base.proofs.Known.{known}
 use mathlib.Core.Path.{sym, _∙_}
 use borrow.Author.Tests.{not-true, not-false}
 use Rattle.base.proofs.Logic.{and-parts}
@@ -59,5 +59,5 @@ put-fitted-spec =
     book-ok-requires
     returns
     put-sound-requires
-    (λ c. search needs)
+    (λ c. search known)
     returns-2)

@@ -1,5 +1,5 @@
 -- `put_sound` refuses a short buffer, and then writes the file.
-use borrow.Author.Needs.{needs}
+use Rattle.base.proofs.Known.{known}
 use Prim.Native.Nat.{_+_, _*_, _≤_}
 use native.Mathlib.Omega.{arith}
 use lib.ListN.{length}
@@ -61,9 +61,9 @@ pub put-sound-spec : {M : Type 1} → statement M
 put-sound-spec =
     tie.close
     (tie.spec
-    (λ c κs. search needs)
+    (λ c κs. search known)
     length-of-requires
     returns
     put-file-requires
-    (λ c. search needs)
+    (λ c. search known)
     returns-2)

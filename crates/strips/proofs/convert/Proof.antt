@@ -1,6 +1,6 @@
 -- `convert`: 1, then 22, then what is laid.
 use native.Mathlib.Omega.{arith}
-use borrow.Author.Needs.{needs}
+use Rattle.base.proofs.Known.{known}
 use Rattle.rules.proofs.Bounds.{interval-bounds}
 use Rattle.strips.proofs.Answers.{passes, fails, refuses-interval, refuses-lengths, accepts, sized}
 use Rattle.strips.proofs.convert.Statement.{statement}
@@ -62,12 +62,12 @@ pub convert-spec : {M : Type 1} → statement M
 convert-spec =
     tie.close
     (tie.spec
-    (λ c κs. search needs)
+    (λ c κs. search known)
     returns
     div-n
     cast-n
     fit-requires
     returns-2
     write-requires
-    (λ c. search needs)
+    (λ c. search known)
     returns-3)

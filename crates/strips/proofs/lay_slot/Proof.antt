@@ -1,6 +1,7 @@
 -- `lay_slot` writes the difference, the letter and the method of one slot.
 use mathlib.Core.Path.{_∙_}
 use borrow.Author.Needs.{needs}
+use Rattle.base.proofs.Known.{known}
 use Rattle.strips.specs.Strips.{differenceAt}
 use Rattle.strips.specs.Inner.Laying.{storedIn}
 use Rattle.strips.proofs.Numbers.{table-value}
@@ -39,5 +40,5 @@ lay-slot-spec =
     (λ c. search needs)
     (λ c. search needs)
     (λ c κs. search needs)
-    (λ c. search needs)
+    (λ c. search known)
     returns)

@@ -1,6 +1,7 @@
 -- `restore_slot` writes the sum, the letter and the method of one slot.
 use mathlib.Core.Path.{_∙_}
 use borrow.Author.Needs.{needs}
+use Rattle.base.proofs.Known.{known}
 use Rattle.strips.specs.Inner.Laying.{restoredIn}
 use Rattle.strips.proofs.restore_slot.Statement.{statement}
 use Rattle.strips.proofs.restore_slot.Tie as tie
@@ -33,5 +34,5 @@ restore-slot-spec =
     (λ c. search needs)
     (λ c. search needs)
     (λ c κs. search needs)
-    (λ c. search needs)
+    (λ c. search known)
     returns)

@@ -5,6 +5,7 @@ use mathlib.Core.List.{List}
 use Prim.Native.Nat.{ℕ, _≤_, _-_}
 use native.Mathlib.Omega.{arith}
 use borrow.Author.Needs.{needs}
+use Rattle.base.proofs.Known.{known}
 use lib.ListN.{length}
 use Rattle.strips.specs.Strips.{slotsOf}
 use Rattle.strips.specs.Inner.Laying.{slotIn}
@@ -70,5 +71,5 @@ write-spec =
     (λ c. search needs)
     (λ c. search needs)
     loop-again
-    (λ c. search needs)
+    (λ c. search known)
     returns)

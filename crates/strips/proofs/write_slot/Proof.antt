@@ -1,5 +1,5 @@
 -- `write_slot`: one slot, by the way.
-use borrow.Author.Needs.{needs}
+use Rattle.base.proofs.Known.{known}
 use Rattle.strips.proofs.write_slot.Statement.{statement}
 use Rattle.strips.proofs.write_slot.Tie as tie
 
@@ -23,11 +23,11 @@ pub write-slot-spec : {M : Type 1} → statement M
 write-slot-spec =
     tie.close
     (tie.spec
-    (λ c. search needs)
-    (λ c κs. search needs)
-    (λ c. search needs)
-    (λ c κs. search needs)
-    (λ c. search needs)
+    (λ c. search known)
+    (λ c κs. search known)
+    (λ c. search known)
+    (λ c κs. search known)
+    (λ c. search known)
     returns
-    (λ c. search needs)
+    (λ c. search known)
     returns-2)

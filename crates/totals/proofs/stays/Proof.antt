@@ -1,6 +1,6 @@
 -- `stays`: the reader's refusal, or what is answered of an accepted file.
 use mathlib.Core.Path.{refl, sym, _∙_}
-use borrow.Author.Needs.{needs}
+use Rattle.base.proofs.Known.{known}
 use Rattle.totals.specs.Stays.{staysAnswer, staysAfter}
 use Rattle.totals.proofs.stays.Statement.{statement}
 use Rattle.totals.proofs.stays.Tie as tie
@@ -23,10 +23,10 @@ pub stays-spec : {M : Type 1} → statement M
 stays-spec =
     tie.close
     (tie.spec
-    (λ c κs. search needs)
-    (λ c. search needs)
+    (λ c κs. search known)
+    (λ c. search known)
     stays-in-requires
-    (λ c. search needs)
-    (λ c. search needs)
-    (λ c. search needs)
+    (λ c. search known)
+    (λ c. search known)
+    (λ c. search known)
     returns-2)

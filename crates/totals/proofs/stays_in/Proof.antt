@@ -3,6 +3,7 @@ use mathlib.Core.Path.{sym, ap, _∙_}
 use Prim.Native.Nat.{_/_}
 use native.Mathlib.Omega.{arith}
 use borrow.Author.Needs.{needs}
+use Rattle.base.proofs.Known.{known}
 use borrow.Author.Tests.{not-true, not-false, eqb-true}
 use lib.ListN.{length}
 use Rattle.base.proofs.Logic.{passed}
@@ -64,12 +65,12 @@ pub stays-in-spec : {M : Type 1} → statement M
 stays-in-spec =
     tie.close
     (tie.spec
-    (λ c κs. search needs)
+    (λ c κs. search known)
     returns
-    (λ c κs. search needs)
+    (λ c κs. search known)
     returns-2
     (λ c. search needs)
     div-n
     total-days-requires
-    (λ c. search needs)
+    (λ c. search known)
     returns-3)

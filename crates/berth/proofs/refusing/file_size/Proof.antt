@@ -4,7 +4,7 @@ use mathlib.Core.Path.{ap}
 use Rattle.berth.specs.Inner.Refusing.{fileSize}
 use Rattle.berth.proofs.Sends.{slots-high}
 use Prim.Native.Nat.{ℕ, _+_, _*_}
-use borrow.Author.Needs.{needs}
+use Rattle.base.proofs.Known.{known}
 use Rattle.berth.proofs.refusing.file_size.Statement.{statement}
 use Rattle.berth.proofs.refusing.file_size.Tie as tie
 
@@ -23,4 +23,4 @@ returns c = ap (λ (n : ℕ). 6 * n + 14 + 32) (c .slot-count .ensures)
 
 pub file-size-spec : {M : Type 1} → statement M
 file-size-spec =
-    tie.close (tie.spec (λ c κs. search needs) mul-result add-result add-result-2 returns)
+    tie.close (tie.spec (λ c κs. search known) mul-result add-result add-result-2 returns)

@@ -2,7 +2,7 @@
 use mathlib.Core.Path.{sym, _∙_}
 use borrow.Author.Tests.{not-true, not-false}
 use Rattle.book.specs.Cells.{slotsFit, daysFit, readsFit, agreedFits, cellsFit, countsFit, bookFits}
-use borrow.Author.Needs.{needs}
+use Rattle.base.proofs.Known.{known}
 use Rattle.berth.proofs.Written.{file-size}
 use Rattle.berth.proofs.refusing.refusal.Statement.{statement}
 use Rattle.berth.proofs.refusing.refusal.Tie as tie
@@ -42,7 +42,7 @@ pub refusal-spec : {M : Type 1} → statement M
 refusal-spec =
     tie.close
     (tie.spec
-    (λ c κs. search needs)
+    (λ c κs. search known)
     returns
     book-fits-requires
     returns-2

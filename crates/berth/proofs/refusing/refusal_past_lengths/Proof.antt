@@ -1,6 +1,6 @@
 -- `refusing::refusal_past_lengths`: 7, 20 and 21 in this order.
 use borrow.Author.Tests.{lt-ltb, le-ltb, eq-eqb, ne-eqb}
-use borrow.Author.Needs.{needs}
+use Rattle.base.proofs.Known.{known}
 use Rattle.berth.proofs.refusing.refusal_past_lengths.Statement.{statement}
 use Rattle.berth.proofs.refusing.refusal_past_lengths.Tie as tie
 
@@ -27,4 +27,4 @@ returns-4 c =
     )
 
 pub refusal-past-lengths-spec : {M : Type 1} → statement M
-refusal-past-lengths-spec = tie.close (tie.spec (λ c κs. search needs) returns returns-2 returns-3 returns-4)
+refusal-past-lengths-spec = tie.close (tie.spec (λ c κs. search known) returns returns-2 returns-3 returns-4)

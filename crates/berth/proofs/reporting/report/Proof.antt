@@ -8,7 +8,7 @@ use Rattle.file.specs.Reader.{num}
 use Rattle.berth.specs.Inner.Refusing.{fileSize}
 use Rattle.berth.proofs.Sends.{slots-high}
 use Prim.Native.Nat.{ℕ, _+_, _*_}
-use borrow.Author.Needs.{needs}
+use Rattle.base.proofs.Known.{known}
 use Rattle.berth.proofs.reporting.report.Statement.{statement}
 use Rattle.berth.proofs.reporting.report.Tie as tie
 
@@ -66,7 +66,7 @@ report-spec =
     mul-table
     add-number
     number-requires
-    (λ c. search needs)
+    (λ c. search known)
     add-number-2
     number-requires-2
     difference-requires

@@ -6,6 +6,7 @@ use mathlib.Core.Path.{ap, _∙_}
 use Rattle.book.specs.Cells.{Reads}
 use Rattle.book.specs.Filling.{registerAfter}
 use borrow.Author.Needs.{needs}
+use Rattle.base.proofs.Known.{known}
 use Rattle.berth.proofs.sending.read_dial.Statement.{statement}
 use Rattle.berth.proofs.sending.read_dial.Tie as tie
 
@@ -36,9 +37,9 @@ pub read-dial-spec : {M : Type 1} → statement M
 read-dial-spec =
     tie.close
     (tie.spec
-    (λ c κs. search needs)
+    (λ c κs. search known)
     (λ c. search needs)
-    (λ c κs. search needs)
+    (λ c κs. search known)
     (λ c. search needs)
     (λ c. search needs)
     (λ c. search needs)

@@ -1,6 +1,6 @@
 -- `sending::send`: a lost slot leaves the lists, another is delivered.
 use Rattle.berth.specs.Inner.Sending.{sentOne}
-use borrow.Author.Needs.{needs}
+use Rattle.base.proofs.Known.{known}
 use Rattle.berth.proofs.sending.send.Statement.{statement}
 use Rattle.berth.proofs.sending.send.Tie as tie
 
@@ -28,9 +28,9 @@ send-spec =
     tie.close
     (tie.spec
     returns
-    (λ c κs. search needs)
-    (λ c. search needs)
-    (λ c. search needs)
-    (λ c. search needs)
-    (λ c. search needs)
+    (λ c κs. search known)
+    (λ c. search known)
+    (λ c. search known)
+    (λ c. search known)
+    (λ c. search known)
     returns-2)

@@ -4,6 +4,7 @@ use Rattle.rules.specs.declared.Head.{Head}
 use Rattle.rules.specs.Lent.{slots as slotLists}
 use Rattle.berth.specs.declared.generator.Berth.{Berth}
 use borrow.Author.Needs.{needs}
+use Rattle.base.proofs.Known.{known}
 use mathlib.Core.Path.{_≡_, refl}
 use Prim.Native.Nat.{ℕ, _-_}
 use native.Mathlib.Omega.{arith}
@@ -140,8 +141,8 @@ send-all-spec =
     add-slot
     (λ c. search needs)
     loop-again
-    (λ c. search needs)
-    (λ c. search needs)
-    (λ c. search needs)
-    (λ c. search needs)
+    (λ c. search known)
+    (λ c. search known)
+    (λ c. search known)
+    (λ c. search known)
     returns)

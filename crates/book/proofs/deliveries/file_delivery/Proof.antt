@@ -9,6 +9,7 @@ use Rattle.rules.specs.Opening.{slotsPerDay}
 use Rattle.rules.proofs.Bounds.{bounded, day-below}
 use Rattle.book.specs.Filling.{isFull, againstDelivery}
 use borrow.Author.Needs.{needs}
+use Rattle.base.proofs.Known.{known}
 use Rattle.book.proofs.deliveries.file_delivery.Statement.{statement}
 use Rattle.book.proofs.deliveries.file_delivery.Tie as tie
 
@@ -94,18 +95,18 @@ pub file-delivery-spec : {M : Type 1} → statement M
 file-delivery-spec =
     tie.close
     (tie.spec
-    (λ c κs. search needs)
+    (λ c κs. search known)
     (λ c. search needs)
     (λ c. search needs)
     mul-count
     slice-read-count
-    (λ c κs. search needs)
+    (λ c κs. search known)
     returns
     (λ c. search needs)
     (λ c. search needs)
     (λ c. search needs)
-    (λ c κs. search needs)
-    (λ c κs. search needs)
+    (λ c κs. search known)
+    (λ c κs. search known)
     (λ c. search needs)
     (λ c. search needs)
     (λ c. search needs)
@@ -114,9 +115,9 @@ file-delivery-spec =
     raised-requires
     mul-counts
     slice-write-counts
-    (λ c. search needs)
-    (λ c. search needs)
-    (λ c. search needs)
-    (λ c. search needs)
+    (λ c. search known)
+    (λ c. search known)
+    (λ c. search known)
+    (λ c. search known)
     returns-2
     returns-3)

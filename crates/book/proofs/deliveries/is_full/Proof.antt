@@ -1,7 +1,7 @@
 -- `deliveries::is_full`: of a slot that has come nothing is asked.
 use borrow.Author.Tests.{eq-eqb, ne-eqb}
 use Rattle.book.specs.Filling.{isFull}
-use borrow.Author.Needs.{needs}
+use Rattle.base.proofs.Known.{known}
 use Rattle.book.proofs.deliveries.is_full.Statement.{statement}
 use Rattle.book.proofs.deliveries.is_full.Tie as tie
 
@@ -14,4 +14,4 @@ unfolding isFull
 returns-2 c = rw (eq-eqb _ _ (c .before .if1 .left), c .slots-per-day .ensures)
 
 pub is-full-spec : {M : Type 1} → statement M
-is-full-spec = tie.close (tie.spec returns (λ c κs. search needs) returns-2)
+is-full-spec = tie.close (tie.spec returns (λ c κs. search known) returns-2)

@@ -3,7 +3,7 @@ use mathlib.Core.Bool.{true, false}
 use mathlib.Core.Path.{_≡_, sym, _∙_}
 use Rattle.book.specs.Cells.{agreedFault}
 use Rattle.book.specs.Filling.{againstAgreed}
-use borrow.Author.Needs.{needs}
+use Rattle.base.proofs.Known.{known}
 use Rattle.book.proofs.filing.against_agreed.Statement.{statement}
 use Rattle.book.proofs.filing.against_agreed.Tie as tie
 
@@ -24,4 +24,4 @@ returns-2 c =
 
 pub against-agreed-spec : {M : Type 1} → statement M
 against-agreed-spec =
-    tie.close (tie.spec (λ c κs. search needs) returns (λ c κs. search needs) returns-2)
+    tie.close (tie.spec (λ c κs. search known) returns (λ c κs. search known) returns-2)

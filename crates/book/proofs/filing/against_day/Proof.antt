@@ -2,7 +2,7 @@
 use mathlib.Core.Path.{sym, _∙_}
 use borrow.Author.Tests.{eq-eqb, ne-eqb}
 use Rattle.book.specs.Filling.{againstDay}
-use borrow.Author.Needs.{needs}
+use Rattle.base.proofs.Known.{known}
 use Rattle.book.proofs.filing.against_day.Statement.{statement}
 use Rattle.book.proofs.filing.against_day.Tie as tie
 
@@ -19,4 +19,4 @@ unfolding againstDay
 returns-3 c = simp (sym (c .before .before .day-fault .ensures) ∙ c .before .if1 .left, ne-eqb _ _ (c .if2 .left))
 
 pub against-day-spec : {M : Type 1} → statement M
-against-day-spec = tie.close (tie.spec (λ c κs. search needs) returns returns-2 returns-3)
+against-day-spec = tie.close (tie.spec (λ c κs. search known) returns returns-2 returns-3)

@@ -3,7 +3,7 @@ use mathlib.Core.Bool.{true, false}
 use mathlib.Core.Path.{_≡_, sym, _∙_}
 use Rattle.book.specs.Cells.{slotFault}
 use Rattle.book.specs.Filling.{againstSlot}
-use borrow.Author.Needs.{needs}
+use Rattle.base.proofs.Known.{known}
 use Rattle.book.proofs.filing.against_slot.Statement.{statement}
 use Rattle.book.proofs.filing.against_slot.Tie as tie
 
@@ -31,4 +31,4 @@ returns-2 c =
 
 pub against-slot-spec : {M : Type 1} → statement M
 against-slot-spec =
-    tie.close (tie.spec (λ c κs. search needs) returns (λ c κs. search needs) (λ c κs. search needs) returns-2)
+    tie.close (tie.spec (λ c κs. search known) returns (λ c κs. search known) (λ c κs. search known) returns-2)

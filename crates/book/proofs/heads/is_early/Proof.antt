@@ -4,7 +4,7 @@ use mathlib.Core.Path.{_≡_, sym, _∙_}
 use Prim.Native.Nat.{_+_, _≤_, _<_}
 use native.Mathlib.Omega.{arith}
 use lib.Dec.{leb}
-use borrow.Author.Needs.{needs}
+use Rattle.base.proofs.Known.{known}
 use borrow.Author.Tests.{le-leb, leb-true, not-false}
 use Rattle.base.proofs.Logic.{and-parts}
 use Rattle.calendar.specs.Calendar.{isDate}
@@ -68,4 +68,4 @@ returns-4 c =
 pub is-early-spec : {M : Type 1} → statement M
 is-early-spec =
     tie.close
-    (tie.spec returns (λ c κs. search needs) returns-2 (λ c κs. search needs) returns-3 returns-4)
+    (tie.spec returns (λ c κs. search known) returns-2 (λ c κs. search known) returns-3 returns-4)

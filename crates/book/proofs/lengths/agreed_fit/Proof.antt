@@ -3,7 +3,7 @@ use mathlib.Core.Path.{sym}
 use mathlib.Core.Bool.{and-true}
 use borrow.Author.Tests.{eq-eqb, ne-eqb}
 use Rattle.book.specs.Cells.{allLong}
-use borrow.Author.Needs.{needs}
+use Rattle.base.proofs.Known.{known}
 use Rattle.book.proofs.lengths.agreed_fit.Statement.{statement}
 use Rattle.book.proofs.lengths.agreed_fit.Tie as tie
 
@@ -16,4 +16,4 @@ unfolding allLong
 returns-2 c = simp (sym (c .before .slot-count .ensures), eq-eqb _ _ (c .if1 .left), and-true)
 
 pub agreed-fit-spec : {M : Type 1} → statement M
-agreed-fit-spec = tie.close (tie.spec (λ c κs. search needs) returns returns-2)
+agreed-fit-spec = tie.close (tie.spec (λ c κs. search known) returns returns-2)

@@ -2,7 +2,7 @@
 use mathlib.Core.Path.{sym, _∙_}
 use mathlib.Core.Bool.{and-true}
 use borrow.Author.Tests.{not-true, not-false}
-use borrow.Author.Needs.{needs}
+use Rattle.base.proofs.Known.{known}
 use Rattle.book.proofs.lengths.cells_fit.Statement.{statement}
 use Rattle.book.proofs.lengths.cells_fit.Tie as tie
 
@@ -50,11 +50,11 @@ pub cells-fit-spec : {M : Type 1} → statement M
 cells-fit-spec =
     tie.close
     (tie.spec
-    (λ c κs. search needs)
+    (λ c κs. search known)
     returns
-    (λ c κs. search needs)
+    (λ c κs. search known)
     returns-2
-    (λ c κs. search needs)
+    (λ c κs. search known)
     returns-3
-    (λ c κs. search needs)
+    (λ c κs. search known)
     returns-4)

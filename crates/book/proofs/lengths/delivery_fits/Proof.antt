@@ -1,7 +1,7 @@
 -- `lengths::delivery_fits` asks for the lists of slots and the counts.
 use mathlib.Core.Path.{sym, _∙_}
 use borrow.Author.Tests.{not-true, not-false}
-use borrow.Author.Needs.{needs}
+use Rattle.base.proofs.Known.{known}
 use Rattle.book.proofs.lengths.delivery_fits.Statement.{statement}
 use Rattle.book.proofs.lengths.delivery_fits.Tie as tie
 
@@ -12,4 +12,4 @@ returns-2 : tie.Need-returns-2
 returns-2 c = rw (sym (c .before .before .slots-fit .ensures) ∙ not-false _ (c .before .if1 .left)) (c .days-fit .ensures)
 
 pub delivery-fits-spec : {M : Type 1} → statement M
-delivery-fits-spec = tie.close (tie.spec (λ c κs. search needs) returns (λ c κs. search needs) returns-2)
+delivery-fits-spec = tie.close (tie.spec (λ c κs. search known) returns (λ c κs. search known) returns-2)

@@ -3,7 +3,7 @@ use mathlib.Core.Path.{sym}
 use mathlib.Core.Bool.{and-true}
 use borrow.Author.Tests.{eq-eqb, ne-eqb}
 use Rattle.book.specs.Cells.{allLong}
-use borrow.Author.Needs.{needs}
+use Rattle.base.proofs.Known.{known}
 use Rattle.book.proofs.lengths.slots_fit.Statement.{statement}
 use Rattle.book.proofs.lengths.slots_fit.Tie as tie
 
@@ -20,4 +20,4 @@ unfolding allLong
 returns-3 c = simp (sym (c .before .before .slot-count .ensures), eq-eqb _ _ (c .before .if1 .left), eq-eqb _ _ (c .if2 .left), and-true)
 
 pub slots-fit-spec : {M : Type 1} → statement M
-slots-fit-spec = tie.close (tie.spec (λ c κs. search needs) returns returns-2 returns-3)
+slots-fit-spec = tie.close (tie.spec (λ c κs. search known) returns returns-2 returns-3)

@@ -5,7 +5,7 @@ use Prim.Native.Nat.{_<_, _≤_}
 use native.Mathlib.Omega.{arith}
 use lib.ListN.{length}
 use borrow.Author.Tests.{le-leb, lt-leb, lt-ltb, eq-eqb, ne-eqb}
-use borrow.Author.Needs.{needs}
+use Rattle.base.proofs.Known.{known}
 use Rattle.book.specs.Answers.{Answer, receivedMeant}
 use Rattle.rules.specs.Lent.{lentAgreed}
 use Rattle.book.specs.Inner.Numbers.{numberAnswer, numberAfter}
@@ -82,17 +82,17 @@ file-number-spec =
     returns
     returns-2
     returns-3
-    (λ c. search needs)
+    (λ c. search known)
     slice-read-against-agreed
-    (λ c. search needs)
+    (λ c. search known)
     slice-read-against-agreed-2
-    (λ c κs. search needs)
-    (λ c κs. search needs)
-    (λ c. search needs)
+    (λ c κs. search known)
+    (λ c κs. search known)
+    (λ c. search known)
     slice-write-numbers
-    (λ c. search needs)
+    (λ c. search known)
     slice-write-versions
-    (λ c. search needs)
-    (λ c. search needs)
+    (λ c. search known)
+    (λ c. search known)
     returns-4
     returns-5)

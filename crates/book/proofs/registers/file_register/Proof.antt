@@ -5,7 +5,7 @@ use Prim.Native.Nat.{_<_, _≤_}
 use native.Mathlib.Omega.{arith}
 use lib.ListN.{length}
 use borrow.Author.Tests.{le-leb, lt-leb, lt-ltb, le-ltb, eq-eqb, ne-eqb}
-use borrow.Author.Needs.{needs}
+use Rattle.base.proofs.Known.{known}
 use Rattle.book.specs.Answers.{Answer, receivedMeant}
 use Rattle.book.specs.Lent.{lentReads}
 use Rattle.book.specs.Inner.Numbers.{readAnswer, readAfter}
@@ -106,23 +106,23 @@ file-register-spec =
     returns-2
     returns-3
     returns-4
-    (λ c. search needs)
+    (λ c. search known)
     slice-read-against-boundary
-    (λ c. search needs)
+    (λ c. search known)
     slice-read-against-boundary-2
-    (λ c. search needs)
+    (λ c. search known)
     slice-read-against-boundary-3
-    (λ c κs. search needs)
-    (λ c κs. search needs)
-    (λ c. search needs)
+    (λ c κs. search known)
+    (λ c κs. search known)
+    (λ c. search known)
     slice-write-readings
-    (λ c. search needs)
+    (λ c. search known)
     slice-write-versions
     cast-widths
-    (λ c. search needs)
+    (λ c. search known)
     slice-write-widths
-    (λ c. search needs)
-    (λ c. search needs)
-    (λ c. search needs)
+    (λ c. search known)
+    (λ c. search known)
+    (λ c. search known)
     returns-5
     returns-6)

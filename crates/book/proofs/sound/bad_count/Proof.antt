@@ -3,7 +3,7 @@ use mathlib.Core.Bool.{false, true}
 use mathlib.Core.Path.{_≡_, sym, ap}
 use Prim.Native.Nat.{ℕ, _*_, _-_, _<_}
 use native.Mathlib.Omega.{arith}
-use borrow.Author.Needs.{needs}
+use Rattle.base.proofs.Known.{known}
 use borrow.Author.Tests.{eq-eqb, ne-eqb}
 use lib.ListN.{length}
 use Rattle.rules.proofs.Bounds.{Bounded, bounded, count-high}
@@ -102,7 +102,7 @@ bad-count-spec =
     μ-loop
     loop-holds
     slots-per-day-requires
-    (λ c. search needs)
+    (λ c. search known)
     (λ c. omega arith)
     cast-count
     mul-delivered

@@ -1,5 +1,5 @@
 -- `sound::bad_day`. No day passed has a cell that no calls could leave.
-use borrow.Author.Needs.{needs}
+use Rattle.base.proofs.Known.{known}
 use mathlib.Core.Path.{sym, _∙_}
 use Prim.Native.Nat.{_-_}
 use native.Mathlib.Omega.{arith}
@@ -46,7 +46,7 @@ bad-day-spec =
     μ-loop
     loop-holds
     (λ c. omega arith)
-    (λ c κs. search needs)
+    (λ c κs. search known)
     returns
     (λ c. omega arith)
     (λ c. omega arith)

@@ -1,5 +1,6 @@
 -- `sound::bad_read`. No boundary passed has a cell that no calls could leave.
 use borrow.Author.Needs.{needs}
+use Rattle.base.proofs.Known.{known}
 use mathlib.Core.Path.{sym, _∙_}
 use Prim.Native.Nat.{_-_}
 use native.Mathlib.Omega.{arith}
@@ -47,13 +48,13 @@ bad-read-spec =
     Inv-loop
     μ-loop
     loop-holds
-    (λ c. search needs)
+    (λ c. search known)
+    (λ c. omega arith)
+    (λ c. search known)
     (λ c. omega arith)
     (λ c. search needs)
     (λ c. omega arith)
-    (λ c. search needs)
-    (λ c. omega arith)
-    (λ c κs. search needs)
+    (λ c κs. search known)
     returns
     (λ c. omega arith)
     (λ c. omega arith)

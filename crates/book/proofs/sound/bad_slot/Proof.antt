@@ -3,7 +3,7 @@ use mathlib.Core.Bool.{Bool}
 use mathlib.Core.Path.{_≡_, sym, ap, _∙_}
 use Prim.Native.Nat.{ℕ, _≤_, _-_, zero-le}
 use native.Mathlib.Omega.{arith}
-use borrow.Author.Needs.{needs}
+use Rattle.base.proofs.Known.{known}
 use lib.ListN.{length}
 use Rattle.base.specs.Lists.{any}
 use Rattle.base.proofs.Sums.{any-empty}
@@ -65,12 +65,12 @@ bad-slot-spec =
     Inv-loop
     μ-loop
     loop-holds
-    (λ c. search needs)
+    (λ c. search known)
     (λ c. omega arith)
-    (λ c. search needs)
+    (λ c. search known)
     (λ c. omega arith)
     (λ c. omega arith)
-    (λ c κs. search needs)
+    (λ c κs. search known)
     (λ c. omega arith)
     (λ c. omega arith)
     loop-again

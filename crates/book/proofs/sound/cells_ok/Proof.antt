@@ -7,7 +7,7 @@ use Rattle.rules.specs.Opening.{slotCount}
 use Rattle.rules.specs.Lent.{slots, agreedLists, cells}
 use Rattle.book.specs.Cells.{slotFaultAt, dayFaultAt, readFaultAt, agreedFaultAt, readsOf, cellsOk}
 use Rattle.book.proofs.Fits.{lengths-of}
-use borrow.Author.Needs.{needs}
+use Rattle.base.proofs.Known.{known}
 use Rattle.book.proofs.sound.cells_ok.Statement.{statement}
 use Rattle.book.proofs.sound.cells_ok.Tie as tie
 
@@ -112,7 +112,7 @@ cells-ok-spec =
     (tie.spec
     bad-slot-requires
     returns
-    (λ c κs. search needs)
+    (λ c κs. search known)
     returns-2
     bad-read-requires
     returns-3

@@ -1,5 +1,6 @@
 -- `zeros::clear_counts`: after i turns i zeros stand in front.
 use borrow.Author.Needs.{needs}
+use Rattle.base.proofs.Known.{known}
 use mathlib.Core.Path.{refl}
 use Prim.Native.Nat.{_-_, zero-le}
 use lib.ListN.{length}
@@ -30,9 +31,9 @@ clear-counts-spec =
     μ-loop
     loop-holds
     (λ c. search needs)
-    (λ c. search needs)
+    (λ c. search known)
     (λ c. search needs)
     (λ c. search needs)
     loop-again
-    (λ c. search needs)
+    (λ c. search known)
     returns)

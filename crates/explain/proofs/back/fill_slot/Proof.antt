@@ -1,7 +1,7 @@
 -- `back::fill_slot`: the pass before the slot fills it.
 use Rattle.rules.specs.Lent.{slots}
 use Rattle.explain.proofs.Passing.{walk-place, walk-known}
-use borrow.Author.Needs.{needs}
+use Rattle.base.proofs.Known.{known}
 use Rattle.explain.proofs.back.fill_slot.Statement.{statement}
 use Rattle.explain.proofs.back.fill_slot.Tie as tie
 
@@ -31,4 +31,4 @@ returns c = let a = (start (c .before)) .args in
     rw p at (c .fill-at .ensures)
 
 pub fill-slot-spec : {M : Type 1} → statement M
-fill-slot-spec = tie.close (tie.spec (λ c κs. search needs) fill-at-requires returns)
+fill-slot-spec = tie.close (tie.spec (λ c κs. search known) fill-at-requires returns)

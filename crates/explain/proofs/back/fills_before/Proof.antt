@@ -2,7 +2,7 @@
 use mathlib.Core.List.{List}
 use Rattle.rules.specs.declared.linear.StraightLine.{StraightLine}
 use Rattle.rules.specs.declared.Head.{Head}
-use borrow.Author.Needs.{needs}
+use Rattle.base.proofs.Known.{known}
 use Prim.Native.Nat.{ℕ, _≤_, _<_, _-_}
 use mathlib.Core.Bool.{Bool, false}
 use mathlib.Core.Path.{_≡_, ap, _∙_}
@@ -101,7 +101,7 @@ fills-before-spec =
     Inv-loop
     μ-loop
     since-good-requires
-    (λ c κs. search needs)
+    (λ c κs. search known)
     loop-holds
     outage-zero-requires
     line-on-requires

@@ -12,6 +12,7 @@ use Rattle.rules.proofs.Bounds.{bounded}
 use Rattle.rules.proofs.Places.{slots-within}
 use Rattle.explain.proofs.Holding.{between-inside, spanned-found, held-scaling, spanned-advance}
 use borrow.Author.Needs.{needs}
+use Rattle.base.proofs.Known.{known}
 use Rattle.explain.proofs.held.between.Statement.{statement}
 use Rattle.explain.proofs.held.between.Tie as tie
 
@@ -103,7 +104,7 @@ pub between-spec : {M : Type 1} → statement M
 between-spec =
     tie.close
     (tie.spec
-    (λ c κs. search needs)
+    (λ c κs. search known)
     mul-start
     (λ c. search needs)
     mul-sums

@@ -1,5 +1,5 @@
 -- `held::hold`: the boundaries with a reading on both sides, or no span.
-use borrow.Author.Needs.{needs}
+use Rattle.base.proofs.Known.{known}
 use mathlib.Core.Option.{none, some}
 use mathlib.Core.Path.{_≡_, sym, ap, _∙_}
 use Prim.Native.Nat.{_+_, _-_, _/_}
@@ -163,15 +163,15 @@ hold-spec =
     slots-per-day-requires
     div-day
     last-read-requires
-    (λ c. search needs)
-    (λ c. search needs)
-    (λ c κs. search needs)
+    (λ c. search known)
+    (λ c. search known)
+    (λ c κs. search known)
     returns
     add-next-read
     next-read-requires
-    (λ c. search needs)
-    (λ c. search needs)
-    (λ c κs. search needs)
+    (λ c. search known)
+    (λ c. search known)
+    (λ c κs. search known)
     returns-2
     between-requires
     returns-3)

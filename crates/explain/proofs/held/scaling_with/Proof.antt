@@ -2,7 +2,7 @@
 use borrow.Author.Tests.{ne-eqb}
 use Rattle.explain.specs.Inner.Holding.{scalingWith}
 use Rattle.explain.proofs.Holding.{scaling-ones, scaling-shapes}
-use borrow.Author.Needs.{needs}
+use Rattle.base.proofs.Known.{known}
 use Rattle.explain.proofs.held.scaling_with.Statement.{statement}
 use Rattle.explain.proofs.held.scaling_with.Tie as tie
 
@@ -21,4 +21,4 @@ returns-3 c = scaling-shapes _ _ _ _ _ (c .before .before .before .if1 .left) (c
 
 pub scaling-with-spec : {M : Type 1} → statement M
 scaling-with-spec =
-    tie.close (tie.spec (λ c κs. search needs) returns scaling-of-requires returns-2 returns-3)
+    tie.close (tie.spec (λ c κs. search known) returns scaling-of-requires returns-2 returns-3)

@@ -1,6 +1,7 @@
 -- `held::spanned` has the figures of the comparison.
 use Rattle.explain.specs.Inner.Holding.{spannedWith}
 use borrow.Author.Needs.{needs}
+use Rattle.base.proofs.Known.{known}
 use Rattle.explain.proofs.held.spanned.Statement.{statement}
 use Rattle.explain.proofs.held.spanned.Tie as tie
 
@@ -9,4 +10,4 @@ unfolding spannedWith
 returns c = rw (c .before .compare .ensures)
 
 pub spanned-spec : {M : Type 1} → statement M
-spanned-spec = tie.close (tie.spec (λ c κs. search needs) (λ c. search needs) (λ c. search needs) returns)
+spanned-spec = tie.close (tie.spec (λ c κs. search known) (λ c. search needs) (λ c. search needs) returns)

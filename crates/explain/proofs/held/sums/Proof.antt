@@ -1,7 +1,7 @@
 -- `held::sums`: the pass before the first slot, and the sums from it.
 use Rattle.rules.specs.Lent.{slots}
 use Rattle.explain.proofs.Passing.{walk-place, walk-known}
-use borrow.Author.Needs.{needs}
+use Rattle.base.proofs.Known.{known}
 use Rattle.explain.proofs.held.sums.Statement.{statement}
 use Rattle.explain.proofs.held.sums.Tie as tie
 
@@ -32,4 +32,4 @@ returns c = let a = (start (c .before)) .args in
     rw p at (c .summarise .ensures)
 
 pub sums-spec : {M : Type 1} → statement M
-sums-spec = tie.close (tie.spec (λ c κs. search needs) summarise-requires returns)
+sums-spec = tie.close (tie.spec (λ c κs. search known) summarise-requires returns)

@@ -8,7 +8,7 @@ use borrow.Author.Tests.{not-true, not-false, le-leb, lt-leb, le-ltb, lt-ltb}
 use Rattle.rules.specs.Opening.{headOk, slotsPerDay}
 use Rattle.rules.proofs.Bounds.{bounded}
 use Rattle.explain.specs.Naming.{slotNamed}
-use borrow.Author.Needs.{needs}
+use Rattle.base.proofs.Known.{known}
 use Rattle.explain.proofs.naming.slot_at.Statement.{statement}
 use Rattle.explain.proofs.naming.slot_at.Tie as tie
 
@@ -135,7 +135,7 @@ pub slot-at-spec : {M : Type 1} → statement M
 slot-at-spec =
     tie.close
     (tie.spec
-    (λ c κs. search needs)
+    (λ c κs. search known)
     returns
     first-day-requires
     returns-2

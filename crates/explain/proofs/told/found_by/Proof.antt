@@ -2,7 +2,7 @@
 use mathlib.Core.Path.{sym, _∙_}
 use borrow.Author.Tests.{not-true, not-false}
 use Rattle.explain.specs.Explain.{foundOf}
-use borrow.Author.Needs.{needs}
+use Rattle.base.proofs.Known.{known}
 use Rattle.explain.proofs.told.found_by.Statement.{statement}
 use Rattle.explain.proofs.told.found_by.Tie as tie
 
@@ -19,4 +19,4 @@ returns-2 c =
 
 pub found-by-spec : {M : Type 1} → statement M
 found-by-spec =
-    tie.close (tie.spec (λ c κs. search needs) (λ c κs. search needs) returns (λ c κs. search needs) returns-2)
+    tie.close (tie.spec (λ c κs. search known) (λ c κs. search known) returns (λ c κs. search known) returns-2)

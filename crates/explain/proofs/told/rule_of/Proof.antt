@@ -2,7 +2,7 @@
 use mathlib.Core.Path.{sym, _∙_}
 use borrow.Author.Tests.{eq-eqb, ne-eqb}
 use Rattle.explain.specs.Inner.Telling.{ruleOf}
-use borrow.Author.Needs.{needs}
+use Rattle.base.proofs.Known.{known}
 use Rattle.explain.proofs.told.rule_of.Statement.{statement}
 use Rattle.explain.proofs.told.rule_of.Tie as tie
 
@@ -67,4 +67,4 @@ returns-6 c =
 
 pub rule-of-spec : {M : Type 1} → statement M
 rule-of-spec =
-    tie.close (tie.spec returns returns-2 returns-3 returns-4 (λ c κs. search needs) returns-5 returns-6)
+    tie.close (tie.spec returns returns-2 returns-3 returns-4 (λ c κs. search known) returns-5 returns-6)

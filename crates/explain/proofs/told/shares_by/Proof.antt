@@ -2,7 +2,7 @@
 use mathlib.Core.Path.{sym, _∙_}
 use borrow.Author.Tests.{eq-eqb, ne-eqb, not-true, not-false}
 use Rattle.explain.specs.Inner.Holding.{sharesWith}
-use borrow.Author.Needs.{needs}
+use Rattle.base.proofs.Known.{known}
 use Rattle.explain.proofs.told.shares_by.Statement.{statement}
 use Rattle.explain.proofs.told.shares_by.Tie as tie
 
@@ -34,9 +34,9 @@ pub shares-by-spec : {M : Type 1} → statement M
 shares-by-spec =
     tie.close
     (tie.spec
-    (λ c κs. search needs)
-    (λ c κs. search needs)
+    (λ c κs. search known)
+    (λ c κs. search known)
     returns
-    (λ c κs. search needs)
+    (λ c κs. search known)
     returns-2
     returns-3)

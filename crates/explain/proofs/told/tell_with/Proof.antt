@@ -1,6 +1,6 @@
 -- `told::tell_with` puts the parts together.
 use Rattle.explain.specs.Inner.Telling.{toldWith}
-use borrow.Author.Needs.{needs}
+use Rattle.base.proofs.Known.{known}
 use Rattle.explain.proofs.told.tell_with.Statement.{statement}
 use Rattle.explain.proofs.told.tell_with.Tie as tie
 
@@ -28,4 +28,4 @@ returns c =
 
 pub tell-with-spec : {M : Type 1} → statement M
 tell-with-spec =
-    tie.close (tie.spec (λ c κs. search needs) (λ c κs. search needs) (λ c κs. search needs) (λ c κs. search needs) returns)
+    tie.close (tie.spec (λ c κs. search known) (λ c κs. search known) (λ c κs. search known) (λ c κs. search known) returns)

@@ -1,6 +1,6 @@
 -- `file::counting::is_zero` meets its contract.
 use mathlib.Core.Path.{sym, _∙_}
-use borrow.Author.Needs.{needs}
+use Rattle.base.proofs.Known.{known}
 use Rattle.file.proofs.counting.is_zero.Statement.{statement}
 use Rattle.file.proofs.counting.is_zero.Tie as tie
 
@@ -11,4 +11,4 @@ returns-2 : tie.Need-returns-2
 returns-2 c = rw (sym (c .before .is-form .ensures) ∙ c .if1 .left)
 
 pub is-zero-spec : {M : Type 1} → statement M
-is-zero-spec = tie.close (tie.spec (λ c κs. search needs) returns returns-2)
+is-zero-spec = tie.close (tie.spec (λ c κs. search known) returns returns-2)

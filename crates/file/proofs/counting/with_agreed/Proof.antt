@@ -1,5 +1,6 @@
 -- `file::counting::with_agreed`: F counts with S and by itself, and the highest value stands for them all.
 use borrow.Author.Needs.{needs}
+use Rattle.base.proofs.Known.{known}
 use Rattle.file.proofs.Counts.{met-agreed}
 use Rattle.file.proofs.counting.with_agreed.Statement.{statement}
 use Rattle.file.proofs.counting.with_agreed.Tie as tie
@@ -20,5 +21,5 @@ returns c =
 
 pub with-agreed-spec : {M : Type 1} → statement M
 with-agreed-spec =
-    tie.close (tie.spec (λ c κs. search needs) (λ c κs. search needs) (λ c. search needs) (λ c. search needs) (λ c. search needs)
+    tie.close (tie.spec (λ c κs. search known) (λ c κs. search known) (λ c. search needs) (λ c. search needs) (λ c. search needs)
     (λ c. search needs) returns)

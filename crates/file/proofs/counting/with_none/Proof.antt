@@ -2,6 +2,7 @@
 use mathlib.Core.Bool.{Bool, _&&_}
 use mathlib.Core.Path.{ap, _∙_}
 use borrow.Author.Needs.{needs}
+use Rattle.base.proofs.Known.{known}
 use Rattle.file.proofs.Counts.{met-none}
 use Rattle.file.proofs.counting.with_none.Statement.{statement}
 use Rattle.file.proofs.counting.with_none.Tie as tie
@@ -22,5 +23,5 @@ returns c =
     met-none (s .args .found) (s .args .slot) (s .pre .1) (tested .both .result) same
 
 pub with-none-spec : {M : Type 1} → statement M
-with-none-spec = tie.close (tie.spec (λ c κs. search needs) (λ c κs. search needs) (λ c. search needs) (λ c. search needs)
+with-none-spec = tie.close (tie.spec (λ c κs. search known) (λ c κs. search known) (λ c. search needs) (λ c. search needs)
     (λ c. search needs) returns)

@@ -2,6 +2,7 @@
 use mathlib.Core.Bool.{Bool, _&&_}
 use mathlib.Core.Path.{ap, _∙_}
 use borrow.Author.Needs.{needs}
+use Rattle.base.proofs.Known.{known}
 use Rattle.file.proofs.Counts.{met-rest}
 use Rattle.file.proofs.counting.with_rest.Statement.{statement}
 use Rattle.file.proofs.counting.with_rest.Tie as tie
@@ -24,5 +25,5 @@ returns c =
 
 pub with-rest-spec : {M : Type 1} → statement M
 with-rest-spec =
-    tie.close (tie.spec (λ c κs. search needs) (λ c κs. search needs) (λ c κs. search needs) (λ c. search needs) (λ c. search needs)
+    tie.close (tie.spec (λ c κs. search known) (λ c κs. search known) (λ c κs. search known) (λ c. search needs) (λ c. search needs)
     (λ c. search needs) returns)

@@ -1,6 +1,6 @@
 -- `file::counting::with_slot`: by the letter, a plain slot first.
 use mathlib.Core.Path.{sym, _∙_}
-use borrow.Author.Needs.{needs}
+use Rattle.base.proofs.Known.{known}
 use Rattle.file.proofs.counting.with_slot.Statement.{statement}
 use Rattle.file.proofs.counting.with_slot.Tie as tie
 
@@ -35,14 +35,14 @@ pub with-slot-spec : {M : Type 1} → statement M
 with-slot-spec =
     tie.close
     (tie.spec
-    (λ c κs. search needs)
+    (λ c κs. search known)
     with-plain-requires
-    (λ c. search needs)
-    (λ c κs. search needs)
-    (λ c. search needs)
-    (λ c κs. search needs)
-    (λ c. search needs)
-    (λ c κs. search needs)
-    (λ c. search needs)
+    (λ c. search known)
+    (λ c κs. search known)
+    (λ c. search known)
+    (λ c κs. search known)
+    (λ c. search known)
+    (λ c κs. search known)
+    (λ c. search known)
     with-rest-requires
-    (λ c. search needs))
+    (λ c. search known))

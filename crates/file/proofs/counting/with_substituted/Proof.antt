@@ -2,6 +2,7 @@
 use mathlib.Core.Bool.{Bool, _&&_}
 use mathlib.Core.Path.{ap, _∙_}
 use borrow.Author.Needs.{needs}
+use Rattle.base.proofs.Known.{known}
 use Rattle.file.proofs.Counts.{met-substituted}
 use Rattle.file.proofs.counting.with_substituted.Statement.{statement}
 use Rattle.file.proofs.counting.with_substituted.Tie as tie
@@ -23,4 +24,4 @@ returns c =
 
 pub with-substituted-spec : {M : Type 1} → statement M
 with-substituted-spec =
-    tie.close (tie.spec (λ c κs. search needs) (λ c κs. search needs) (λ c. search needs) (λ c. search needs) (λ c. search needs) returns)
+    tie.close (tie.spec (λ c κs. search known) (λ c κs. search known) (λ c. search needs) (λ c. search needs) (λ c. search needs) returns)

@@ -5,6 +5,7 @@ use Prim.Native.Nat.{ℕ, _≤_, _<_, _+_, _-_, _^_}
 use native.Mathlib.Nat.{sub-self, sub-zero, add-zero}
 use native.Mathlib.Omega.{arith}
 use borrow.Author.Needs.{needs}
+use Rattle.base.proofs.Known.{known}
 use lib.Dec.{lit<}
 use Rattle.file.specs.Reader.{num}
 use Rattle.file.proofs.Numbers.{num-down, pow-down, seven}
@@ -67,11 +68,11 @@ number-spec =
     Inv-loop
     μ-loop
     loop-holds
-    (λ c. search needs)
+    (λ c. search known)
     mul-n
     (λ c. search needs)
     (λ c. search needs)
-    (λ c κs. search needs)
+    (λ c κs. search known)
     add-n
     (λ c. search needs)
     loop-again

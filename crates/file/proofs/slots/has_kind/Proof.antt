@@ -6,6 +6,7 @@ use mathlib.Core.Path.{_≡_, sym, ap, _∙_}
 use Prim.Native.Nat.{ℕ, _≤_, _-_, _+_}
 use native.Mathlib.Omega.{arith}
 use borrow.Author.Needs.{needs}
+use Rattle.base.proofs.Known.{known}
 use Rattle.base.specs.Lists.{any}
 use Rattle.base.proofs.Sums.{any-empty, any-on, any-some}
 use Rattle.file.specs.Inner.Reading.{kindAt, isKind}
@@ -63,7 +64,7 @@ has-kind-spec =
     loop-holds
     (λ c. search needs)
     (λ c κs. search needs)
-    (λ c κs. search needs)
+    (λ c κs. search known)
     returns
     (λ c. search needs)
     (λ c. search needs)

@@ -1,6 +1,6 @@
 -- `file::slots::is_kind` meets its contract.
 use borrow.Author.Tests.{eq-eqb, ne-eqb}
-use borrow.Author.Needs.{needs}
+use Rattle.base.proofs.Known.{known}
 use Rattle.file.proofs.slots.is_kind.Statement.{statement}
 use Rattle.file.proofs.slots.is_kind.Tie as tie
 
@@ -23,12 +23,12 @@ pub is-kind-spec : {M : Type 1} → statement M
 is-kind-spec =
     tie.close
     (tie.spec
-    (λ c. search needs)
-    (λ c. search needs)
-    (λ c. search needs)
-    (λ c κs. search needs)
-    (λ c. search needs)
-    (λ c κs. search needs)
+    (λ c. search known)
+    (λ c. search known)
+    (λ c. search known)
+    (λ c κs. search known)
+    (λ c. search known)
+    (λ c κs. search known)
     returns
     returns-2
     returns-3

@@ -1,6 +1,6 @@
 -- `file::slots::is_kindless` meets its contract.
 use mathlib.Core.Path.{sym, _∙_}
-use borrow.Author.Needs.{needs}
+use Rattle.base.proofs.Known.{known}
 use Rattle.file.proofs.slots.is_kindless.Statement.{statement}
 use Rattle.file.proofs.slots.is_kindless.Tie as tie
 
@@ -11,4 +11,4 @@ returns-2 : tie.Need-returns-2
 returns-2 c = rw (sym (c .before .before .is-plain .ensures) ∙ c .before .if1 .left) (c .is-form .ensures)
 
 pub is-kindless-spec : {M : Type 1} → statement M
-is-kindless-spec = tie.close (tie.spec (λ c κs. search needs) returns (λ c κs. search needs) returns-2)
+is-kindless-spec = tie.close (tie.spec (λ c κs. search known) returns (λ c κs. search known) returns-2)

@@ -1,5 +1,6 @@
 -- `file::slots::slot_at` meets its contract.
 use borrow.Author.Needs.{needs}
+use Rattle.base.proofs.Known.{known}
 use Rattle.file.proofs.Offsets.{slot-at}
 use Rattle.file.proofs.slots.slot_at.Statement.{statement}
 use Rattle.file.proofs.slots.slot_at.Tie as tie
@@ -13,7 +14,7 @@ slot-at-spec =
     (tie.spec
     (λ c. search needs)
     (λ c κs. search needs)
-    (λ c. search needs)
+    (λ c. search known)
     (λ c. search needs)
     (λ c. search needs)
     (λ c. search needs)

@@ -1,5 +1,6 @@
 -- `file::spans::exact_from` meets its contract.
 use borrow.Author.Needs.{needs}
+use Rattle.base.proofs.Known.{known}
 use Rattle.file.proofs.Offsets.{exact-at}
 use Rattle.file.proofs.spans.exact_from.Statement.{statement}
 use Rattle.file.proofs.spans.exact_from.Tie as tie
@@ -26,7 +27,7 @@ exact-from-spec =
     (tie.spec
     (λ c. search needs)
     (λ c κs. search needs)
-    (λ c. search needs)
+    (λ c. search known)
     (λ c κs. search needs)
     (λ c. search needs)
     (λ c. search needs)

@@ -2,6 +2,7 @@
 use Prim.Native.Nat.{ℕ, _-_, _<_}
 use native.Mathlib.Omega.{arith}
 use borrow.Author.Needs.{needs}
+use Rattle.base.proofs.Known.{known}
 use Rattle.file.specs.Reader.{tablesAt}
 use Rattle.file.proofs.Outside.{no-spans, edge-fails, edge-passes}
 use Rattle.file.proofs.Inside.{inside, Inside}
@@ -116,11 +117,11 @@ pub outside-ok-spec : {M : Type 1} → statement M
 outside-ok-spec =
     tie.close
     (tie.spec
-    (λ c κs. search needs)
+    (λ c κs. search known)
     (λ c. search needs)
     (λ c κs. search needs)
     returns
-    (λ c κs. search needs)
+    (λ c κs. search known)
     (λ c κs. search needs)
     (λ c. search needs)
     mul-start

@@ -1,5 +1,6 @@
 -- `file::spans::ranged_from` meets its contract.
 use borrow.Author.Needs.{needs}
+use Rattle.base.proofs.Known.{known}
 use Rattle.file.proofs.Offsets.{ranged-at}
 use Rattle.file.proofs.spans.ranged_from.Statement.{statement}
 use Rattle.file.proofs.spans.ranged_from.Tie as tie
@@ -32,10 +33,10 @@ ranged-from-spec =
     (λ c. search needs)
     (λ c. search needs)
     (λ c κs. search needs)
-    (λ c. search needs)
+    (λ c. search known)
     (λ c. search needs)
     (λ c κs. search needs)
-    (λ c. search needs)
+    (λ c. search known)
     (λ c. search needs)
     (λ c. search needs)
     (λ c. search needs)

@@ -4,6 +4,7 @@ use mathlib.Core.Path.{_∙_}
 use native.Mathlib.Omega.{arith}
 use borrow.Author.Tests.{eq-eqb, ne-eqb}
 use borrow.Author.Needs.{needs}
+use Rattle.base.proofs.Known.{known}
 use Rattle.file.proofs.SpanRecords.{record-in}
 use Rattle.file.proofs.spans.span_at.Statement.{statement}
 use Rattle.file.proofs.spans.span_at.Tie as tie
@@ -46,7 +47,7 @@ pub span-at-spec : {M : Type 1} → statement M
 span-at-spec =
     tie.close
     (tie.spec
-    (λ c κs. search needs)
+    (λ c κs. search known)
     (λ c. search needs)
     (λ c. search needs)
     (λ c. search needs)

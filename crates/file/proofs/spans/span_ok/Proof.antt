@@ -1,6 +1,6 @@
 -- `spans::span_ok`: the tests of its place, each said where it is passed, then those of its fields.
 use mathlib.Core.Path.{sym, _∙_}
-use borrow.Author.Needs.{needs}
+use Rattle.base.proofs.Known.{known}
 use borrow.Author.Tests.{lt-ltb, le-ltb, le-leb, lt-leb, not-true, not-false}
 use Rattle.file.specs.Reader.{spanOk}
 use Rattle.file.proofs.spans.span_ok.Statement.{statement}
@@ -54,10 +54,10 @@ pub span-ok-spec : {M : Type 1} → statement M
 span-ok-spec =
     tie.close
     (tie.spec
-    (λ c κs. search needs)
+    (λ c κs. search known)
     returns
     returns-2
-    (λ c κs. search needs)
+    (λ c κs. search known)
     returns-3
-    (λ c κs. search needs)
+    (λ c κs. search known)
     returns-4)

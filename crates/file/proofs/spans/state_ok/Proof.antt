@@ -3,6 +3,7 @@ use mathlib.Core.Path.{ap, _∙_}
 use Prim.Native.Nat.{_+_, _≤_}
 use native.Mathlib.Omega.{arith}
 use borrow.Author.Needs.{needs}
+use Rattle.base.proofs.Known.{known}
 use Rattle.file.specs.Reader.{tablesAt, startOf, slotsOf, fileSlots, stateOk}
 use Rattle.file.specs.Inner.Reading.{talliedIn}
 use Rattle.file.proofs.States.{rule-same, range-same}
@@ -57,14 +58,14 @@ pub state-ok-spec : {M : Type 1} → statement M
 state-ok-spec =
     tie.close
     (tie.spec
-    (λ c κs. search needs)
-    (λ c κs. search needs)
+    (λ c κs. search known)
+    (λ c κs. search known)
     (λ c. search needs)
     mul-a
     sub-k
     (λ c. search needs)
     mul-k
     tally-of-requires
-    (λ c κs. search needs)
-    (λ c κs. search needs)
+    (λ c κs. search known)
+    (λ c κs. search known)
     returns)

@@ -2,6 +2,7 @@
 use Prim.Native.Nat.{_+_, _-_}
 use native.Mathlib.Omega.{arith}
 use borrow.Author.Needs.{needs}
+use Rattle.base.proofs.Known.{known}
 use lib.ListN.{length}
 use Rattle.file.proofs.Offsets.{figures-at}
 use Rattle.file.proofs.trailer.figures_at.Statement.{statement}
@@ -48,7 +49,7 @@ pub figures-at-spec : {M : Type 1} → statement M
 figures-at-spec =
     tie.close
     (tie.spec
-    (λ c. search needs)
+    (λ c. search known)
     (λ c κs. search needs)
     (λ c. search needs)
     (λ c. search needs)
@@ -62,13 +63,13 @@ figures-at-spec =
     (λ c. search needs)
     (λ c. search needs)
     (λ c κs. search needs)
-    (λ c. search needs)
-    (λ c. search needs)
-    (λ c κs. search needs)
-    (λ c. search needs)
+    (λ c. search known)
     (λ c. search needs)
     (λ c κs. search needs)
+    (λ c. search known)
     (λ c. search needs)
+    (λ c κs. search needs)
+    (λ c. search known)
     (λ c. search needs)
     (λ c κs. search needs)
     (λ c. search needs)

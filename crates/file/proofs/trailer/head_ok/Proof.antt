@@ -2,6 +2,7 @@ use mathlib.Core.Bool.{and-true}
 -- `file::trailer::head_ok` meets its contract.
 use mathlib.Core.Path.{sym, _∙_}
 use borrow.Author.Needs.{needs}
+use Rattle.base.proofs.Known.{known}
 use borrow.Author.Tests.{le-leb, lt-leb, not-true, not-false}
 use Rattle.file.proofs.trailer.head_ok.Statement.{statement}
 use Rattle.file.proofs.trailer.head_ok.Tie as tie
@@ -46,12 +47,12 @@ pub head-ok-spec : {M : Type 1} → statement M
 head-ok-spec =
     tie.close
     (tie.spec
-    (λ c κs. search needs)
+    (λ c κs. search known)
     returns
     returns-2
     returns-3
     (λ c. search needs)
     (λ c. search needs)
     (λ c. search needs)
-    (λ c. search needs)
+    (λ c. search known)
     returns-4)

@@ -3,6 +3,7 @@ use mathlib.Core.Bool.{and-true}
 use mathlib.Core.Path.{sym, _∙_}
 use borrow.Author.Tests.{le-leb, not-true, not-false}
 use borrow.Author.Needs.{needs}
+use Rattle.base.proofs.Known.{known}
 use Rattle.base.proofs.Logic.{tests-true, tests-false}
 use Rattle.file.specs.Reader.{trailerOk}
 use Rattle.file.proofs.trailer.trailer_ok.Statement.{statement}
@@ -84,14 +85,14 @@ pub trailer-ok-spec : {M : Type 1} → statement M
 trailer-ok-spec =
     tie.close
     (tie.spec
-    (λ c. search needs)
-    (λ c κs. search needs)
+    (λ c. search known)
+    (λ c κs. search known)
     returns
-    (λ c κs. search needs)
+    (λ c κs. search known)
     returns-2
     (λ c. search needs)
     (λ c κs. search needs)
-    (λ c κs. search needs)
+    (λ c κs. search known)
     returns-3
     slot-count-requires
     (λ c. search needs)

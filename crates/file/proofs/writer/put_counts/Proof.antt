@@ -1,5 +1,6 @@
 -- `file::writer::put_counts` meets its contract.
 use borrow.Author.Needs.{needs}
+use Rattle.base.proofs.Known.{known}
 use Rattle.file.specs.Layout.{spanTableBytes}
 use Rattle.file.proofs.Written.{row-five}
 use Rattle.file.proofs.writer.put_counts.Statement.{statement}
@@ -54,7 +55,7 @@ put-counts-spec =
     (λ c. search needs)
     (λ c κs. search needs)
     (λ c. search needs)
-    (λ c κs. search needs)
+    (λ c κs. search known)
     (λ c κs. search needs)
     (λ c. search needs)
     returns)

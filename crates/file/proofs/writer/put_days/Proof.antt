@@ -4,6 +4,7 @@ use Prim.Native.Nat.{_+_}
 use native.Mathlib.Omega.{arith}
 use lib.ListN.{take}
 use borrow.Author.Needs.{needs}
+use Rattle.base.proofs.Known.{known}
 use Rattle.file.specs.Layout.{trailerRow}
 use Rattle.file.proofs.Written.{row-last, row-next}
 use Rattle.file.proofs.writer.put_days.Statement.{statement}
@@ -46,5 +47,5 @@ put-days-spec =
     (λ c. search needs)
     (λ c. search needs)
     (λ c κs. search needs)
-    (λ c. search needs)
+    (λ c. search known)
     returns)

@@ -3,6 +3,7 @@ use Prim.Native.Nat.{_+_}
 use native.Mathlib.Omega.{arith}
 use lib.ListN.{take}
 use borrow.Author.Needs.{needs}
+use Rattle.base.proofs.Known.{known}
 use Rattle.file.specs.Layout.{trailerRow}
 use Rattle.file.proofs.Written.{row-next}
 use Rattle.file.proofs.writer.put_head.Statement.{statement}
@@ -41,5 +42,5 @@ put-head-spec =
     (λ c. search needs)
     (λ c. search needs)
     (λ c κs. search needs)
-    (λ c. search needs)
+    (λ c. search known)
     returns)

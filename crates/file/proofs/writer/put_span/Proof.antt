@@ -4,6 +4,7 @@ use Prim.Native.Nat.{_+_}
 use native.Mathlib.Omega.{arith}
 use lib.ListN.{take}
 use borrow.Author.Needs.{needs}
+use Rattle.base.proofs.Known.{known}
 use Rattle.file.specs.Layout.{spanRow}
 use Rattle.file.proofs.Written.{row-next}
 use Rattle.file.proofs.writer.put_span.Statement.{statement}
@@ -38,5 +39,5 @@ put-span-spec =
     (λ c κs. search needs)
     (λ c. search needs)
     (λ c κs. search needs)
-    (λ c. search needs)
+    (λ c. search known)
     returns)

@@ -4,6 +4,7 @@ use Prim.Native.Nat.{_+_}
 use native.Mathlib.Omega.{arith}
 use lib.ListN.{take, drop}
 use borrow.Author.Needs.{needs}
+use Rattle.base.proofs.Known.{known}
 use Rattle.file.specs.Layout.{trailerRow}
 use Rattle.file.proofs.Written.{rows}
 use Rattle.file.proofs.writer.put_trailer.Statement.{statement}
@@ -28,4 +29,4 @@ returns c =
 
 pub put-trailer-spec : {M : Type 1} → statement M
 put-trailer-spec =
-    tie.close (tie.spec (λ c κs. search needs) (λ c. search needs) (λ c κs. search needs) (λ c. search needs) returns)
+    tie.close (tie.spec (λ c κs. search needs) (λ c. search needs) (λ c κs. search needs) (λ c. search known) returns)

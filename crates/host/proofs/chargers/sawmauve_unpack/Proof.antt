@@ -1,6 +1,7 @@
 -- `sawmauve_unpack`: the answer of unpacking as its code.
 use mathlib.Core.Path.{sym, ap, _∙_}
 use borrow.Author.Needs.{needs}
+use Rattle.base.proofs.Known.{known}
 use Rattle.host.specs.Conversions.{unpackCode}
 use Rattle.host.proofs.chargers.sawmauve_unpack.Statement.{statement}
 use Rattle.host.proofs.chargers.sawmauve_unpack.Tie as tie
@@ -15,9 +16,9 @@ pub sawmauve-unpack-spec : {M : Type 1} → statement M
 sawmauve-unpack-spec =
     tie.close
     (tie.spec
-    (λ c κs. search needs)
-    (λ c. search needs)
-    (λ c. search needs)
+    (λ c κs. search known)
+    (λ c. search known)
+    (λ c. search known)
     (λ c. search needs)
     (λ c. search needs)
     returns

@@ -1,7 +1,7 @@
 -- `sawmauve_publish`: the answer of publishing as its code, and the buffer as publishing leaves it.
 use mathlib.Core.Path.{ap, _∙_}
 use Rattle.host.specs.Codes.{publishCode}
-use borrow.Author.Needs.{needs}
+use Rattle.base.proofs.Known.{known}
 use Rattle.host.proofs.files.sawmauve_publish.Statement.{statement}
 use Rattle.host.proofs.files.sawmauve_publish.Tie as tie
 
@@ -22,8 +22,8 @@ pub sawmauve-publish-spec : {M : Type 1} → statement M
 sawmauve-publish-spec =
     tie.close
     (tie.spec
-    (λ c κs. search needs)
-    (λ c κs. search needs)
-    (λ c κs. search needs)
-    (λ c. search needs)
+    (λ c κs. search known)
+    (λ c κs. search known)
+    (λ c κs. search known)
+    (λ c. search known)
     returns)

@@ -7,6 +7,7 @@ use lib.ListN.{length, set, length-set}
 use borrow.Author.Tests.{eq-eqb, ne-eqb}
 use Rattle.host.specs.Codes.{readAnswer, readAfter}
 use borrow.Author.Needs.{needs}
+use Rattle.base.proofs.Known.{known}
 use Rattle.host.proofs.files.sawmauve_read.Statement.{statement}
 use Rattle.host.proofs.files.sawmauve_read.Tie as tie
 
@@ -88,8 +89,8 @@ sawmauve-read-spec =
     tie.close
     (tie.spec
     returns
-    (λ c κs. search needs)
-    (λ c. search needs)
+    (λ c κs. search known)
+    (λ c. search known)
     (λ c. search needs)
     (λ c. search needs)
     (λ c. search needs)
@@ -107,7 +108,7 @@ sawmauve-read-spec =
     slice-write-figures-8
     (λ c. search needs)
     slice-write-figures-9
-    (λ c. search needs)
+    (λ c. search known)
     (λ c. search needs)
     same-length
     returns-2

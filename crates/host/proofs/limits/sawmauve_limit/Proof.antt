@@ -1,6 +1,7 @@
 -- `sawmauve_limit`: the limit, or the refusal past every limit.
 use mathlib.Core.Path.{sym, ap, _∙_}
 use borrow.Author.Needs.{needs}
+use Rattle.base.proofs.Known.{known}
 use Rattle.host.specs.Limits.{limitCode}
 use Rattle.host.proofs.limits.sawmauve_limit.Statement.{statement}
 use Rattle.host.proofs.limits.sawmauve_limit.Tie as tie
@@ -15,9 +16,9 @@ pub sawmauve-limit-spec : {M : Type 1} → statement M
 sawmauve-limit-spec =
     tie.close
     (tie.spec
-    (λ c κs. search needs)
-    (λ c. search needs)
-    (λ c. search needs)
+    (λ c κs. search known)
+    (λ c. search known)
+    (λ c. search known)
     (λ c. search needs)
     (λ c. search needs)
     returns

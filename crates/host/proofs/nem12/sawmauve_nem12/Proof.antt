@@ -1,6 +1,6 @@
 -- `sawmauve_nem12`: the answer of the export as its code, and the buffer as it leaves it.
 use mathlib.Core.Path.{ap, _∙_}
-use borrow.Author.Needs.{needs}
+use Rattle.base.proofs.Known.{known}
 use Rattle.host.specs.Market.{exportedCode}
 use Rattle.host.proofs.nem12.sawmauve_nem12.Statement.{statement}
 use Rattle.host.proofs.nem12.sawmauve_nem12.Tie as tie
@@ -21,4 +21,4 @@ returns c =
 pub sawmauve-nem12-spec : {M : Type 1} → statement M
 sawmauve-nem12-spec =
     tie.close
-    (tie.spec (λ c κs. search needs) (λ c κs. search needs) (λ c κs. search needs) (λ c. search needs) returns)
+    (tie.spec (λ c κs. search known) (λ c κs. search known) (λ c κs. search known) (λ c. search known) returns)

@@ -1,6 +1,6 @@
 -- `sawmauve_stays`: the answer of `stays` as its code, and the totals as it leaves them.
 use mathlib.Core.Path.{ap, _∙_}
-use borrow.Author.Needs.{needs}
+use Rattle.base.proofs.Known.{known}
 use Rattle.base.specs.Refusals.{codeOf}
 use Rattle.host.proofs.stays.sawmauve_stays.Statement.{statement}
 use Rattle.host.proofs.stays.sawmauve_stays.Tie as tie
@@ -10,4 +10,4 @@ returns c = (c .code-of .ensures ∙ ap codeOf (c .before .before .before .stays
 
 pub sawmauve-stays-spec : {M : Type 1} → statement M
 sawmauve-stays-spec =
-    tie.close (tie.spec (λ c κs. search needs) (λ c κs. search needs) (λ c. search needs) returns)
+    tie.close (tie.spec (λ c κs. search known) (λ c κs. search known) (λ c. search known) returns)

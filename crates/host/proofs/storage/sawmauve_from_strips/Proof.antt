@@ -1,6 +1,6 @@
 -- `sawmauve_from_strips`: the answer of `strips::from_strips` as its code, and the output as it leaves it.
 use mathlib.Core.Path.{ap, _∙_}
-use borrow.Author.Needs.{needs}
+use Rattle.base.proofs.Known.{known}
 use Rattle.base.specs.Refusals.{codeOf}
 use Rattle.host.proofs.storage.sawmauve_from_strips.Statement.{statement}
 use Rattle.host.proofs.storage.sawmauve_from_strips.Tie as tie
@@ -12,4 +12,4 @@ returns c =
 
 pub sawmauve-from-strips-spec : {M : Type 1} → statement M
 sawmauve-from-strips-spec =
-    tie.close (tie.spec (λ c κs. search needs) (λ c κs. search needs) (λ c. search needs) returns)
+    tie.close (tie.spec (λ c κs. search known) (λ c κs. search known) (λ c. search known) returns)

@@ -1,6 +1,6 @@
 -- `sawmauve_to_strips`: the answer of `strips::to_strips` as its code, and the output as it leaves it.
 use mathlib.Core.Path.{ap, _∙_}
-use borrow.Author.Needs.{needs}
+use Rattle.base.proofs.Known.{known}
 use Rattle.base.specs.Refusals.{codeOf}
 use Rattle.host.proofs.storage.sawmauve_to_strips.Statement.{statement}
 use Rattle.host.proofs.storage.sawmauve_to_strips.Tie as tie
@@ -12,4 +12,4 @@ returns c =
 
 pub sawmauve-to-strips-spec : {M : Type 1} → statement M
 sawmauve-to-strips-spec =
-    tie.close (tie.spec (λ c κs. search needs) (λ c κs. search needs) (λ c. search needs) returns)
+    tie.close (tie.spec (λ c κs. search known) (λ c κs. search known) (λ c. search known) returns)

@@ -2,7 +2,7 @@
 use mathlib.Core.Path.{ap}
 use Rattle.line.specs.Line.{digits, decimal}
 use Rattle.line.proofs.Putting.{same}
-use borrow.Author.Needs.{needs}
+use Rattle.base.proofs.Known.{known}
 use Rattle.line.proofs.writing.put_decimal.Statement.{statement}
 use Rattle.line.proofs.writing.put_decimal.Tie as tie
 
@@ -20,4 +20,4 @@ returns c =
     (c .before .before .put-digits .ensures)
 
 pub put-decimal-spec : {M : Type 1} → statement M
-put-decimal-spec = tie.close (tie.spec (λ c κs. search needs) (λ c κs. search needs) (λ c. search needs) returns)
+put-decimal-spec = tie.close (tie.spec (λ c κs. search known) (λ c κs. search known) (λ c. search known) returns)

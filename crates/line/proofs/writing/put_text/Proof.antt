@@ -1,6 +1,7 @@
 -- `writing::put_text` meets its contract.
 use mathlib.Core.List.{List}
 use borrow.Author.Needs.{needs}
+use Rattle.base.proofs.Known.{known}
 use mathlib.Core.Path.{_≡_, ap, _∙_}
 use Prim.Native.Nat.{ℕ, _≤_, _-_}
 use native.Mathlib.Omega.{arith}
@@ -68,11 +69,11 @@ put-text-spec =
     Inv-loop
     μ-loop
     loop-holds
-    (λ c. search needs)
-    (λ c κs. search needs)
+    (λ c. search known)
+    (λ c κs. search known)
     (λ c. search needs)
     (λ c. search needs)
     loop-again
-    (λ c κs. search needs)
+    (λ c κs. search known)
     same-length
     returns)

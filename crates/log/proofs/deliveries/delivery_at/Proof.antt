@@ -2,6 +2,7 @@
 use mathlib.Core.Bool.{false≢true}
 use mathlib.Core.Path.{sym, _∙_}
 use borrow.Author.Needs.{needs}
+use Rattle.base.proofs.Known.{known}
 use borrow.Author.Tests.{not-false}
 use Rattle.log.proofs.OnePass.{delivery-of}
 use Rattle.log.proofs.deliveries.delivery_at.Statement.{statement}
@@ -21,12 +22,12 @@ pub delivery-at-spec : {M : Type 1} → statement M
 delivery-at-spec =
     tie.close
     (tie.spec
-    (λ c. search needs)
-    (λ c κs. search needs)
+    (λ c. search known)
+    (λ c κs. search known)
     returns
     (λ c. search needs)
     (λ c κs. search needs)
-    (λ c κs. search needs)
+    (λ c κs. search known)
     returns-2
     (λ c κs. search needs)
     returns-3)

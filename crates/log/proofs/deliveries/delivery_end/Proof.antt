@@ -1,6 +1,7 @@
 -- `deliveries::delivery_end`: the keyword, and its four numbers.
 use mathlib.Core.Path.{refl}
 use borrow.Author.Needs.{needs}
+use Rattle.base.proofs.Known.{known}
 use borrow.Author.Tests.{not-false}
 use Rattle.log.proofs.OnePass.{delivery-of}
 use Rattle.log.proofs.deliveries.delivery_end.Statement.{statement}
@@ -25,7 +26,7 @@ pub delivery-end-spec : {M : Type 1} → statement M
 delivery-end-spec =
     tie.close
     (tie.spec
-    (λ c. search needs)
+    (λ c. search known)
     returns
     (λ c. search needs)
     (λ c κs. search needs)

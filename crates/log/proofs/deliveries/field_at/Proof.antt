@@ -2,6 +2,7 @@
 use mathlib.Core.Bool.{false≢true}
 use mathlib.Core.Path.{sym, _∙_}
 use borrow.Author.Needs.{needs}
+use Rattle.base.proofs.Known.{known}
 use native.Mathlib.Omega.{arith}
 use Rattle.log.proofs.OnePass.{field-of}
 use Rattle.log.proofs.deliveries.field_at.Statement.{statement}
@@ -31,10 +32,10 @@ field-at-spec =
     tie.close
     (tie.spec
     (λ c κs. search needs)
-    (λ c κs. search needs)
+    (λ c κs. search known)
     returns
     (λ c. search needs)
-    (λ c κs. search needs)
+    (λ c κs. search known)
     returns-2
     (λ c. search needs)
     returns-3)

@@ -2,6 +2,7 @@
 use mathlib.Core.Bool.{false≢true}
 use mathlib.Core.Path.{sym}
 use borrow.Author.Needs.{needs}
+use Rattle.base.proofs.Known.{known}
 use borrow.Author.Tests.{eqb-true}
 use Rattle.log.proofs.Keyword.{keyword-stands}
 use Rattle.log.proofs.deliveries.is_delivery.Statement.{statement}
@@ -37,11 +38,11 @@ is-delivery-spec =
     tie.close
     (tie.spec
     (λ c κs. search needs)
-    (λ c κs. search needs)
+    (λ c κs. search known)
     returns
     (λ c. search needs)
     (λ c κs. search needs)
-    (λ c κs. search needs)
+    (λ c κs. search known)
     returns-2
     (λ c. search needs)
     (λ c. search needs)

@@ -2,6 +2,7 @@
 use mathlib.Core.Bool.{false≢true}
 use mathlib.Core.Path.{sym, _∙_}
 use borrow.Author.Needs.{needs}
+use Rattle.base.proofs.Known.{known}
 use borrow.Author.Tests.{not-false}
 use native.Mathlib.Omega.{arith}
 use Rattle.log.specs.Inner.Deliveries.{FieldAt}
@@ -82,15 +83,15 @@ numbers-at-spec =
     tie.close
     (tie.spec
     (λ c κs. search needs)
-    (λ c κs. search needs)
+    (λ c κs. search known)
     returns
     field-at-requires-2
-    (λ c κs. search needs)
+    (λ c κs. search known)
     returns-2
     field-at-requires-3
-    (λ c κs. search needs)
+    (λ c κs. search known)
     returns-3
     field-at-requires-4
-    (λ c κs. search needs)
+    (λ c κs. search known)
     returns-4
     returns-5)

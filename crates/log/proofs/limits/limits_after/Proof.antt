@@ -1,6 +1,7 @@
 -- `limits::limits_after`: the numbers passed stand in front of zeros, and the words left follow.
 use mathlib.Core.List.{List}
 use borrow.Author.Needs.{needs}
+use Rattle.base.proofs.Known.{known}
 use mathlib.Core.Path.{sym, _∙_}
 use Prim.Native.Nat.{ℕ, _≤_, _-_}
 use native.Mathlib.Omega.{arith}
@@ -90,17 +91,17 @@ limits-after-spec =
     Inv-loop
     μ-loop
     loop-holds
-    (λ c κs. search needs)
+    (λ c κs. search known)
     returns
     (λ c. search needs)
     (λ c κs. search needs)
-    (λ c. search needs)
-    (λ c. search needs)
-    (λ c. search needs)
-    (λ c κs. search needs)
-    (λ c. search needs)
-    (λ c. search needs)
-    (λ c κs. search needs)
+    (λ c. search known)
+    (λ c. search known)
+    (λ c. search known)
+    (λ c κs. search known)
+    (λ c. search known)
+    (λ c. search known)
+    (λ c κs. search known)
     returns-2
     (λ c. search needs)
     array-write-values

@@ -6,6 +6,7 @@ use lib.ListN.{length}
 use lib.Seq.{length-take-le, take-all}
 use Rattle.rules.specs.Limits.{loadAnswer}
 use borrow.Author.Needs.{needs}
+use Rattle.base.proofs.Known.{known}
 use Rattle.log.proofs.limits.load_from.Statement.{statement}
 use Rattle.log.proofs.limits.load_from.Tie as tie
 
@@ -40,9 +41,9 @@ load-from-spec =
     tie.close
     (tie.spec
     (λ c. search needs)
-    (λ c κs. search needs)
+    (λ c κs. search known)
     returns
     array-share-prefix-values
     slice-aggregate-load-2
-    (λ c κs. search needs)
+    (λ c κs. search known)
     returns-2)

@@ -2,7 +2,7 @@
 use mathlib.Core.Path.{sym, _∙_}
 use borrow.Author.Tests.{not-true, not-false}
 use Rattle.log.proofs.Calls.{no-agreed, is-agreed}
-use borrow.Author.Needs.{needs}
+use Rattle.base.proofs.Known.{known}
 use Rattle.log.proofs.line.agreed_after.Statement.{statement}
 use Rattle.log.proofs.line.agreed_after.Tie as tie
 
@@ -27,9 +27,9 @@ pub agreed-after-spec : {M : Type 1} → statement M
 agreed-after-spec =
     tie.close
     (tie.spec
-    (λ c κs. search needs)
+    (λ c κs. search known)
     returns
-    (λ c. search needs)
-    (λ c. search needs)
-    (λ c. search needs)
+    (λ c. search known)
+    (λ c. search known)
+    (λ c. search known)
     returns-2)

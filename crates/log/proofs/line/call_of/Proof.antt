@@ -3,7 +3,7 @@ use mathlib.Core.Path.{sym, _∙_}
 use lib.Seq.{length-take-le}
 use Rattle.log.proofs.Splitting.{pieces}
 use Rattle.log.proofs.Calls.{first-word, call-open, call-delivery, call-holiday, call-register, call-agreed, call-none}
-use borrow.Author.Needs.{needs}
+use Rattle.base.proofs.Known.{known}
 use Rattle.log.proofs.line.call_of.Statement.{statement}
 use Rattle.log.proofs.line.call_of.Tie as tie
 
@@ -117,26 +117,26 @@ pub call-of-spec : {M : Type 1} → statement M
 call-of-spec =
     tie.close
     (tie.spec
-    (λ c κs. search needs)
+    (λ c κs. search known)
     slice-aggregate-word
-    (λ c. search needs)
-    (λ c κs. search needs)
-    (λ c κs. search needs)
+    (λ c. search known)
+    (λ c κs. search known)
+    (λ c κs. search known)
     returns
-    (λ c. search needs)
-    (λ c κs. search needs)
-    (λ c κs. search needs)
+    (λ c. search known)
+    (λ c κs. search known)
+    (λ c κs. search known)
     returns-2
-    (λ c. search needs)
-    (λ c κs. search needs)
-    (λ c κs. search needs)
+    (λ c. search known)
+    (λ c κs. search known)
+    (λ c κs. search known)
     returns-3
-    (λ c. search needs)
-    (λ c κs. search needs)
-    (λ c κs. search needs)
+    (λ c. search known)
+    (λ c κs. search known)
+    (λ c κs. search known)
     returns-4
-    (λ c. search needs)
-    (λ c κs. search needs)
-    (λ c κs. search needs)
+    (λ c. search known)
+    (λ c κs. search known)
+    (λ c κs. search known)
     returns-5
     returns-6)

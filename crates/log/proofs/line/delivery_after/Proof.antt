@@ -2,7 +2,7 @@
 use mathlib.Core.Path.{sym, _∙_}
 use borrow.Author.Tests.{not-true, not-false}
 use Rattle.log.proofs.Calls.{no-delivery, is-delivery}
-use borrow.Author.Needs.{needs}
+use Rattle.base.proofs.Known.{known}
 use Rattle.log.proofs.line.delivery_after.Statement.{statement}
 use Rattle.log.proofs.line.delivery_after.Tie as tie
 
@@ -25,4 +25,4 @@ returns-2 c =
 pub delivery-after-spec : {M : Type 1} → statement M
 delivery-after-spec =
     tie.close
-    (tie.spec (λ c κs. search needs) returns (λ c. search needs) (λ c. search needs) (λ c. search needs) (λ c. search needs) returns-2)
+    (tie.spec (λ c κs. search known) returns (λ c. search known) (λ c. search known) (λ c. search known) (λ c. search known) returns-2)

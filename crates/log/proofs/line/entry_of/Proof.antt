@@ -4,6 +4,7 @@ use native.Mathlib.Omega.{arith}
 use lib.Seq.{length-take-le}
 use Rattle.log.proofs.Calls.{line-empty, line-comment, line-long, line-call}
 use borrow.Author.Needs.{needs}
+use Rattle.base.proofs.Known.{known}
 use Rattle.log.proofs.line.entry_of.Statement.{statement}
 use Rattle.log.proofs.line.entry_of.Tie as tie
 
@@ -57,14 +58,14 @@ pub entry-of-spec : {M : Type 1} → statement M
 entry-of-spec =
     tie.close
     (tie.spec
-    (λ c κs. search needs)
-    (λ c κs. search needs)
+    (λ c κs. search known)
+    (λ c κs. search known)
     returns
     (λ c. search needs)
-    (λ c κs. search needs)
+    (λ c κs. search known)
     returns-2
-    (λ c κs. search needs)
+    (λ c κs. search known)
     returns-3
     slice-aggregate-words-entry
-    (λ c κs. search needs)
+    (λ c κs. search known)
     returns-4)

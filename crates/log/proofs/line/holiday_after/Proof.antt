@@ -2,7 +2,7 @@
 use mathlib.Core.Path.{sym, _∙_}
 use borrow.Author.Tests.{not-true, not-false}
 use Rattle.log.proofs.Calls.{no-holiday, is-holiday}
-use borrow.Author.Needs.{needs}
+use Rattle.base.proofs.Known.{known}
 use Rattle.log.proofs.line.holiday_after.Statement.{statement}
 use Rattle.log.proofs.line.holiday_after.Tie as tie
 
@@ -17,4 +17,4 @@ returns-2 c =
 
 pub holiday-after-spec : {M : Type 1} → statement M
 holiday-after-spec =
-    tie.close (tie.spec (λ c κs. search needs) returns (λ c. search needs) returns-2)
+    tie.close (tie.spec (λ c κs. search known) returns (λ c. search known) returns-2)

@@ -5,6 +5,7 @@ use Rattle.log.proofs.Splitting.{pieces}
 use Rattle.log.proofs.Fields.{no-words, more-words}
 use Rattle.log.proofs.Calls.{no-fields, no-date, no-open, is-open}
 use borrow.Author.Needs.{needs}
+use Rattle.base.proofs.Known.{known}
 use Rattle.log.proofs.line.open_after.Statement.{statement}
 use Rattle.log.proofs.line.open_after.Tie as tie
 
@@ -65,17 +66,17 @@ open-after-spec =
     returns
     (λ c. search needs)
     (λ c κs. search needs)
-    (λ c. search needs)
-    (λ c. search needs)
-    (λ c. search needs)
-    (λ c κs. search needs)
-    (λ c. search needs)
-    (λ c. search needs)
+    (λ c. search known)
+    (λ c. search known)
+    (λ c. search known)
+    (λ c κs. search known)
+    (λ c. search known)
+    (λ c. search known)
     returns-2
-    (λ c κs. search needs)
+    (λ c κs. search known)
     returns-3
-    (λ c. search needs)
-    (λ c. search needs)
-    (λ c. search needs)
-    (λ c. search needs)
+    (λ c. search known)
+    (λ c. search known)
+    (λ c. search known)
+    (λ c. search known)
     returns-4)

@@ -4,7 +4,7 @@ use lib.Seq.{length-take-le}
 use Rattle.log.specs.Line.{bare}
 use Rattle.log.proofs.Splitting.{pieces}
 use Rattle.log.proofs.Calls.{first-word, entry-table, entry-bare}
-use borrow.Author.Needs.{needs}
+use Rattle.base.proofs.Known.{known}
 use Rattle.log.proofs.line.words_entry.Statement.{statement}
 use Rattle.log.proofs.line.words_entry.Tie as tie
 
@@ -38,12 +38,12 @@ pub words-entry-spec : {M : Type 1} → statement M
 words-entry-spec =
     tie.close
     (tie.spec
-    (λ c κs. search needs)
+    (λ c κs. search known)
     slice-aggregate-is-same
-    (λ c. search needs)
-    (λ c κs. search needs)
-    (λ c κs. search needs)
+    (λ c. search known)
+    (λ c κs. search known)
+    (λ c κs. search known)
     returns
-    (λ c κs. search needs)
-    (λ c κs. search needs)
+    (λ c κs. search known)
+    (λ c κs. search known)
     returns-2)

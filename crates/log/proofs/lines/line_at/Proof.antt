@@ -1,5 +1,6 @@
 -- `lines::line_at`: no LF stands in front of place i.
 use borrow.Author.Needs.{needs}
+use Rattle.base.proofs.Known.{known}
 use lib.ListN.{length}
 use Prim.Native.Nat.{_-_}
 use native.Mathlib.Omega.{arith}
@@ -32,7 +33,7 @@ line-at-spec =
     Inv-loop
     μ-loop
     loop-holds
-    (λ c. search needs)
+    (λ c. search known)
     (λ c. search needs)
     returns
     (λ c. search needs)

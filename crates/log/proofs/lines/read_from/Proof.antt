@@ -1,5 +1,5 @@
 -- `lines::read_from`: the line cut out and read.
-use borrow.Author.Needs.{needs}
+use Rattle.base.proofs.Known.{known}
 use Rattle.log.proofs.Cutting.{found-at}
 use Rattle.log.proofs.lines.read_from.Statement.{statement}
 use Rattle.log.proofs.lines.read_from.Tie as tie
@@ -10,4 +10,4 @@ returns c = found-at (c .before .before .line-at .ensures) _ (c .line-of .ensure
 pub read-from-spec : {M : Type 1} → statement M
 read-from-spec =
     tie.close
-    (tie.spec (λ c κs. search needs) (λ c. search needs) (λ c. search needs) (λ c. search needs) (λ c κs. search needs) returns)
+    (tie.spec (λ c κs. search known) (λ c. search known) (λ c. search known) (λ c. search known) (λ c κs. search known) returns)

@@ -3,6 +3,7 @@ use mathlib.Core.Path.{sym, _∙_}
 use lib.Seq.{length-take-le}
 use Rattle.log.proofs.Reading.{date-length, date-first, date-second, date-year, date-month, date-day, date-whole}
 use borrow.Author.Needs.{needs}
+use Rattle.base.proofs.Known.{known}
 use Rattle.log.proofs.number.date_of.Statement.{statement}
 use Rattle.log.proofs.number.date_of.Tie as tie
 
@@ -89,22 +90,22 @@ date-of-spec =
     (λ c. search needs)
     returns-3
     slice-aggregate-number-of
-    (λ c κs. search needs)
-    (λ c. search needs)
-    (λ c. search needs)
+    (λ c κs. search known)
+    (λ c. search known)
+    (λ c. search known)
     returns-4
+    (λ c. search known)
+    (λ c. search known)
     (λ c. search needs)
-    (λ c. search needs)
-    (λ c. search needs)
-    (λ c κs. search needs)
-    (λ c. search needs)
-    (λ c. search needs)
+    (λ c κs. search known)
+    (λ c. search known)
+    (λ c. search known)
     returns-5
+    (λ c. search known)
+    (λ c. search known)
     (λ c. search needs)
-    (λ c. search needs)
-    (λ c. search needs)
-    (λ c κs. search needs)
-    (λ c. search needs)
-    (λ c. search needs)
+    (λ c κs. search known)
+    (λ c. search known)
+    (λ c. search known)
     returns-6
     returns-7)

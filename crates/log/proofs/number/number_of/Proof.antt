@@ -1,6 +1,7 @@
 -- `log::number::number_of` meets its contract.
 use mathlib.Core.List.{List}
 use borrow.Author.Needs.{needs}
+use Rattle.base.proofs.Known.{known}
 use mathlib.Core.Path.{_≡_, sym, _∙_}
 use Prim.Native.Nat.{ℕ, _≤_, _-_, _+_, _*_}
 use native.Mathlib.Omega.{arith}
@@ -85,7 +86,7 @@ number-of-spec =
     μ-loop
     returns
     loop-holds
-    (λ c. search needs)
+    (λ c. search known)
     returns-2
     returns-3
     (λ c. search needs)

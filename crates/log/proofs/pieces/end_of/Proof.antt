@@ -1,5 +1,6 @@
 -- `log::pieces::end_of` meets its contract.
 use borrow.Author.Needs.{needs}
+use Rattle.base.proofs.Known.{known}
 use mathlib.Core.List.{List, _++_}
 use mathlib.Core.Path.{_≡_, _∙_}
 use Prim.Native.Nat.{ℕ, _≤_, _-_}
@@ -71,7 +72,7 @@ end-of-spec =
     Inv-loop
     μ-loop
     loop-holds
-    (λ c. search needs)
+    (λ c. search known)
     returns
     (λ c. search needs)
     (λ c. search needs)

@@ -1,6 +1,7 @@
 -- `log::words::is_same` meets its contract.
 use mathlib.Core.List.{List}
 use borrow.Author.Needs.{needs}
+use Rattle.base.proofs.Known.{known}
 use mathlib.Core.Path.{_≡_, refl, sym, _∙_}
 use Prim.Native.Nat.{ℕ, _≤_, _-_}
 use native.Mathlib.Omega.{arith}
@@ -65,7 +66,7 @@ is-same-spec =
     μ-loop
     returns
     loop-holds
-    (λ c. search needs)
+    (λ c. search known)
     (λ c. search needs)
     returns-2
     (λ c. search needs)

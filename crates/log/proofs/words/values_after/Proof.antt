@@ -3,6 +3,7 @@ use Rattle.log.proofs.Splitting.{pieces}
 use Rattle.log.proofs.Fields.{no-good, numbers-start, no-words, more-words, numbers-short, numbers-not, numbers-next, values-next}
 use Rattle.log.proofs.Fields.{numbers-end, values-end}
 use borrow.Author.Needs.{needs}
+use Rattle.base.proofs.Known.{known}
 use mathlib.Core.List.{List, _++_, map}
 use mathlib.Core.Path.{_≡_, refl, sym, _∙_}
 use Prim.Native.Nat.{ℕ, _≤_, _-_}
@@ -108,12 +109,12 @@ values-after-spec =
     returns
     (λ c. search needs)
     (λ c κs. search needs)
-    (λ c. search needs)
-    (λ c. search needs)
-    (λ c. search needs)
-    (λ c κs. search needs)
-    (λ c. search needs)
-    (λ c. search needs)
+    (λ c. search known)
+    (λ c. search known)
+    (λ c. search known)
+    (λ c κs. search known)
+    (λ c. search known)
+    (λ c. search known)
     returns-2
     (λ c. search needs)
     (λ c. search needs)

@@ -2,6 +2,7 @@
 use mathlib.Core.List.{List}
 use Rattle.market.specs.declared.checks.Class.{Class}
 use borrow.Author.Needs.{needs}
+use Rattle.base.proofs.Known.{known}
 use mathlib.Core.Path.{_≡_, sym, _∙_}
 use Prim.Native.Nat.{ℕ, _≤_, _-_}
 use native.Mathlib.Nat.{sub-zero}
@@ -58,8 +59,8 @@ all-of-spec =
     Inv-loop
     μ-loop
     loop-holds
-    (λ c. search needs)
-    (λ c κs. search needs)
+    (λ c. search known)
+    (λ c κs. search known)
     returns
     (λ c. search needs)
     (λ c. search needs)

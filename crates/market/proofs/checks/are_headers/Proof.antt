@@ -2,7 +2,7 @@
 use mathlib.Core.Path.{sym, _∙_}
 use mathlib.Core.Bool.{and-true}
 use borrow.Author.Tests.{not-true, not-false}
-use borrow.Author.Needs.{needs}
+use Rattle.base.proofs.Known.{known}
 use Rattle.market.proofs.checks.are_headers.Statement.{statement}
 use Rattle.market.proofs.checks.are_headers.Tie as tie
 
@@ -48,11 +48,11 @@ pub are-headers-spec : {M : Type 1} → statement M
 are-headers-spec =
     tie.close
     (tie.spec
-    (λ c κs. search needs)
+    (λ c κs. search known)
     returns
-    (λ c κs. search needs)
+    (λ c κs. search known)
     returns-2
-    (λ c κs. search needs)
+    (λ c κs. search known)
     returns-3
-    (λ c κs. search needs)
+    (λ c κs. search known)
     returns-4)

@@ -2,7 +2,7 @@
 use mathlib.Core.Bool.{and-true}
 use mathlib.Core.Path.{sym, _∙_}
 use borrow.Author.Tests.{not-true, not-false}
-use borrow.Author.Needs.{needs}
+use Rattle.base.proofs.Known.{known}
 use Rattle.market.proofs.checks.are_reason_time_codes.Statement.{statement}
 use Rattle.market.proofs.checks.are_reason_time_codes.Tie as tie
 
@@ -34,4 +34,4 @@ returns-3 c =
 pub are-reason-time-codes-spec : {M : Type 1} → statement M
 are-reason-time-codes-spec =
     tie.close
-    (tie.spec (λ c κs. search needs) returns (λ c κs. search needs) returns-2 (λ c κs. search needs) returns-3)
+    (tie.spec (λ c κs. search known) returns (λ c κs. search known) returns-2 (λ c κs. search known) returns-3)

@@ -4,7 +4,7 @@ use mathlib.Core.Path.{sym, _∙_}
 use borrow.Author.Tests.{not-true, not-false}
 use Rattle.market.specs.Fields.{texts}
 use Rattle.market.proofs.Answers.{supplied-by}
-use borrow.Author.Needs.{needs}
+use Rattle.base.proofs.Known.{known}
 use Rattle.market.proofs.checks.are_supplied.Statement.{statement}
 use Rattle.market.proofs.checks.are_supplied.Tie as tie
 
@@ -30,4 +30,4 @@ returns-2 c = let a = start (c .before .before) .args in
     ∙ not-false _ (c .before .if1 .left)) (sym (c .are-reason-time-codes .ensures)))
 
 pub are-supplied-spec : {M : Type 1} → statement M
-are-supplied-spec = tie.close (tie.spec (λ c κs. search needs) returns (λ c κs. search needs) returns-2)
+are-supplied-spec = tie.close (tie.spec (λ c κs. search known) returns (λ c κs. search known) returns-2)

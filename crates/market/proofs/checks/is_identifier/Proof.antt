@@ -1,7 +1,7 @@
 -- `checks::is_identifier` meets its contract.
 use borrow.Author.Tests.{le-leb, lt-leb, eq-eqb, ne-eqb}
 use mathlib.Core.Path.{sym, _∙_}
-use borrow.Author.Needs.{needs}
+use Rattle.base.proofs.Known.{known}
 use Rattle.market.proofs.checks.is_identifier.Statement.{statement}
 use Rattle.market.proofs.checks.is_identifier.Tie as tie
 
@@ -33,4 +33,4 @@ returns-5 c = let no = sym (after-is-digit (c .before) .is-digit .ensures) ∙ c
 
 pub is-identifier-spec : {M : Type 1} → statement M
 is-identifier-spec =
-    tie.close (tie.spec (λ c κs. search needs) returns returns-2 returns-3 returns-4 returns-5)
+    tie.close (tie.spec (λ c κs. search known) returns returns-2 returns-3 returns-4 returns-5)

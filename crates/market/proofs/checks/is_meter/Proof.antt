@@ -1,7 +1,7 @@
 -- `checks::is_meter` meets its contract.
 use borrow.Author.Tests.{eq-eqb, ne-eqb}
 use Rattle.market.specs.Export.{identifierOk}
-use borrow.Author.Needs.{needs}
+use Rattle.base.proofs.Known.{known}
 use Rattle.market.proofs.checks.is_meter.Statement.{statement}
 use Rattle.market.proofs.checks.is_meter.Tie as tie
 
@@ -14,4 +14,4 @@ unfolding identifierOk
 returns-2 c = rw (eq-eqb _ _ (c .before .if1 .left)) (c .all-of .ensures)
 
 pub is-meter-spec : {M : Type 1} → statement M
-is-meter-spec = tie.close (tie.spec returns (λ c κs. search needs) returns-2)
+is-meter-spec = tie.close (tie.spec returns (λ c κs. search known) returns-2)

@@ -1,7 +1,7 @@
 -- `checks::is_time` meets its contract.
 use borrow.Author.Tests.{eq-eqb, ne-eqb}
 use Rattle.market.specs.Export.{timeOk}
-use borrow.Author.Needs.{needs}
+use Rattle.base.proofs.Known.{known}
 use Rattle.market.proofs.checks.is_time.Statement.{statement}
 use Rattle.market.proofs.checks.is_time.Tie as tie
 
@@ -14,4 +14,4 @@ unfolding timeOk
 returns-2 c = rw (eq-eqb _ _ (c .before .if1 .left)) (c .all-of .ensures)
 
 pub is-time-spec : {M : Type 1} → statement M
-is-time-spec = tie.close (tie.spec returns (λ c κs. search needs) returns-2)
+is-time-spec = tie.close (tie.spec returns (λ c κs. search known) returns-2)

@@ -3,6 +3,7 @@ use Rattle.market.specs.Fields.{fields}
 use Rattle.market.specs.Records.{record400}
 use Rattle.line.proofs.Putting.{then}
 use borrow.Author.Needs.{needs}
+use Rattle.base.proofs.Known.{known}
 use Rattle.market.proofs.days.put_400.Statement.{statement}
 use Rattle.market.proofs.days.put_400.Tie as tie
 
@@ -36,12 +37,12 @@ pub put-400-spec : {M : Type 1} → statement M
 put-400-spec =
     tie.close
     (tie.spec
-    (λ c. search needs)
-    (λ c κs. search needs)
-    (λ c κs. search needs)
-    (λ c κs. search needs)
-    (λ c κs. search needs)
-    (λ c. search needs)
-    (λ c κs. search needs)
+    (λ c. search known)
+    (λ c κs. search known)
+    (λ c κs. search known)
+    (λ c κs. search known)
+    (λ c κs. search known)
+    (λ c. search known)
+    (λ c κs. search known)
     (λ c. search needs)
     returns)

@@ -6,6 +6,7 @@ use Rattle.calendar.specs.declared.Date.{Date}
 use Rattle.market.specs.Fields.{dateField}
 use Rattle.line.proofs.Putting.{then, same}
 use borrow.Author.Needs.{needs}
+use Rattle.base.proofs.Known.{known}
 use Rattle.market.proofs.days.put_date.Statement.{statement}
 use Rattle.market.proofs.days.put_date.Tie as tie
 
@@ -32,12 +33,12 @@ pub put-date-spec : {M : Type 1} → statement M
 put-date-spec =
     tie.close
     (tie.spec
-    (λ c κs. search needs)
+    (λ c κs. search known)
     (λ c. search needs)
-    (λ c κs. search needs)
+    (λ c κs. search known)
     (λ c. search needs)
-    (λ c κs. search needs)
+    (λ c κs. search known)
     (λ c. search needs)
-    (λ c κs. search needs)
-    (λ c. search needs)
+    (λ c κs. search known)
+    (λ c. search known)
     returns)

@@ -4,6 +4,7 @@ use Rattle.market.specs.Fields.{markOf}
 use Rattle.line.proofs.Putting.{then, same}
 use Rattle.market.proofs.Joining.{day-alike, day-varies}
 use borrow.Author.Needs.{needs}
+use Rattle.base.proofs.Known.{known}
 use Rattle.market.proofs.days.put_day.Statement.{statement}
 use Rattle.market.proofs.days.put_day.Tie as tie
 
@@ -52,11 +53,11 @@ pub put-day-spec : {M : Type 1} → statement M
 put-day-spec =
     tie.close
     (tie.spec
+    (λ c κs. search known)
     (λ c κs. search needs)
-    (λ c κs. search needs)
-    (λ c κs. search needs)
-    (λ c. search needs)
+    (λ c κs. search known)
+    (λ c. search known)
     returns
-    (λ c κs. search needs)
+    (λ c κs. search known)
     (λ c. search needs)
     returns-2)

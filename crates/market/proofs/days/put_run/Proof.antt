@@ -2,6 +2,7 @@
 use borrow.Author.Tests.{not-true, not-false}
 use Rattle.line.proofs.Putting.{nothing}
 use borrow.Author.Needs.{needs}
+use Rattle.base.proofs.Known.{known}
 use Rattle.market.proofs.days.put_run.Statement.{statement}
 use Rattle.market.proofs.days.put_run.Tie as tie
 
@@ -21,4 +22,4 @@ returns-2 c =
     (c .before .before .put-400 .ensures)
 
 pub put-run-spec : {M : Type 1} → statement M
-put-run-spec = tie.close (tie.spec returns (λ c κs. search needs) (λ c. search needs) returns-2)
+put-run-spec = tie.close (tie.spec returns (λ c κs. search known) (λ c. search known) returns-2)

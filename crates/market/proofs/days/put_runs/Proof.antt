@@ -1,6 +1,7 @@
 -- `days::put_runs` meets its contract.
 use Rattle.market.specs.declared.Codes.{Codes}
 use borrow.Author.Needs.{needs}
+use Rattle.base.proofs.Known.{known}
 use mathlib.Core.Bool.{cond}
 use mathlib.Core.List.{List, []}
 use mathlib.Core.Path.{_≡_, ap, _∙_}
@@ -86,9 +87,9 @@ put-runs-spec =
     (λ c κs. search needs)
     (λ c. search needs)
     (λ c. search needs)
-    (λ c κs. search needs)
+    (λ c κs. search known)
     (λ c. search needs)
-    (λ c κs. search needs)
+    (λ c κs. search known)
     (λ c. search needs)
     (λ c. search needs)
     loop-again

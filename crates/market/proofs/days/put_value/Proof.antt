@@ -4,6 +4,7 @@ use Rattle.file.proofs.Offsets.{slot-at}
 use Rattle.market.specs.Fields.{field, kwh}
 use Rattle.line.proofs.Putting.{then, same}
 use borrow.Author.Needs.{needs}
+use Rattle.base.proofs.Known.{known}
 use Rattle.market.proofs.days.put_value.Statement.{statement}
 use Rattle.market.proofs.days.put_value.Tie as tie
 
@@ -31,9 +32,9 @@ put-value-spec =
     (tie.spec
     (λ c. search needs)
     (λ c κs. search needs)
-    (λ c κs. search needs)
-    (λ c. search needs)
-    (λ c κs. search needs)
-    (λ c κs. search needs)
-    (λ c. search needs)
+    (λ c κs. search known)
+    (λ c. search known)
+    (λ c κs. search known)
+    (λ c κs. search known)
+    (λ c. search known)
     returns)

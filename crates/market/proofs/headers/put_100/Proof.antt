@@ -5,6 +5,7 @@ use Rattle.market.specs.Fields.{fields}
 use Rattle.market.specs.Records.{record100}
 use Rattle.line.proofs.Putting.{then}
 use borrow.Author.Needs.{needs}
+use Rattle.base.proofs.Known.{known}
 use Rattle.market.proofs.headers.put_100.Statement.{statement}
 use Rattle.market.proofs.headers.put_100.Tie as tie
 
@@ -43,13 +44,13 @@ pub put-100-spec : {M : Type 1} → statement M
 put-100-spec =
     tie.close
     (tie.spec
-    (λ c. search needs)
-    (λ c κs. search needs)
+    (λ c. search known)
+    (λ c κs. search known)
     slice-aggregate-put-field
-    (λ c κs. search needs)
-    (λ c κs. search needs)
-    (λ c κs. search needs)
-    (λ c. search needs)
-    (λ c κs. search needs)
+    (λ c κs. search known)
+    (λ c κs. search known)
+    (λ c κs. search known)
+    (λ c. search known)
+    (λ c κs. search known)
     (λ c. search needs)
     returns)

@@ -5,6 +5,7 @@ use Rattle.market.specs.Records.{record200}
 use Rattle.line.proofs.Putting.{then, same}
 use Rattle.market.proofs.Joining.{meter-parts}
 use borrow.Author.Needs.{needs}
+use Rattle.base.proofs.Known.{known}
 use Rattle.market.proofs.headers.put_200.Statement.{statement}
 use Rattle.market.proofs.headers.put_200.Tie as tie
 
@@ -54,14 +55,14 @@ pub put-200-spec : {M : Type 1} → statement M
 put-200-spec =
     tie.close
     (tie.spec
-    (λ c κs. search needs)
-    (λ c κs. search needs)
-    (λ c κs. search needs)
-    (λ c. search needs)
-    (λ c κs. search needs)
-    (λ c κs. search needs)
-    (λ c κs. search needs)
-    (λ c. search needs)
-    (λ c κs. search needs)
+    (λ c κs. search known)
+    (λ c κs. search known)
+    (λ c κs. search known)
+    (λ c. search known)
+    (λ c κs. search known)
+    (λ c κs. search known)
+    (λ c κs. search known)
+    (λ c. search known)
+    (λ c κs. search known)
     (λ c. search needs)
     returns)

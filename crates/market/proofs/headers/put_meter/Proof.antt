@@ -1,6 +1,7 @@
 -- `headers::put_meter` meets its contract.
 use Rattle.line.proofs.Putting.{then}
 use borrow.Author.Needs.{needs}
+use Rattle.base.proofs.Known.{known}
 use Rattle.market.proofs.headers.put_meter.Statement.{statement}
 use Rattle.market.proofs.headers.put_meter.Tie as tie
 
@@ -32,11 +33,11 @@ pub put-meter-spec : {M : Type 1} → statement M
 put-meter-spec =
     tie.close
     (tie.spec
-    (λ c. search needs)
-    (λ c κs. search needs)
-    (λ c κs. search needs)
-    (λ c κs. search needs)
-    (λ c κs. search needs)
-    (λ c κs. search needs)
+    (λ c. search known)
+    (λ c κs. search known)
+    (λ c κs. search known)
+    (λ c κs. search known)
+    (λ c κs. search known)
+    (λ c κs. search known)
     (λ c. search needs)
     returns)

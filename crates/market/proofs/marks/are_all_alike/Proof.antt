@@ -2,6 +2,7 @@
 use mathlib.Core.List.{List}
 use Rattle.market.specs.declared.Codes.{Codes}
 use borrow.Author.Needs.{needs}
+use Rattle.base.proofs.Known.{known}
 use mathlib.Core.Path.{_≡_, sym, ap₂, _∙_}
 use Prim.Native.Nat.{ℕ, _≤_, _-_, _+_}
 use native.Mathlib.Nat.{sub-zero}
@@ -68,7 +69,7 @@ are-all-alike-spec =
     loop-holds
     (λ c. search needs)
     (λ c κs. search needs)
-    (λ c κs. search needs)
+    (λ c κs. search known)
     returns
     (λ c. search needs)
     (λ c. search needs)

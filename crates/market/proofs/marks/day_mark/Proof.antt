@@ -1,5 +1,5 @@
 -- `marks::day_mark` meets its contract.
-use borrow.Author.Needs.{needs}
+use Rattle.base.proofs.Known.{known}
 use Rattle.market.proofs.marks.day_mark.Statement.{statement}
 use Rattle.market.proofs.marks.day_mark.Tie as tie
 
@@ -10,4 +10,4 @@ returns-2 : tie.Need-returns-2
 returns-2 c = rw (c .if1 .left)
 
 pub day-mark-spec : {M : Type 1} → statement M
-day-mark-spec = tie.close (tie.spec (λ c κs. search needs) returns returns-2)
+day-mark-spec = tie.close (tie.spec (λ c κs. search known) returns returns-2)

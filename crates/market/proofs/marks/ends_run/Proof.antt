@@ -2,6 +2,7 @@
 use borrow.Author.Tests.{eq-eqb, ne-eqb}
 use Rattle.market.specs.Fields.{endsRun}
 use borrow.Author.Needs.{needs}
+use Rattle.base.proofs.Known.{known}
 use Rattle.market.proofs.marks.ends_run.Statement.{statement}
 use Rattle.market.proofs.marks.ends_run.Tie as tie
 
@@ -30,5 +31,5 @@ ends-run-spec =
     (λ c. search needs)
     (λ c. search needs)
     (λ c κs. search needs)
-    (λ c κs. search needs)
+    (λ c κs. search known)
     returns-2)

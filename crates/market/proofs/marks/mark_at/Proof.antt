@@ -4,6 +4,7 @@ use borrow.Author.Tests.{not-true, not-false}
 use Rattle.file.proofs.Offsets.{slot-at}
 use Rattle.market.specs.Fields.{markOf}
 use borrow.Author.Needs.{needs}
+use Rattle.base.proofs.Known.{known}
 use Rattle.market.proofs.marks.mark_at.Statement.{statement}
 use Rattle.market.proofs.marks.mark_at.Tie as tie
 
@@ -25,7 +26,7 @@ mark-at-spec =
     (λ c. search needs)
     (λ c. search needs)
     (λ c. search needs)
-    (λ c κs. search needs)
+    (λ c κs. search known)
     returns
-    (λ c κs. search needs)
+    (λ c κs. search known)
     returns-2)

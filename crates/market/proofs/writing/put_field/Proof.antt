@@ -1,6 +1,6 @@
 -- `writing::put_field` meets its contract.
 use Rattle.line.proofs.Putting.{then}
-use borrow.Author.Needs.{needs}
+use Rattle.base.proofs.Known.{known}
 use Rattle.market.proofs.writing.put_field.Statement.{statement}
 use Rattle.market.proofs.writing.put_field.Tie as tie
 
@@ -17,4 +17,4 @@ returns c = then (after-put-text (c .before) .put-text .ensures) (c .before .bef
 pub put-field-spec : {M : Type 1} → statement M
 put-field-spec =
     tie.close
-    (tie.spec (λ c. search needs) (λ c κs. search needs) (λ c κs. search needs) (λ c. search needs) returns)
+    (tie.spec (λ c. search known) (λ c κs. search known) (λ c κs. search known) (λ c. search known) returns)

@@ -1,6 +1,7 @@
 -- `reading::following`: each line after the opening so far is a call or passed over.
 use Rattle.play.proofs.Stepping.{calls-little}
 use borrow.Author.Needs.{needs}
+use Rattle.base.proofs.Known.{known}
 use mathlib.Core.Path.{sym, _∙_}
 use Prim.Native.Nat.{_-_}
 use native.Mathlib.Omega.{arith}
@@ -65,7 +66,7 @@ following-spec =
     Inv-loop
     μ-loop
     loop-holds
-    (λ c κs. search needs)
+    (λ c κs. search known)
     (λ c. search needs)
     returns
     add-calls

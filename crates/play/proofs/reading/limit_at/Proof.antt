@@ -5,6 +5,7 @@ use Prim.Native.Nat.{ℕ}
 use Rattle.rules.specs.Limits.{loadAnswer}
 use Rattle.play.proofs.Stepping.{own-limits, built-in}
 use borrow.Author.Needs.{needs}
+use Rattle.base.proofs.Known.{known}
 use Rattle.play.proofs.reading.limit_at.Statement.{statement}
 use Rattle.play.proofs.reading.limit_at.Tie as tie
 
@@ -26,4 +27,4 @@ returns-2 c =
 
 pub limit-at-spec : {M : Type 1} → statement M
 limit-at-spec =
-    tie.close (tie.spec (λ c. search needs) (λ c κs. search needs) returns (λ c κs. search needs) returns-2)
+    tie.close (tie.spec (λ c. search known) (λ c κs. search known) returns (λ c κs. search known) returns-2)

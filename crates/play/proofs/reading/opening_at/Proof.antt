@@ -1,6 +1,6 @@
 -- `reading::opening_at`: by cases.
 use Rattle.play.specs.Inner.Steps.{openingAt}
-use borrow.Author.Needs.{needs}
+use Rattle.base.proofs.Known.{known}
 use Rattle.play.proofs.reading.opening_at.Statement.{statement}
 use Rattle.play.proofs.reading.opening_at.Tie as tie
 
@@ -24,10 +24,10 @@ pub opening-at-spec : {M : Type 1} → statement M
 opening-at-spec =
     tie.close
     (tie.spec
-    (λ c. search needs)
-    (λ c. search needs)
-    (λ c. search needs)
-    (λ c. search needs)
+    (λ c. search known)
+    (λ c. search known)
+    (λ c. search known)
+    (λ c. search known)
     returns
     returns-2
     returns-3

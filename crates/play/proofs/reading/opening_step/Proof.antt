@@ -1,7 +1,7 @@
 -- `reading::opening_step`: by cases.
 use mathlib.Core.Path.{sym, _∙_}
 use Rattle.play.specs.Inner.Steps.{openingStep}
-use borrow.Author.Needs.{needs}
+use Rattle.base.proofs.Known.{known}
 use Rattle.play.proofs.reading.opening_step.Statement.{statement}
 use Rattle.play.proofs.reading.opening_step.Tie as tie
 
@@ -26,10 +26,10 @@ pub opening-step-spec : {M : Type 1} → statement M
 opening-step-spec =
     tie.close
     (tie.spec
-    (λ c κs. search needs)
-    (λ c. search needs)
-    (λ c κs. search needs)
-    (λ c κs. search needs)
-    (λ c. search needs)
+    (λ c κs. search known)
+    (λ c. search known)
+    (λ c κs. search known)
+    (λ c κs. search known)
+    (λ c. search known)
     returns
     returns-2)

@@ -2,7 +2,7 @@
 use mathlib.Core.Path.{_∙_}
 use Rattle.log.specs.Log.{itemIn}
 use Rattle.play.proofs.Stepping.{step-passed, step-opening, step-call, step-neither}
-use borrow.Author.Needs.{needs}
+use Rattle.base.proofs.Known.{known}
 use Rattle.play.proofs.reading.step_of.Statement.{statement}
 use Rattle.play.proofs.reading.step_of.Tie as tie
 
@@ -30,13 +30,13 @@ pub step-of-spec : {M : Type 1} → statement M
 step-of-spec =
     tie.close
     (tie.spec
-    (λ c. search needs)
-    (λ c. search needs)
-    (λ c κs. search needs)
-    (λ c. search needs)
-    (λ c κs. search needs)
-    (λ c. search needs)
-    (λ c. search needs)
+    (λ c. search known)
+    (λ c. search known)
+    (λ c κs. search known)
+    (λ c. search known)
+    (λ c κs. search known)
+    (λ c. search known)
+    (λ c. search known)
     returns
     returns-2
     returns-3

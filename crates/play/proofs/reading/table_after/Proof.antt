@@ -1,7 +1,7 @@
 -- `reading::table_after`: by cases.
 use Rattle.log.specs.Log.{itemIn}
 use Rattle.play.specs.Inner.Steps.{tableAfter}
-use borrow.Author.Needs.{needs}
+use Rattle.base.proofs.Known.{known}
 use Rattle.play.proofs.reading.table_after.Statement.{statement}
 use Rattle.play.proofs.reading.table_after.Tie as tie
 
@@ -29,11 +29,11 @@ pub table-after-spec : {M : Type 1} → statement M
 table-after-spec =
     tie.close
     (tie.spec
-    (λ c. search needs)
-    (λ c. search needs)
-    (λ c. search needs)
-    (λ c. search needs)
-    (λ c. search needs)
+    (λ c. search known)
+    (λ c. search known)
+    (λ c. search known)
+    (λ c. search known)
+    (λ c. search known)
     returns
     returns-2
     returns-3

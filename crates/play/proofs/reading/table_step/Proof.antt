@@ -3,6 +3,7 @@ use mathlib.Core.Path.{sym, _∙_}
 use Rattle.play.specs.Inner.Steps.{tableStep}
 use Rattle.play.proofs.Stepping.{step-second, step-first}
 use borrow.Author.Needs.{needs}
+use Rattle.base.proofs.Known.{known}
 use Rattle.play.proofs.reading.table_step.Statement.{statement}
 use Rattle.play.proofs.reading.table_step.Tie as tie
 
@@ -28,4 +29,4 @@ returns-3 c =
 
 pub table-step-spec : {M : Type 1} → statement M
 table-step-spec =
-    tie.close (tie.spec returns (λ c κs. search needs) (λ c. search needs) (λ c. search needs) returns-2 returns-3)
+    tie.close (tie.spec returns (λ c κs. search known) (λ c. search known) (λ c. search known) returns-2 returns-3)

@@ -1,5 +1,6 @@
 -- `reading::tested_at`: a delivery that is not read, or the line read.
 use borrow.Author.Needs.{needs}
+use Rattle.base.proofs.Known.{known}
 use Rattle.play.proofs.Stepping.{passing-delivery}
 use Rattle.play.proofs.reading.tested_at.Statement.{statement}
 use Rattle.play.proofs.reading.tested_at.Tie as tie
@@ -18,4 +19,4 @@ returns-2 c = record {
 pub tested-at-spec : {M : Type 1} → statement M
 tested-at-spec =
     tie.close
-    (tie.spec (λ c κs. search needs) returns (λ c κs. search needs) (λ c κs. search needs) (λ c κs. search needs) returns-2)
+    (tie.spec (λ c κs. search needs) returns (λ c κs. search known) (λ c κs. search known) (λ c κs. search known) returns-2)

@@ -1,6 +1,7 @@
 -- `tables::add` goes by the slot's quality.
 use Rattle.publishing.proofs.Totals.{added-actual, added-substituted, added-agreed, added-none}
 use borrow.Author.Needs.{needs}
+use Rattle.base.proofs.Known.{known}
 use Rattle.publishing.proofs.tables.add.Statement.{statement}
 use Rattle.publishing.proofs.tables.add.Tie as tie
 
@@ -22,13 +23,13 @@ add-spec =
     (tie.spec
     (λ c. search needs)
     (λ c. search needs)
+    (λ c. search known)
     (λ c. search needs)
+    (λ c. search known)
     (λ c. search needs)
+    (λ c. search known)
     (λ c. search needs)
-    (λ c. search needs)
-    (λ c. search needs)
-    (λ c. search needs)
-    (λ c. search needs)
+    (λ c. search known)
     (λ c. search needs)
     returns
     returns-2

@@ -10,6 +10,7 @@ use Rattle.file.specs.Layout.{table, spanRow}
 use Rattle.file.specs.Inner.Writing.{written}
 use Rattle.publishing.proofs.Buffers.{table-one, written-none}
 use borrow.Author.Needs.{needs}
+use Rattle.base.proofs.Known.{known}
 use Rattle.publishing.proofs.tables.put_begun.Statement.{statement}
 use Rattle.publishing.proofs.tables.put_begun.Tie as tie
 
@@ -52,12 +53,12 @@ pub put-begun-spec : {M : Type 1} → statement M
 put-begun-spec =
     tie.close
     (tie.spec
-    (λ c. search needs)
+    (λ c. search known)
     (λ c. search needs)
     (λ c. search needs)
     put-span-requires
     (λ c. search needs)
-    (λ c. search needs)
-    (λ c. search needs)
+    (λ c. search known)
+    (λ c. search known)
     returns
     returns-2)

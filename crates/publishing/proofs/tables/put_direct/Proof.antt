@@ -6,6 +6,7 @@ use Prim.Native.Nat.{ℕ, _+_, _-_, _*_, _≤_, _<_}
 use native.Mathlib.Nat.{le-refl}
 use native.Mathlib.Omega.{arith}
 use borrow.Author.Needs.{needs}
+use Rattle.base.proofs.Known.{known}
 use Rattle.base.specs.Lists.{upTo}
 use lib.ListN.{length, getD}
 use Rattle.rules.specs.declared.Head.{Head}
@@ -215,7 +216,7 @@ put-direct-spec =
     is-good-requires
     (λ c. search needs)
     shared-slice-read-delivered
-    (λ c κs. search needs)
+    (λ c κs. search known)
     mul-put-slot
     put-slot-requires
     add-requires
@@ -225,7 +226,7 @@ put-direct-spec =
     returns
     (λ c. search needs)
     shared-slice-read-by-agreement
-    (λ c κs. search needs)
+    (λ c κs. search known)
     mul-put-slot-2
     put-slot-requires-2
     outage-zero-requires

@@ -4,7 +4,7 @@ use mathlib.Core.Path.{_≡_, refl, sym, ap, _∙_}
 use Prim.Native.Nat.{_+_, _-_, _*_, _≤_, _<_}
 use native.Mathlib.Nat.{le-refl}
 use native.Mathlib.Omega.{arith}
-use borrow.Author.Needs.{needs}
+use Rattle.base.proofs.Known.{known}
 use lib.ListN.{length}
 use Rattle.rules.specs.declared.stretch.Stretch.{Stretch}
 use Rattle.rules.specs.Opening.{Cells, slotCount}
@@ -306,7 +306,7 @@ put-inside-spec =
     μ-loop
     loop-holds
     put-direct-requires
-    (λ c κs. search needs)
+    (λ c κs. search known)
     loop-less
     loop-again
     outage-zero-requires

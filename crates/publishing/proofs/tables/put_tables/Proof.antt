@@ -4,6 +4,7 @@ use mathlib.Core.Path.{_≡_, refl, sym, ap, _∙_}
 use Prim.Native.Nat.{ℕ, _-_, _≤_, zero-le}
 use native.Mathlib.Omega.{arith}
 use borrow.Author.Needs.{needs}
+use Rattle.base.proofs.Known.{known}
 use lib.ListN.{length}
 use Rattle.rules.specs.declared.Head.{Head}
 use Rattle.rules.specs.Opening.{Cells, slotCount}
@@ -126,7 +127,7 @@ put-tables-spec =
     Inv-loop
     μ-loop
     slot-count-requires
-    (λ c κs. search needs)
+    (λ c κs. search known)
     loop-holds
     put-stretch-requires
     loop-less

@@ -4,6 +4,7 @@ use Rattle.book.specs.Lent.{lentBook}
 use Rattle.host.specs.Codes.{headOf}
 use Rattle.questions.proofs.Explaining.{refused-head, refused-fields, refused-rest, explained}
 use borrow.Author.Needs.{needs}
+use Rattle.base.proofs.Known.{known}
 use Rattle.questions.proofs.follow.sawmauve_explain.Statement.{statement}
 use Rattle.questions.proofs.follow.sawmauve_explain.Tie as tie
 
@@ -72,13 +73,13 @@ pub sawmauve-explain-spec : {M : Type 1} → statement M
 sawmauve-explain-spec =
     tie.close
     (tie.spec
-    (λ c κs. search needs)
-    (λ c κs. search needs)
+    (λ c κs. search known)
+    (λ c κs. search known)
     returns
     returns-2
     (λ c. search needs)
     returns-3
-    (λ c κs. search needs)
+    (λ c κs. search known)
     put-requires
-    (λ c. search needs)
+    (λ c. search known)
     returns-4)

@@ -3,6 +3,7 @@ use native.Mathlib.Omega.{arith}
 use lib.ListN.{length-set}
 use Rattle.questions.proofs.Logging.{seven-set}
 use borrow.Author.Needs.{needs}
+use Rattle.base.proofs.Known.{known}
 use Rattle.questions.proofs.logs.put_seven.Statement.{statement}
 use Rattle.questions.proofs.logs.put_seven.Tie as tie
 
@@ -29,5 +30,5 @@ put-seven-spec =
     slice-write-fields-5
     slice-write-fields-6
     slice-write-fields-7
-    (λ c. search needs)
+    (λ c. search known)
     returns)

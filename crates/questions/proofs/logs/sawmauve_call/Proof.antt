@@ -1,6 +1,6 @@
 -- `logs::sawmauve_call`: 2 for a list of another length; else what checking says, as numbers.
 use Rattle.questions.proofs.Logging.{other-fields, fields-told}
-use borrow.Author.Needs.{needs}
+use Rattle.base.proofs.Known.{known}
 use Rattle.questions.proofs.logs.sawmauve_call.Statement.{statement}
 use Rattle.questions.proofs.logs.sawmauve_call.Tie as tie
 
@@ -21,4 +21,4 @@ returns-2 c =
 
 pub sawmauve-call-spec : {M : Type 1} → statement M
 sawmauve-call-spec =
-    tie.close (tie.spec returns (λ c κs. search needs) (λ c κs. search needs) (λ c. search needs) returns-2)
+    tie.close (tie.spec returns (λ c κs. search known) (λ c κs. search known) (λ c. search known) returns-2)

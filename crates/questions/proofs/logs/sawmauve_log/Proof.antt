@@ -1,6 +1,6 @@
 -- `logs::sawmauve_log`: 2 for a list of another length; else what checking says, as numbers.
 use Rattle.questions.proofs.Logging.{other-figures, figures-told}
-use borrow.Author.Needs.{needs}
+use Rattle.base.proofs.Known.{known}
 use Rattle.questions.proofs.logs.sawmauve_log.Statement.{statement}
 use Rattle.questions.proofs.logs.sawmauve_log.Tie as tie
 
@@ -21,4 +21,4 @@ returns-2 c =
 
 pub sawmauve-log-spec : {M : Type 1} → statement M
 sawmauve-log-spec =
-    tie.close (tie.spec returns (λ c κs. search needs) (λ c κs. search needs) (λ c. search needs) returns-2)
+    tie.close (tie.spec returns (λ c κs. search known) (λ c κs. search known) (λ c. search known) returns-2)

@@ -1,7 +1,7 @@
 -- `logs::sawmauve_play`: the answer as its code, and what playing leaves.
 use mathlib.Core.Path.{ap, _∙_}
 use Rattle.questions.specs.Logs.{playedCode}
-use borrow.Author.Needs.{needs}
+use Rattle.base.proofs.Known.{known}
 use Rattle.questions.proofs.logs.sawmauve_play.Statement.{statement}
 use Rattle.questions.proofs.logs.sawmauve_play.Tie as tie
 
@@ -23,17 +23,17 @@ pub sawmauve-play-spec : {M : Type 1} → statement M
 sawmauve-play-spec =
     tie.close
     (tie.spec
-    (λ c κs. search needs)
-    (λ c κs. search needs)
-    (λ c. search needs)
-    (λ c. search needs)
-    (λ c. search needs)
-    (λ c. search needs)
-    (λ c. search needs)
-    (λ c. search needs)
-    (λ c. search needs)
-    (λ c. search needs)
-    (λ c. search needs)
-    (λ c. search needs)
-    (λ c. search needs)
+    (λ c κs. search known)
+    (λ c κs. search known)
+    (λ c. search known)
+    (λ c. search known)
+    (λ c. search known)
+    (λ c. search known)
+    (λ c. search known)
+    (λ c. search known)
+    (λ c. search known)
+    (λ c. search known)
+    (λ c. search known)
+    (λ c. search known)
+    (λ c. search known)
     returns)

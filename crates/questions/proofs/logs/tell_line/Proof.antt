@@ -1,6 +1,6 @@
 -- `logs::tell_line`: by what the line is.
 use mathlib.Core.Path.{refl}
-use borrow.Author.Needs.{needs}
+use Rattle.base.proofs.Known.{known}
 use Rattle.questions.proofs.logs.tell_line.Statement.{statement}
 use Rattle.questions.proofs.logs.tell_line.Tie as tie
 
@@ -30,21 +30,21 @@ pub tell-line-spec : {M : Type 1} → statement M
 tell-line-spec =
     tie.close
     (tie.spec
-    (λ c. search needs)
-    (λ c κs. search needs)
-    (λ c. search needs)
-    (λ c κs. search needs)
-    (λ c. search needs)
-    (λ c κs. search needs)
-    (λ c. search needs)
-    (λ c κs. search needs)
-    (λ c. search needs)
-    (λ c. search needs)
+    (λ c. search known)
+    (λ c κs. search known)
+    (λ c. search known)
+    (λ c κs. search known)
+    (λ c. search known)
+    (λ c κs. search known)
+    (λ c. search known)
+    (λ c κs. search known)
+    (λ c. search known)
+    (λ c. search known)
     returns
-    (λ c. search needs)
+    (λ c. search known)
     returns-2
-    (λ c. search needs)
+    (λ c. search known)
     returns-3
-    (λ c. search needs)
-    (λ c. search needs)
-    (λ c. search needs))
+    (λ c. search known)
+    (λ c. search known)
+    (λ c. search known))

@@ -4,6 +4,7 @@ use native.Mathlib.Omega.{arith}
 use lib.ListN.{length-set}
 use Rattle.questions.proofs.Logging.{nine-set}
 use borrow.Author.Needs.{needs}
+use Rattle.base.proofs.Known.{known}
 use Rattle.questions.proofs.logs.tell_log.Statement.{statement}
 use Rattle.questions.proofs.logs.tell_log.Tie as tie
 
@@ -41,7 +42,7 @@ pub tell-log-spec : {M : Type 1} → statement M
 tell-log-spec =
     tie.close
     (tie.spec
-    (λ c. search needs)
+    (λ c. search known)
     (λ c. search needs)
     (λ c. search needs)
     (λ c. search needs)
@@ -58,12 +59,12 @@ tell-log-spec =
     slice-write-figures-7
     slice-write-figures-8
     slice-write-figures-9
-    (λ c. search needs)
-    (λ c. search needs)
-    (λ c. search needs)
+    (λ c. search known)
+    (λ c. search known)
+    (λ c. search known)
     (λ c. search needs)
     same-length
     returns
-    (λ c. search needs)
-    (λ c. search needs)
-    (λ c. search needs))
+    (λ c. search known)
+    (λ c. search known)
+    (λ c. search known))

@@ -2,7 +2,7 @@
 use mathlib.Core.Path.{sym, _∙_}
 use borrow.Author.Tests.{not-true, not-false}
 use Rattle.questions.proofs.Dating.{bad-head, bad-date, named-slot}
-use borrow.Author.Needs.{needs}
+use Rattle.base.proofs.Known.{known}
 use Rattle.questions.proofs.names.sawmauve_slot.Statement.{statement}
 use Rattle.questions.proofs.names.sawmauve_slot.Tie as tie
 
@@ -40,12 +40,12 @@ pub sawmauve-slot-spec : {M : Type 1} → statement M
 sawmauve-slot-spec =
     tie.close
     (tie.spec
-    (λ c κs. search needs)
-    (λ c κs. search needs)
+    (λ c κs. search known)
+    (λ c κs. search known)
     returns
-    (λ c κs. search needs)
+    (λ c κs. search known)
     returns-2
     day-number-requires
-    (λ c κs. search needs)
-    (λ c κs. search needs)
+    (λ c κs. search known)
+    (λ c κs. search known)
     returns-3)

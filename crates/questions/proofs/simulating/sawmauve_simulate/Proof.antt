@@ -3,6 +3,7 @@ use mathlib.Core.Path.{sym, _∙_}
 use borrow.Author.Tests.{not-true, not-false}
 use Rattle.questions.proofs.Reporting.{each, bad-head, bad-report, run-told}
 use borrow.Author.Needs.{needs}
+use Rattle.base.proofs.Known.{known}
 use Rattle.questions.proofs.simulating.sawmauve_simulate.Statement.{statement}
 use Rattle.questions.proofs.simulating.sawmauve_simulate.Tie as tie
 
@@ -59,18 +60,18 @@ pub sawmauve-simulate-spec : {M : Type 1} → statement M
 sawmauve-simulate-spec =
     tie.close
     (tie.spec
-    (λ c κs. search needs)
-    (λ c κs. search needs)
+    (λ c κs. search known)
+    (λ c κs. search known)
     returns
     returns-2
-    (λ c κs. search needs)
+    (λ c κs. search known)
     tell-requires
-    (λ c. search needs)
-    (λ c. search needs)
-    (λ c. search needs)
-    (λ c. search needs)
-    (λ c. search needs)
-    (λ c. search needs)
+    (λ c. search known)
+    (λ c. search known)
+    (λ c. search known)
+    (λ c. search known)
+    (λ c. search known)
+    (λ c. search known)
     same-length-7
     same-length-8
     same-length-9

@@ -9,6 +9,7 @@ use mir.ValLaws.{toZ-ofZ, toZ-pos}
 use mathlib.Core.Path.{refl}
 use Rattle.questions.proofs.Reporting.{two-set}
 use borrow.Author.Needs.{needs}
+use Rattle.base.proofs.Known.{known}
 use Rattle.questions.proofs.simulating.tell.Statement.{statement}
 use Rattle.questions.proofs.simulating.tell.Tie as tie
 
@@ -33,12 +34,12 @@ pub tell-spec : {M : Type 1} → statement M
 tell-spec =
     tie.close
     (tie.spec
+    (λ c. search known)
     (λ c. search needs)
     (λ c. search needs)
     (λ c. search needs)
+    (λ c. search known)
     (λ c. search needs)
-    (λ c. search needs)
-    (λ c. search needs)
-    (λ c. search needs)
+    (λ c. search known)
     returns
-    (λ c. search needs))
+    (λ c. search known))

@@ -1,6 +1,7 @@
 -- `filling::fill_cause`: an agreed slot has its value, another goes by the rules.
 use mathlib.Core.Path.{_∙_}
 use borrow.Author.Needs.{needs}
+use Rattle.base.proofs.Known.{known}
 use borrow.Author.Tests.{lt-ltb}
 use Rattle.rules.specs.Filling.{isAgreed, shapeOf}
 use Rattle.rules.specs.Lent.{slots, agreedLists}
@@ -67,12 +68,12 @@ pub fill-cause-spec : {M : Type 1} → statement M
 fill-cause-spec =
     tie.close
     (tie.spec
-    (λ c κs. search needs)
+    (λ c κs. search known)
     (λ c. search needs)
     (λ c. search needs)
     (λ c. search needs)
     (λ c. search needs)
-    (λ c κs. search needs)
+    (λ c κs. search known)
     returns
     unscaled-requires
     returns-2)

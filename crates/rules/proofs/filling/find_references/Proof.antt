@@ -4,7 +4,7 @@ use mathlib.Core.Path.{_≡_, refl, sym, ap, _∙_}
 use Prim.Native.Nat.{ℕ, _+_, _-_, _*_, _/_, _≤_, _<_}
 use native.Mathlib.Nat.{mul-le-mul}
 use native.Mathlib.Omega.{arith}
-use borrow.Author.Needs.{needs}
+use Rattle.base.proofs.Known.{known}
 use lib.ListN.{length}
 use Rattle.rules.specs.declared.Head.{Head}
 use Rattle.rules.specs.Opening.{Slots, slotsPerDay, slotCount}
@@ -265,7 +265,7 @@ find-references-spec =
     (tie.spec
     Inv-weeks
     μ-weeks
-    (λ c κs. search needs)
+    (λ c κs. search known)
     mul-week
     way-back-requires
     add-begin

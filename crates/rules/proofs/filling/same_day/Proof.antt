@@ -9,7 +9,7 @@ use Rattle.rules.specs.Lent.{slots}
 use Rattle.rules.proofs.References.{from-none, from-some}
 use Rattle.rules.proofs.Searches.{first-places}
 use Rattle.rules.proofs.Shapes.{shape-exact, references-few}
-use borrow.Author.Needs.{needs}
+use Rattle.base.proofs.Known.{known}
 use Rattle.rules.proofs.filling.same_day.Statement.{statement}
 use Rattle.rules.proofs.filling.same_day.Tie as tie
 
@@ -70,8 +70,8 @@ pub same-day-spec : {M : Type 1} → statement M
 same-day-spec =
     tie.close
     (tie.spec
-    (λ c κs. search needs)
-    (λ c κs. search needs)
+    (λ c κs. search known)
+    (λ c κs. search known)
     returns
     mean-of-requires
     shape-of-requires

@@ -4,6 +4,7 @@ use native.Mathlib.Nat.{mul-le-mul}
 use native.Mathlib.Omega.{arith}
 use Rattle.rules.proofs.Shapes.{shape-whole}
 use borrow.Author.Needs.{needs}
+use Rattle.base.proofs.Known.{known}
 use Rattle.rules.proofs.filling.shape_of.Statement.{statement}
 use Rattle.rules.proofs.filling.shape_of.Tie as tie
 
@@ -26,4 +27,4 @@ mul-result c = let p : c .before .before .before .args .mean .mean ≤ 4_294_967
 pub shape-of-spec : {M : Type 1} → statement M
 shape-of-spec =
     tie.close
-    (tie.spec (λ c. search needs) (λ c. search needs) mul-sum (λ c. search needs) add-sum mul-result (λ c. search needs) returns)
+    (tie.spec (λ c. search needs) (λ c. search needs) mul-sum (λ c. search needs) add-sum mul-result (λ c. search known) returns)

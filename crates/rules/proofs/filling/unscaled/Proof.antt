@@ -3,6 +3,7 @@ use mathlib.Core.Path.{refl, ap, _∙_}
 use Prim.Native.Nat.{ℕ}
 use borrow.Author.Tests.{lt-ltb, le-ltb}
 use borrow.Author.Needs.{needs}
+use Rattle.base.proofs.Known.{known}
 use Rattle.rules.specs.declared.Outcome.{Outcome}
 use Rattle.rules.specs.declared.Quality.the-variants.{S}
 use Rattle.rules.specs.Filling.{shapeOf}
@@ -50,5 +51,5 @@ returns-3 c =
 pub unscaled-spec : {M : Type 1} → statement M
 unscaled-spec =
     tie.close
-    (tie.spec (λ c κs. search needs) returns line-value-requires (λ c. search needs) (λ c. search needs) returns-2 (λ c κs. search needs)
+    (tie.spec (λ c κs. search known) returns line-value-requires (λ c. search needs) (λ c. search needs) returns-2 (λ c κs. search known)
     returns-3)

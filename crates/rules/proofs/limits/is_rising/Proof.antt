@@ -1,6 +1,6 @@
 -- `limits::is_rising`. Every limit passed rises, so the test of all is that of those left; the one before is known.
 use mathlib.Core.List.{List}
-use borrow.Author.Needs.{needs}
+use Rattle.base.proofs.Known.{known}
 use mathlib.Core.Path.{_≡_, sym, _∙_}
 use Prim.Native.Nat.{ℕ, _≤_, _-_, zero-le}
 use native.Mathlib.Nat.{sub-zero}
@@ -75,7 +75,7 @@ is-rising-spec =
     Inv-loop
     μ-loop
     loop-holds
-    (λ c. search needs)
+    (λ c. search known)
     (λ c. omega arith)
     returns
     returns-2

@@ -2,7 +2,7 @@
 use mathlib.Core.Bool.{and-true}
 use borrow.Author.Tests.{le-leb, lt-leb}
 use Rattle.rules.specs.Limits.{tableOk}
-use borrow.Author.Needs.{needs}
+use Rattle.base.proofs.Known.{known}
 use Rattle.rules.proofs.limits.table_ok.Statement.{statement}
 use Rattle.rules.proofs.limits.table_ok.Tie as tie
 
@@ -19,4 +19,4 @@ unfolding tableOk
 returns-3 c = simp (le-leb _ _ (c .before .before .if1 .left), le-leb _ _ (c .before .if2 .left), c .is-rising .ensures, and-true)
 
 pub table-ok-spec : {M : Type 1} → statement M
-table-ok-spec = tie.close (tie.spec returns returns-2 (λ c κs. search needs) returns-3)
+table-ok-spec = tie.close (tie.spec returns returns-2 (λ c κs. search known) returns-3)

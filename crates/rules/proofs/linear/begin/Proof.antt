@@ -8,6 +8,7 @@ use Rattle.rules.specs.Lent.{slots}
 use Rattle.rules.proofs.Bounds.{bounded, count-high}
 use Rattle.rules.proofs.Lines.{line-first-slot, line-no-left, line-no-right, line-ends, line-found}
 use borrow.Author.Needs.{needs}
+use Rattle.base.proofs.Known.{known}
 use Rattle.rules.proofs.linear.begin.Statement.{statement}
 use Rattle.rules.proofs.linear.begin.Tie as tie
 use Rattle.rules.proofs.linear.begin.Reads as readVersions
@@ -111,13 +112,13 @@ pub begin-spec : {M : Type 1} → statement M
 begin-spec =
     tie.close
     (tie.spec
-    (λ c κs. search needs)
+    (λ c κs. search known)
     returns
     is-good-requires
-    (λ c κs. search needs)
+    (λ c κs. search known)
     returns-2
-    (λ c κs. search needs)
-    (λ c κs. search needs)
+    (λ c κs. search known)
+    (λ c κs. search known)
     returns-3
     add-after
     cast-t12

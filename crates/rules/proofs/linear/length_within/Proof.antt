@@ -1,7 +1,7 @@
 -- `linear::length_within`. The k slots from slot `at` lie in the run, and the one before slot at + k is not zeroed.
 use mathlib.Core.List.{List}
 use Rattle.rules.specs.declared.Head.{Head}
-use borrow.Author.Needs.{needs}
+use Rattle.base.proofs.Known.{known}
 use mathlib.Core.Bool.{false}
 use mathlib.Core.Path.{_≡_, refl, sym, _∙_}
 use Prim.Native.Nat.{ℕ, suc, _+_, _-_, _≤_, _<_}
@@ -149,7 +149,7 @@ length-within-spec =
     returns
     is-good-requires
     returns-2
-    (λ c. search needs)
+    (λ c. search known)
     (λ c. omega arith)
     returns-3
     outage-zero-requires

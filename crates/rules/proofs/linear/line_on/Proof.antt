@@ -1,6 +1,7 @@
 -- `linear::line_on`: an agreed slot lies in no run.
 use mathlib.Core.Path.{_∙_}
 use borrow.Author.Needs.{needs}
+use Rattle.base.proofs.Known.{known}
 use Rattle.rules.specs.Lent.{slots}
 use Rattle.rules.proofs.Runs.{not-agreed, run-agreed}
 use Rattle.rules.proofs.Lines.{line-none}
@@ -38,4 +39,4 @@ returns-2 : tie.Need-returns-2
 returns-2 c = c .line-unagreed .ensures
 
 pub line-on-spec : {M : Type 1} → statement M
-line-on-spec = tie.close (tie.spec (λ c. search needs) (λ c. search needs) (λ c κs. search needs) returns line-unagreed-requires returns-2)
+line-on-spec = tie.close (tie.spec (λ c. search needs) (λ c. search needs) (λ c κs. search known) returns line-unagreed-requires returns-2)

@@ -5,7 +5,7 @@ use Rattle.rules.specs.Lent.{slots}
 use Rattle.rules.proofs.Bounds.{bounded, count-high}
 use Rattle.rules.proofs.Runs.{run-holds, run-zeroed}
 use Rattle.rules.proofs.Lines.{line-none, line-fresh, line-place, line-kept}
-use borrow.Author.Needs.{needs}
+use Rattle.base.proofs.Known.{known}
 use Rattle.rules.proofs.linear.line_unagreed.Statement.{statement}
 use Rattle.rules.proofs.linear.line_unagreed.Tie as tie
 
@@ -68,4 +68,4 @@ returns-3 c =
     (begun .pre .6) (c .before .if2 .left)
 
 pub line-unagreed-spec : {M : Type 1} → statement M
-line-unagreed-spec = tie.close (tie.spec (λ c κs. search needs) returns begin-requires returns-2 add-place returns-3)
+line-unagreed-spec = tie.close (tie.spec (λ c κs. search known) returns begin-requires returns-2 add-place returns-3)

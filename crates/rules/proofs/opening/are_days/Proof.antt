@@ -2,7 +2,7 @@
 use mathlib.Core.Bool.{true, and-true}
 use mathlib.Core.Path.{_≡_, sym, _∙_}
 use borrow.Author.Tests.{le-leb, lt-leb, not-true, not-false}
-use borrow.Author.Needs.{needs}
+use Rattle.base.proofs.Known.{known}
 use Rattle.calendar.specs.Calendar.{isDate}
 use Rattle.rules.proofs.opening.are_days.Statement.{statement}
 use Rattle.rules.proofs.opening.are_days.Tie as tie
@@ -43,4 +43,4 @@ returns-4 c =
     )
 
 pub are-days-spec : {M : Type 1} → statement M
-are-days-spec = tie.close (tie.spec (λ c κs. search needs) returns returns-2 returns-3 ends-in-time-requires returns-4)
+are-days-spec = tie.close (tie.spec (λ c κs. search known) returns returns-2 returns-3 ends-in-time-requires returns-4)

@@ -3,6 +3,7 @@ use mathlib.Core.Path.{sym, _∙_}
 use native.Mathlib.Omega.{arith}
 use Rattle.rules.proofs.Outages.{gap, delivered, zero-none, zero-first, zero-kept, zero-before, zero-after}
 use borrow.Author.Needs.{needs}
+use Rattle.base.proofs.Known.{known}
 use Rattle.rules.proofs.outage.outage_zero.Statement.{statement}
 use Rattle.rules.proofs.outage.outage_zero.Tie as tie
 
@@ -60,8 +61,8 @@ pub outage-zero-spec : {M : Type 1} → statement M
 outage-zero-spec =
     tie.close
     (tie.spec
-    (λ c. search needs)
-    (λ c. search needs)
+    (λ c. search known)
+    (λ c. search known)
     returns
     (λ c κs. search needs)
     returns-2
@@ -70,7 +71,7 @@ outage-zero-spec =
     (λ c. search needs)
     returns-3
     (λ c. search needs)
-    (λ c κs. search needs)
+    (λ c κs. search known)
     returns-4
     (λ c κs. search needs)
     returns-5)

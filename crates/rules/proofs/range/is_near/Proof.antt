@@ -7,6 +7,7 @@ use borrow.Author.Tests.{le-leb, lt-leb}
 use lib.Dec.{leb}
 use Rattle.rules.specs.Spans.{isNear}
 use borrow.Author.Needs.{needs}
+use Rattle.base.proofs.Known.{known}
 use Rattle.rules.proofs.range.is_near.Statement.{statement}
 use Rattle.rules.proofs.range.is_near.Tie as tie
 
@@ -34,4 +35,4 @@ returns-2 c = let a = start c .args in
 
 pub is-near-spec : {M : Type 1} → statement M
 is-near-spec =
-    tie.close (tie.spec (λ c. search needs) (λ c κs. search needs) returns (λ c. search needs) (λ c κs. search needs) returns-2)
+    tie.close (tie.spec (λ c. search needs) (λ c κs. search known) returns (λ c. search needs) (λ c κs. search known) returns-2)

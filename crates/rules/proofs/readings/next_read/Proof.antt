@@ -1,6 +1,6 @@
 -- `readings::next_read`. From boundary d on the answer is that from the start.
 use mathlib.Core.List.{List}
-use borrow.Author.Needs.{needs}
+use Rattle.base.proofs.Known.{known}
 use mathlib.Core.Path.{_≡_, refl, sym, _∙_}
 use Prim.Native.Nat.{ℕ, _≤_, _-_}
 use native.Mathlib.Omega.{arith}
@@ -58,7 +58,7 @@ next-read-spec =
     Inv-loop
     μ-loop
     loop-holds
-    (λ c. search needs)
+    (λ c. search known)
     (λ c. omega arith)
     returns
     (λ c. omega arith)

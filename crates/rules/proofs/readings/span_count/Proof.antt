@@ -1,6 +1,6 @@
 -- `readings::span_count`. After d boundaries the count is that of the boundaries passed that have a reading.
 use mathlib.Core.List.{List}
-use borrow.Author.Needs.{needs}
+use Rattle.base.proofs.Known.{known}
 use mathlib.Core.Logic.{⊎-elim}
 use mathlib.Core.Path.{_≡_, sym, ap}
 use Prim.Native.Nat.{ℕ, _-_, _≤_, zero-le}
@@ -62,7 +62,7 @@ span-count-spec =
     Inv-loop
     μ-loop
     loop-holds
-    (λ c. search needs)
+    (λ c. search known)
     (λ c. omega arith)
     (λ c. omega arith)
     (λ c. omega arith)

@@ -2,6 +2,7 @@
 use mathlib.Core.Path.{_∙_}
 use Rattle.rules.proofs.Summaries.{added-actual, added-substituted, added-agreed, added-none}
 use borrow.Author.Needs.{needs}
+use Rattle.base.proofs.Known.{known}
 use Rattle.rules.proofs.spans.add.Statement.{statement}
 use Rattle.rules.proofs.spans.add.Tie as tie
 
@@ -29,14 +30,14 @@ add-spec =
     tie.close
     (tie.spec
     (λ c. search needs)
-    (λ c. search needs)
+    (λ c. search known)
     (λ c κs. search needs)
+    (λ c. search known)
     (λ c. search needs)
     (λ c. search needs)
-    (λ c. search needs)
-    (λ c. search needs)
+    (λ c. search known)
     (λ c κs. search needs)
-    (λ c. search needs)
+    (λ c. search known)
     returns
     returns-2
     returns-3

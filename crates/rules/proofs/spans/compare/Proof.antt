@@ -4,6 +4,7 @@ use lib.ListN.{getD}
 use Rattle.rules.proofs.Ranges.{advance-below}
 use Rattle.rules.specs.Inner.Summaries.{comparedWith}
 use borrow.Author.Needs.{needs}
+use Rattle.base.proofs.Known.{known}
 use Rattle.rules.proofs.spans.compare.Statement.{statement}
 use Rattle.rules.proofs.spans.compare.Tie as tie
 
@@ -49,7 +50,7 @@ compare-spec =
     (λ c. search needs)
     (λ c. search needs)
     range-of-requires
-    (λ c κs. search needs)
+    (λ c κs. search known)
     (λ c. search needs)
-    (λ c κs. search needs)
+    (λ c κs. search known)
     returns)

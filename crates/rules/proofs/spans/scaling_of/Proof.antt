@@ -1,7 +1,7 @@
 -- `spans::scaling_of`: each e counts as 1 where all are 0.
 use borrow.Author.Tests.{eq-eqb, ne-eqb}
 use Rattle.rules.specs.Inner.Summaries.{scalingOf}
-use borrow.Author.Needs.{needs}
+use Rattle.base.proofs.Known.{known}
 use Rattle.rules.proofs.spans.scaling_of.Statement.{statement}
 use Rattle.rules.proofs.spans.scaling_of.Tie as tie
 
@@ -14,4 +14,4 @@ unfolding scalingOf
 returns-2 c = simp (ne-eqb _ _ (c .before .if1 .left))
 
 pub scaling-of-spec : {M : Type 1} → statement M
-scaling-of-spec = tie.close (tie.spec (λ c. search needs) returns (λ c. search needs) returns-2)
+scaling-of-spec = tie.close (tie.spec (λ c. search known) returns (λ c. search known) returns-2)

@@ -2,7 +2,7 @@
 use mathlib.Core.Path.{sym, _∙_}
 use borrow.Author.Tests.{le-leb, lt-leb}
 use Rattle.rules.specs.Spans.{stateBy}
-use borrow.Author.Needs.{needs}
+use Rattle.base.proofs.Known.{known}
 use Rattle.rules.proofs.spans.state_of.Statement.{statement}
 use Rattle.rules.proofs.spans.state_of.Tie as tie
 
@@ -28,4 +28,4 @@ returns-5 c = simp (c .before .before .before .if1 .left, c .before .before .if2
 
 pub state-of-spec : {M : Type 1} → statement M
 state-of-spec =
-    tie.close (tie.spec returns returns-2 returns-3 (λ c κs. search needs) returns-4 returns-5)
+    tie.close (tie.spec returns returns-2 returns-3 (λ c κs. search known) returns-4 returns-5)

@@ -5,7 +5,7 @@ use mathlib.Core.Path.{_≡_, refl, sym, ap, _∙_}
 use Prim.Native.Nat.{ℕ, _+_, _-_, _≤_, _<_, zero-le}
 use native.Mathlib.Nat.{add-zero}
 use native.Mathlib.Omega.{arith}
-use borrow.Author.Needs.{needs}
+use Rattle.base.proofs.Known.{known}
 use Rattle.base.specs.Lists.{sum, any}
 use Rattle.rules.specs.declared.Head.{Head}
 use Rattle.rules.specs.declared.linear.StraightLine.{StraightLine}
@@ -268,7 +268,7 @@ summarise-spec =
     loop-holds
     add-at
     add-up-requires
-    (λ c κs. search needs)
+    (λ c κs. search known)
     add-actual-requires
     sub-k
     loop-less

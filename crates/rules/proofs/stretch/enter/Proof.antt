@@ -11,7 +11,7 @@ use Rattle.rules.specs.Inner.Stretches.{nextMeant}
 use Rattle.rules.proofs.Bounds.{bounded, day-below}
 use Rattle.rules.proofs.Boundaries.{next-tells}
 use Rattle.rules.proofs.Stretches.{carried-on, carried-ends, begins-some, begins-none, stretch-some, stretch-none, next-behind}
-use borrow.Author.Needs.{needs}
+use Rattle.base.proofs.Known.{known}
 use Rattle.rules.proofs.stretch.enter.Statement.{statement}
 use Rattle.rules.proofs.stretch.enter.Tie as tie
 
@@ -129,17 +129,17 @@ pub enter-spec : {M : Type 1} → statement M
 enter-spec =
     tie.close
     (tie.spec
-    (λ c κs. search needs)
+    (λ c κs. search known)
     returns
     slots-per-day-requires
     div-day
     add-next-read
     next-read-requires
-    (λ c. search needs)
+    (λ c. search known)
     reach-requires
-    (λ c. search needs)
-    (λ c κs. search needs)
-    (λ c κs. search needs)
-    (λ c κs. search needs)
+    (λ c. search known)
+    (λ c κs. search known)
+    (λ c κs. search known)
+    (λ c κs. search known)
     returns-2
     returns-3)

@@ -5,6 +5,7 @@ use borrow.Author.Tests.{eq-eqb, ne-eqb, not-true, not-false}
 use Rattle.rules.specs.Spans.{isS}
 use Rattle.rules.specs.Inner.Stretches.{fitOutcome, fitNext}
 use borrow.Author.Needs.{needs}
+use Rattle.base.proofs.Known.{known}
 use Rattle.rules.proofs.stretch.fit.Statement.{statement}
 use Rattle.rules.proofs.stretch.fit.Tie as tie
 
@@ -43,4 +44,4 @@ returns-3 c =
 
 pub fit-spec : {M : Type 1} → statement M
 fit-spec =
-    tie.close (tie.spec returns (λ c κs. search needs) returns-2 scale-requires (λ c. search needs) returns-3)
+    tie.close (tie.spec returns (λ c κs. search known) returns-2 scale-requires (λ c. search needs) returns-3)

@@ -12,6 +12,7 @@ use Rattle.rules.proofs.Bounds.{bounded}
 use Rattle.rules.proofs.Places.{slots-within}
 use Rattle.rules.proofs.SpanSums.{compared-advance, meet-span, meet-stretch}
 use borrow.Author.Needs.{needs}
+use Rattle.base.proofs.Known.{known}
 use Rattle.rules.proofs.stretch.meet.Statement.{statement}
 use Rattle.rules.proofs.stretch.meet.Tie as tie
 
@@ -97,7 +98,7 @@ pub meet-spec : {M : Type 1} → statement M
 meet-spec =
     tie.close
     (tie.spec
-    (λ c κs. search needs)
+    (λ c κs. search known)
     (λ c. search needs)
     mul-summarise
     summarise-requires

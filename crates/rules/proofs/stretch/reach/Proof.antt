@@ -11,6 +11,7 @@ use Rattle.rules.proofs.Bounds.{bounded}
 use Rattle.rules.proofs.SpanSums.{span-versions, stretch-versions}
 use Rattle.rules.proofs.Stretches.{is-read, unread}
 use borrow.Author.Needs.{needs}
+use Rattle.base.proofs.Known.{known}
 use Rattle.rules.proofs.stretch.reach.Statement.{statement}
 use Rattle.rules.proofs.stretch.reach.Tie as tie
 
@@ -76,8 +77,8 @@ reach-spec =
     shared-slice-read-if1
     slots-per-day-requires
     mul-unscaled-to
-    (λ c κs. search needs)
-    (λ c κs. search needs)
+    (λ c κs. search known)
+    (λ c κs. search known)
     returns
     meet-requires
     returns-2)

@@ -1,7 +1,7 @@
 -- `stretch::stretch_by` scales in state 1 only.
 use borrow.Author.Tests.{eq-eqb, ne-eqb}
 use Rattle.rules.specs.Inner.Stretches.{stretchBy}
-use borrow.Author.Needs.{needs}
+use Rattle.base.proofs.Known.{known}
 use Rattle.rules.proofs.stretch.stretch_by.Statement.{statement}
 use Rattle.rules.proofs.stretch.stretch_by.Tie as tie
 
@@ -17,4 +17,4 @@ unfolding stretchBy
 returns-2 c = rw (eq-eqb _ _ (c .before .if1 .left), c .scaling-of .ensures)
 
 pub stretch-by-spec : {M : Type 1} → statement M
-stretch-by-spec = tie.close (tie.spec (λ c κs. search needs) returns scaling-of-requires returns-2)
+stretch-by-spec = tie.close (tie.spec (λ c κs. search known) returns scaling-of-requires returns-2)

@@ -3,6 +3,7 @@ use mathlib.Core.Path.{_∙_}
 use borrow.Author.Tests.{eq-eqb}
 use Rattle.rules.specs.Tests.{causeOf, causeAt, goodAt}
 use borrow.Author.Needs.{needs}
+use Rattle.base.proofs.Known.{known}
 use Rattle.rules.proofs.tests.is_good.Statement.{statement}
 use Rattle.rules.proofs.tests.is_good.Tie as tie
 
@@ -26,6 +27,6 @@ is-good-spec =
     (λ c. search needs)
     (λ c. search needs)
     (λ c. search needs)
-    (λ c κs. search needs)
-    (λ c κs. search needs)
+    (λ c κs. search known)
+    (λ c κs. search known)
     returns-2)

@@ -7,6 +7,7 @@ use Rattle.rules.proofs.Outages.{zero-none, zero-applies, good-delivere
 use Rattle.rules.proofs.Lines.{line-none, walk-outage, walk-line, walk-next}
 use Rattle.rules.proofs.Shapes.{shape-good}
 use borrow.Author.Needs.{needs}
+use Rattle.base.proofs.Known.{known}
 use Rattle.rules.proofs.walk.fill_at.Statement.{statement}
 use Rattle.rules.proofs.walk.fill_at.Tie as tie
 
@@ -76,11 +77,11 @@ fill-at-spec =
     tie.close
     (tie.spec
     (λ c. search needs)
-    (λ c κs. search needs)
-    (λ c κs. search needs)
+    (λ c κs. search known)
+    (λ c κs. search known)
     (λ c. search needs)
     (λ c. search needs)
-    (λ c κs. search needs)
+    (λ c κs. search known)
     returns
     outage-zero-requires
     fill-cause-requires

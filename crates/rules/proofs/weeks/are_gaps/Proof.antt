@@ -1,6 +1,7 @@
 -- `weeks::are_gaps`: the four tests.
 use mathlib.Core.Path.{refl}
 use borrow.Author.Needs.{needs}
+use Rattle.base.proofs.Known.{known}
 use Rattle.rules.specs.Tests.{isGap}
 use Rattle.rules.specs.Inner.Ways.{fourGaps}
 use Rattle.rules.proofs.weeks.are_gaps.Statement.{statement}
@@ -26,7 +27,7 @@ are-gaps-spec =
     (λ c. search needs)
     (λ c. search needs)
     (λ c. search needs)
-    (λ c. search needs)
+    (λ c. search known)
     (λ c. search needs)
     (λ c. search needs)
     returns)

@@ -3,6 +3,7 @@ use mathlib.Core.Path.{_≡_, _∙_}
 use Prim.Native.Nat.{_+_}
 use native.Mathlib.Omega.{arith}
 use borrow.Author.Needs.{needs}
+use Rattle.base.proofs.Known.{known}
 use borrow.Author.Tests.{eq-eqb, ne-eqb}
 use lib.ListN.{getD}
 use Rattle.calendar.proofs.Sundays.{one-to-seven}
@@ -61,7 +62,7 @@ way-back-spec =
     (λ c. search needs)
     way-within-requires
     returns
-    (λ c κs. search needs)
+    (λ c κs. search known)
     (λ c. search needs)
     add-number
     to-sunday-requires

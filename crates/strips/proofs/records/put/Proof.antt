@@ -2,6 +2,7 @@
 use native.Mathlib.Omega.{arith}
 use native.Mathlib.Nat.{div-one}
 use borrow.Author.Needs.{needs}
+use Rattle.base.proofs.Known.{known}
 use lib.ListN.{length-set}
 use Rattle.strips.specs.Strips.{byteOf}
 use Rattle.strips.specs.Inner.Laying.{strewn}
@@ -46,5 +47,5 @@ put-spec =
     slice-write-out-5
     (λ c. search needs)
     slice-write-out-6
-    (λ c. search needs)
+    (λ c. search known)
     returns)

@@ -1,6 +1,7 @@
 -- `records::value` reads four bytes, step apart.
 use native.Mathlib.Omega.{arith}
 use borrow.Author.Needs.{needs}
+use Rattle.base.proofs.Known.{known}
 use Rattle.strips.proofs.Numbers.{number-spaced}
 use Rattle.strips.proofs.records.value.Statement.{statement}
 use Rattle.strips.proofs.records.value.Tie as tie
@@ -39,18 +40,18 @@ value-spec =
     tie.close
     (tie.spec
     (λ c. search needs)
-    (λ c κs. search needs)
+    (λ c κs. search known)
     (λ c. search needs)
     (λ c. search needs)
-    (λ c κs. search needs)
-    (λ c. search needs)
-    (λ c. search needs)
-    (λ c. search needs)
-    (λ c κs. search needs)
+    (λ c κs. search known)
     (λ c. search needs)
     (λ c. search needs)
     (λ c. search needs)
-    (λ c κs. search needs)
+    (λ c κs. search known)
+    (λ c. search needs)
+    (λ c. search needs)
+    (λ c. search known)
+    (λ c κs. search known)
     (λ c. search needs)
     (λ c. search needs)
     (λ c. search needs)

@@ -4,6 +4,7 @@ use mathlib.Core.Path.{ap₂}
 use Prim.Native.Nat.{_-_, _+_, _<_}
 use native.Mathlib.Omega.{arith}
 use borrow.Author.Needs.{needs}
+use Rattle.base.proofs.Known.{known}
 use lib.ListN.{length, getD}
 use Rattle.totals.specs.Inner.Adding.{holds, withDay}
 use Rattle.totals.specs.Stays.{firstOf, endOf}
@@ -62,13 +63,13 @@ add-day-spec =
     (λ c. search needs)
     (λ c. search needs)
     (λ c. search needs)
-    (λ c κs. search needs)
+    (λ c κs. search known)
     (λ c. search needs)
-    (λ c. search needs)
+    (λ c. search known)
     add-totals
-    (λ c. search needs)
+    (λ c. search known)
     (λ c. search needs)
     (λ c. search needs)
     loop-again
-    (λ c. search needs)
+    (λ c. search known)
     returns)

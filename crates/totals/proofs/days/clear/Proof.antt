@@ -2,6 +2,7 @@
 use mathlib.Core.Path.{refl}
 use Prim.Native.Nat.{_-_}
 use borrow.Author.Needs.{needs}
+use Rattle.base.proofs.Known.{known}
 use lib.ListN.{length}
 use Rattle.totals.proofs.Replaced.{Replaced, replaced-none, replaced-next, replaced-all}
 use Rattle.totals.proofs.days.clear.Statement.{statement}
@@ -30,9 +31,9 @@ clear-spec =
     μ-loop
     loop-holds
     (λ c. search needs)
-    (λ c. search needs)
+    (λ c. search known)
     (λ c. search needs)
     (λ c. search needs)
     loop-again
-    (λ c. search needs)
+    (λ c. search known)
     returns)

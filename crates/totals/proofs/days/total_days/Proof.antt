@@ -5,6 +5,7 @@ use Prim.Native.Nat.{ℕ, _-_, _≤_}
 use native.Mathlib.Nat.{mul-le-mul}
 use native.Mathlib.Omega.{arith}
 use borrow.Author.Needs.{needs}
+use Rattle.base.proofs.Known.{known}
 use lib.ListN.{length}
 use Rattle.file.specs.Contents.{Bytes}
 use Rattle.totals.specs.Inner.Adding.{totalsBefore}
@@ -98,7 +99,7 @@ total-days-spec =
     (tie.spec
     Inv-loop
     μ-loop
-    (λ c κs. search needs)
+    (λ c κs. search known)
     loop-holds
     (λ c. search needs)
     mul-sum-of

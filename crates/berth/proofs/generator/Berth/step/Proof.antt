@@ -1,6 +1,7 @@
 -- `generator::Berth::step`: two draws, and what each decides.
 use Rattle.berth.proofs.Draws.{two-draws, value-fits}
 use borrow.Author.Needs.{needs}
+use Rattle.base.proofs.Known.{known}
 use Rattle.berth.proofs.generator.Berth.step.Statement.{statement}
 use Rattle.berth.proofs.generator.Berth.step.Tie as tie
 
@@ -21,5 +22,5 @@ returns c =
 
 pub step-spec : {M : Type 1} → statement M
 step-spec =
-    tie.close (tie.spec (λ c κs. search needs) (λ c κs. search needs) (λ c. search needs) (λ c. search needs) (λ c. search needs) cast-t12
+    tie.close (tie.spec (λ c κs. search known) (λ c κs. search known) (λ c. search needs) (λ c. search needs) (λ c. search needs) cast-t12
     returns)
