@@ -4,14 +4,16 @@ use crate::say;
 use rules::limits;
 use rules::limits::Loaded;
 
-// Delivers slot 10 of a day and writes the answer.
-fn deliver_ten(
+// Makes a delivery to a day and writes the answer.
+fn deliver(
     values: &mut [u32],
     versions: &mut [u32],
     statuses: &mut [u8],
     counts: &mut [u16],
+    slot: u32,
     version: u32,
     value: u32,
+    status: u32,
 ) {
     let head = books::head_of(1, 30, 1);
     say::answer(book::deliver(
@@ -20,45 +22,45 @@ fn deliver_ten(
         versions,
         statuses,
         counts,
-        10,
+        slot,
         version,
         value,
-        0,
+        status,
     ));
 }
 
-// A delivery, and another behind it.
-fn two_deliveries(
+// Delivers slot 10, each call a version and a value.
+fn deliver_each(
     values: &mut [u32],
     versions: &mut [u32],
     statuses: &mut [u8],
     counts: &mut [u16],
-    first: [u32; 2],
-    second: [u32; 2],
+    calls: &[[u32; 2]],
 ) {
-    deliver_ten(values, versions, statuses, counts, first[0], first[1]);
-    deliver_ten(values, versions, statuses, counts, second[0], second[1]);
+    let mut i = 0;
+    while i < calls.len() {
+        let call = calls[i];
+        deliver(values, versions, statuses, counts, 10, call[0], call[1], 0);
+        i += 1;
+    }
 }
 
 // A lower version is late and accepted; the same call again is repeat; an equal version with other content conflicts.
-fn four_deliveries(
-    values: &mut [u32],
-    versions: &mut [u32],
-    statuses: &mut [u8],
-    counts: &mut [u16],
-) {
-    two_deliveries(values, versions, statuses, counts, [2, 100], [1, 900]);
-    two_deliveries(values, versions, statuses, counts, [2, 100], [2, 900]);
-}
-
 // A book of zeros is an open one.
 pub fn late() {
     let mut values = [0u32; 48];
     let mut versions = [0u32; 48];
     let mut statuses = [0u8; 48];
     let mut counts = [0u16; 1];
+    let calls = [[2, 100], [1, 900], [2, 100], [2, 900]];
     say::text(b"late as a refusal:");
-    four_deliveries(&mut values, &mut versions, &mut statuses, &mut counts);
+    deliver_each(
+        &mut values,
+        &mut versions,
+        &mut statuses,
+        &mut counts,
+        &calls,
+    );
     say::text(b"\n");
 }
 
@@ -68,9 +70,7 @@ fn refuse(slot: u32, version: u32) {
     let mut versions = [0u32; 48];
     let mut statuses = [0u8; 48];
     let mut counts = [0u16; 1];
-    let head = books::head_of(1, 30, 1);
-    say::answer(book::deliver(
-        head,
+    deliver(
         &mut values,
         &mut versions,
         &mut statuses,
@@ -79,7 +79,7 @@ fn refuse(slot: u32, version: u32) {
         version,
         100,
         8,
-    ));
+    );
 }
 
 // A delivery that is wrong in its status, and with it in what stands before: the lowest number that applies is given.
@@ -99,13 +99,15 @@ fn deliver_counted(count: u16, old_version: u32, old_value: u32, version: u32, v
     let mut counts = [count];
     versions[10] = old_version;
     values[10] = old_value;
-    deliver_ten(
+    deliver(
         &mut values,
         &mut versions,
         &mut statuses,
         &mut counts,
+        10,
         version,
         value,
+        0,
     );
 }
 
@@ -155,23 +157,25 @@ fn load(table: &[u32], kind: u32) {
     }
 }
 
+// Loads a place of a table of two.
+fn load_of_two(first: u32, second: u32, kind: u32) {
+    let table = [first, second];
+    load(&table, kind);
+}
+
 // The first and last place of a table, and the places beside them; then tables that are none.
 pub fn limits() {
-    let two = [40000, 70000];
     say::text(b"kinds 0 1 2 3 of 40000 70000:");
-    load(&two, 0);
-    load(&two, 1);
-    load(&two, 2);
-    load(&two, 3);
-    let equal = [40000, 40000];
-    let highest = [1, 1000000];
-    let over = [1, 1000001];
-    let zero = [0, 1];
+    load_of_two(40000, 70000, 0);
+    load_of_two(40000, 70000, 1);
+    load_of_two(40000, 70000, 2);
+    load_of_two(40000, 70000, 3);
     say::text(b"\ntables 40000 40000, 1 1000000, 1 1000001, 0 1 and none:");
-    load(&equal, 3);
-    load(&highest, 2);
-    load(&over, 1);
-    load(&zero, 1);
-    load(&zero[..0], 1);
+    load_of_two(40000, 40000, 3);
+    load_of_two(1, 1000000, 2);
+    load_of_two(1, 1000001, 1);
+    load_of_two(0, 1, 1);
+    let table = [0, 1];
+    load(&table[..0], 1);
     say::text(b"\n");
 }

@@ -1,9 +1,9 @@
 // Small books: opened, filled by rows, published.
-use base::Performed;
 use publishing::Published;
 use rules::Head;
 use rules::limits;
 use rules::limits::Loaded;
+use std::num::wrapping_add_u32;
 ghost use Prim.Native.Nat.{_≤_};
 
 // The limit of a kind in the table of 01's two kinds.
@@ -56,20 +56,54 @@ fn days_of(head: Head) -> usize
     1
 }
 
-// Delivers the slots from `first` up to `end` as version 1.
+// The deliveries of a row: the same to each slot from `first` up to `end`.
+struct Run {
+    first: u32,
+    end: u32,
+    version: u32,
+    value: u32,
+    status: u32,
+}
+
+// A row of another kind delivers to no slot.
+fn run_of(row: [u32; 5]) -> Run {
+    if row[0] == 1 {
+        return Run {
+            first: row[1],
+            end: row[2],
+            version: 1,
+            value: row[3],
+            status: row[4],
+        };
+    }
+    if row[0] == 5 {
+        return Run {
+            first: row[1],
+            end: wrapping_add_u32(row[1], 1),
+            version: row[2],
+            value: row[3],
+            status: row[4],
+        };
+    }
+    Run {
+        first: 0,
+        end: 0,
+        version: 0,
+        value: 0,
+        status: 0,
+    }
+}
+
 fn deliver_run(
     head: Head,
     values: &mut [u32],
     versions: &mut [u32],
     statuses: &mut [u8],
     counts: &mut [u16],
-    first: u32,
-    end: u32,
-    value: u32,
-    status: u32,
+    run: Run,
 ) {
-    let mut slot = first;
-    while slot < end {
+    let mut slot = run.first;
+    while slot < run.end {
         book::deliver(
             head,
             values,
@@ -77,79 +111,58 @@ fn deliver_run(
             statuses,
             counts,
             slot,
-            1,
-            value,
-            status,
+            run.version,
+            run.value,
+            run.status,
         );
         slot += 1;
     }
 }
 
-// A row 1 of a run, or 5 of one slot with its version.
-fn deliver_row(
+// A row is five numbers: 1 first end value status | 2 day 0 0 0 | 3 boundary version reading width | 4 slot version value 0
+// | 5 slot version value status. Calls of different kinds touch different lists, so each kind is filled by itself.
+fn fill_slots(
     head: Head,
     values: &mut [u32],
     versions: &mut [u32],
     statuses: &mut [u8],
     counts: &mut [u16],
-    row: [u32; 5],
+    rows: &[[u32; 5]],
 ) {
-    if row[0] == 5 {
-        book::deliver(
-            head,
-            values,
-            versions,
-            statuses,
-            counts,
-            row[1],
-            row[2],
-            row[3],
-            row[4],
-        );
-        return;
+    let mut i = 0;
+    while i < rows.len() {
+        let row = rows[i];
+        let run = run_of(row);
+        deliver_run(head, values, versions, statuses, counts, run);
+        i += 1;
     }
-    deliver_run(
-        head,
-        values,
-        versions,
-        statuses,
-        counts,
-        row[1],
-        row[2],
-        row[3],
-        row[4],
-    )
 }
 
-// One row of five numbers: 1 first end value status | 2 day 0 0 0 | 3 boundary version reading width | 4 slot version value 0
-// | 5 slot version value status.
-fn fill_row(
+fn holiday_row(head: Head, holidays: &mut [u8], row: [u32; 5]) {
+    if row[0] != 2 {
+        return;
+    }
+    book::holiday(head, holidays, row[1]);
+}
+
+fn fill_holidays(head: Head, holidays: &mut [u8], rows: &[[u32; 5]]) {
+    let mut i = 0;
+    while i < rows.len() {
+        let row = rows[i];
+        holiday_row(head, holidays, row);
+        i += 1;
+    }
+}
+
+fn register_row(
     head: Head,
-    values: &mut [u32],
-    versions: &mut [u32],
-    statuses: &mut [u8],
-    holidays: &mut [u8],
     readings: &mut [u32],
     read_versions: &mut [u32],
-    agreed: &mut [u32],
-    agreed_versions: &mut [u32],
-    counts: &mut [u16],
     widths: &mut [u16],
     row: [u32; 5],
 ) {
-    if row[0] == 1 {
-        return deliver_row(head, values, versions, statuses, counts, row);
-    }
-    if row[0] == 2 {
-        book::holiday(head, holidays, row[1]);
+    if row[0] != 3 {
         return;
-    }
-    if row[0] == 4 {
-        book::agree(head, agreed, agreed_versions, row[1], row[2], row[3]);
-        return;
-    }
-    if row[0] == 5 {
-        return deliver_row(head, values, versions, statuses, counts, row);
     }
     book::register(
         head,
@@ -163,87 +176,38 @@ fn fill_row(
     );
 }
 
-fn fill_rows(
+fn fill_registers(
     head: Head,
-    values: &mut [u32],
-    versions: &mut [u32],
-    statuses: &mut [u8],
-    holidays: &mut [u8],
     readings: &mut [u32],
     read_versions: &mut [u32],
-    agreed: &mut [u32],
-    agreed_versions: &mut [u32],
-    counts: &mut [u16],
     widths: &mut [u16],
     rows: &[[u32; 5]],
 ) {
     let mut i = 0;
     while i < rows.len() {
         let row = rows[i];
-        fill_row(
-            head,
-            values,
-            versions,
-            statuses,
-            holidays,
-            readings,
-            read_versions,
-            agreed,
-            agreed_versions,
-            counts,
-            widths,
-            row,
-        );
+        register_row(head, readings, read_versions, widths, row);
         i += 1;
     }
 }
 
-fn fill_and_publish(
-    head: Head,
-    values: &mut [u32],
-    versions: &mut [u32],
-    statuses: &mut [u8],
-    holidays: &mut [u8],
-    readings: &mut [u32],
-    read_versions: &mut [u32],
-    agreed: &mut [u32],
-    agreed_versions: &mut [u32],
-    counts: &mut [u16],
-    widths: &mut [u16],
-    rows: &[[u32; 5]],
-    file: &mut [u8],
-) -> Published {
-    fill_rows(
-        head,
-        values,
-        versions,
-        statuses,
-        holidays,
-        readings,
-        read_versions,
-        agreed,
-        agreed_versions,
-        counts,
-        widths,
-        rows,
-    );
-    publishing::publish(
-        head,
-        values,
-        versions,
-        statuses,
-        holidays,
-        readings,
-        read_versions,
-        agreed,
-        agreed_versions,
-        counts,
-        widths,
-        file,
-    )
+fn agree_row(head: Head, agreed: &mut [u32], agreed_versions: &mut [u32], row: [u32; 5]) {
+    if row[0] != 4 {
+        return;
+    }
+    book::agree(head, agreed, agreed_versions, row[1], row[2], row[3]);
 }
 
-// A refused opening gives its number.
+fn fill_agreed(head: Head, agreed: &mut [u32], agreed_versions: &mut [u32], rows: &[[u32; 5]]) {
+    let mut i = 0;
+    while i < rows.len() {
+        let row = rows[i];
+        agree_row(head, agreed, agreed_versions, row);
+        i += 1;
+    }
+}
+
+// What opening refuses publishing refuses too, with the same number, and each call between them changes nothing.
 fn publish_lent(
     head: Head,
     values: &mut [u32],
@@ -259,7 +223,7 @@ fn publish_lent(
     rows: &[[u32; 5]],
     file: &mut [u8],
 ) -> Published {
-    let opened = book::open(
+    book::open(
         head,
         values,
         versions,
@@ -272,10 +236,11 @@ fn publish_lent(
         counts,
         widths,
     );
-    if let Performed::Refused(n) = opened {
-        return Published::Refused(n);
-    }
-    fill_and_publish(
+    fill_slots(head, values, versions, statuses, counts, rows);
+    fill_holidays(head, holidays, rows);
+    fill_registers(head, readings, read_versions, widths, rows);
+    fill_agreed(head, agreed, agreed_versions, rows);
+    publishing::publish(
         head,
         values,
         versions,
@@ -287,7 +252,6 @@ fn publish_lent(
         agreed_versions,
         counts,
         widths,
-        rows,
         file,
     )
 }

@@ -14,11 +14,11 @@ record Held (values₀ versions₀ statuses₀ counts₀ values versions statuse
   long-counts : length counts ≡ length counts₀
 
 abbrev Inv-loop : tie.InvT-loop
-Inv-loop head values₀ versions₀ statuses₀ counts₀ first end value status slot₀ values versions statuses counts slot =
+Inv-loop head values₀ versions₀ statuses₀ counts₀ run slot₀ values versions statuses counts slot =
     Held values₀ versions₀ statuses₀ counts₀ values versions statuses counts
 
 abbrev μ-loop : tie.MeasureT-loop
-μ-loop head values₀ versions₀ statuses₀ counts₀ first end value status slot₀ values versions statuses counts slot = end - slot
+μ-loop head values₀ versions₀ statuses₀ counts₀ run slot₀ values versions statuses counts slot = run .end - slot
 
 pub deliver-run-spec : {M : Type 1} → statement M
 deliver-run-spec =

@@ -6,135 +6,97 @@ use Rattle.cases.proofs.books.publish_lent.Tie as tie
 
 -- ---- Places
 
-abbrev after-versions : tie.After-holidays → tie.After-versions
-after-versions c = c .before .before .before .before
+abbrev after-agreed-versions2 : tie.After-file → tie.After-agreed-versions2
+after-agreed-versions2 c =
+    c .before .before .before .before .before .before .before .before .before .before .before .before .before .before
 
-abbrev after-holidays : tie.After-read-versions → tie.After-holidays
-after-holidays c = c .before .before .before .before
+abbrev after-widths2 : tie.After-file → tie.After-widths2
+after-widths2 c = after-agreed-versions2 c .before .before .before .before .before .before .before
 
-abbrev after-read-versions : tie.After-agreed-versions → tie.After-read-versions
-after-read-versions c = c .before .before .before .before
+abbrev after-read-versions2 : tie.After-file → tie.After-read-versions2
+after-read-versions2 c = after-widths2 c .before .before
 
-abbrev after-agreed-versions : tie.After-widths → tie.After-agreed-versions
-after-agreed-versions c = c .before .before .before .before
-
-abbrev after-widths : tie.After-values2 → tie.After-widths
-after-widths c =
-    c .before .before .before .before .before .before .before .before .before .before .before .before .before .before .before .before
-
-abbrev after-values2 : tie.After-statuses2 → tie.After-values2
-after-values2 c = c .before .before .before .before
-
-abbrev after-statuses2 : tie.After-readings2 → tie.After-statuses2
-after-statuses2 c = c .before .before .before .before
-
-abbrev after-readings2 : tie.After-agreed2 → tie.After-readings2
-after-readings2 c = c .before .before .before .before
-
-abbrev after-agreed2 : tie.After-counts2 → tie.After-agreed2
-after-agreed2 c = c .before .before .before .before
+abbrev after-holidays2 : tie.After-file → tie.After-holidays2
+after-holidays2 c = after-read-versions2 c .before .before .before .before .before .before .before .before
 
 abbrev after-counts2 : tie.After-file → tie.After-counts2
-after-counts2 c = c .before .before .before .before
+after-counts2 c = after-holidays2 c .before .before .before .before
+
+abbrev after-versions2 : tie.After-file → tie.After-versions2
+after-versions2 c = after-counts2 c .before .before .before .before
+
+abbrev after-widths : tie.After-file → tie.After-widths
+after-widths c = after-versions2 c .before .before .before .before .before .before .before .before .before
+
+abbrev after-agreed-versions : tie.After-file → tie.After-agreed-versions
+after-agreed-versions c = after-widths c .before .before .before .before
+
+abbrev after-read-versions : tie.After-file → tie.After-read-versions
+after-read-versions c = after-agreed-versions c .before .before .before .before
+
+abbrev after-holidays : tie.After-file → tie.After-holidays
+after-holidays c = after-read-versions c .before .before .before .before
+
+abbrev after-versions : tie.After-file → tie.After-versions
+after-versions c = after-holidays c .before .before .before .before
 
 -- ---- Needs
 
-same-length-11 : tie.Need-same-length-11
-same-length-11 c =
-    let at-agreed2 = after-agreed2 (after-counts2 (c .before)) in
-    let at-statuses2 = after-statuses2 (after-readings2 at-agreed2) in
-    after-values2 at-statuses2 .values2 .given
-    ∙ after-versions (after-holidays
-    (after-read-versions (after-agreed-versions (after-widths (after-values2 at-statuses2))))) .before .before .values .given
+same-length : tie.Need-same-length
+same-length c =
+    after-versions2 (c .before) .before .before .values2 .given ∙ after-versions (c .before) .before .before .values .given
 
-same-length-12 : tie.Need-same-length-12
-same-length-12 c =
-    let at-agreed2 = after-agreed2 (after-counts2 (c .before)) in
-    let at-statuses2 = after-statuses2 (after-readings2 at-agreed2) in
-    at-statuses2 .before .before .versions2 .given
-    ∙ after-versions (after-holidays (after-read-versions
-    (after-agreed-versions (after-widths (after-values2 at-statuses2))))) .versions .given
+same-length-2 : tie.Need-same-length-2
+same-length-2 c = after-versions2 (c .before) .versions2 .given ∙ after-versions (c .before) .versions .given
 
-same-length-13 : tie.Need-same-length-13
-same-length-13 c =
-    let at-agreed2 = after-agreed2 (after-counts2 (c .before)) in
-    let at-statuses2 = after-statuses2 (after-readings2 at-agreed2) in
-    at-statuses2 .statuses2 .given
-    ∙ after-holidays (after-read-versions (after-agreed-versions
-    (after-widths (after-values2 at-statuses2)))) .before .before .statuses .given
+same-length-3 : tie.Need-same-length-3
+same-length-3 c =
+    after-counts2 (c .before) .before .before .statuses2 .given ∙ after-holidays (c .before) .before .before .statuses .given
 
-same-length-14 : tie.Need-same-length-14
-same-length-14 c =
-    let at-agreed2 = after-agreed2 (after-counts2 (c .before)) in
-    after-readings2 at-agreed2 .before .before .holidays2 .given
-    ∙ after-holidays (after-read-versions
-    (after-agreed-versions (after-widths (after-values2 (after-statuses2 (after-readings2 at-agreed2)))))) .holidays .given
+same-length-4 : tie.Need-same-length-4
+same-length-4 c = after-holidays2 (c .before) .holidays2 .given ∙ after-holidays (c .before) .holidays .given
 
-same-length-15 : tie.Need-same-length-15
-same-length-15 c =
-    let at-agreed2 = after-agreed2 (after-counts2 (c .before)) in
-    after-readings2 at-agreed2 .readings2 .given
-    ∙ after-read-versions (after-agreed-versions
-    (after-widths (after-values2 (after-statuses2 (after-readings2 at-agreed2))))) .before .before .readings .given
+same-length-5 : tie.Need-same-length-5
+same-length-5 c =
+    after-read-versions2 (c .before) .before .before .readings2 .given ∙ after-read-versions (c .before) .before .before .readings .given
 
-same-length-16 : tie.Need-same-length-16
-same-length-16 c =
-    let at-agreed2 = after-agreed2 (after-counts2 (c .before)) in
-    at-agreed2 .before .before .read-versions2 .given
-    ∙ after-read-versions (after-agreed-versions (after-widths
-    (after-values2 (after-statuses2 (after-readings2 at-agreed2))))) .read-versions .given
+same-length-6 : tie.Need-same-length-6
+same-length-6 c = after-read-versions2 (c .before) .read-versions2 .given ∙ after-read-versions (c .before) .read-versions .given
 
-same-length-17 : tie.Need-same-length-17
-same-length-17 c =
-    let at-agreed2 = after-agreed2 (after-counts2 (c .before)) in
-    at-agreed2 .agreed2 .given
-    ∙ after-agreed-versions (after-widths (after-values2 (after-statuses2 (after-readings2 at-agreed2)))) .before .before .agreed .given
+same-length-7 : tie.Need-same-length-7
+same-length-7 c =
+    after-agreed-versions2 (c .before) .before .before .agreed2 .given
+    ∙ after-agreed-versions (c .before) .before .before .agreed .given
 
-same-length-18 : tie.Need-same-length-18
-same-length-18 c =
-    after-counts2 (c .before) .before .before .agreed-versions2 .given
-    ∙ after-agreed-versions
-    (after-widths (after-values2 (after-statuses2 (after-readings2 (after-agreed2 (after-counts2 (c .before))))))) .agreed-versions .given
+same-length-8 : tie.Need-same-length-8
+same-length-8 c =
+    after-agreed-versions2 (c .before) .agreed-versions2 .given ∙ after-agreed-versions (c .before) .agreed-versions .given
 
-same-length-19 : tie.Need-same-length-19
-same-length-19 c =
-    after-counts2 (c .before) .counts2 .given
-    ∙ after-widths (after-values2
-    (after-statuses2 (after-readings2 (after-agreed2 (after-counts2 (c .before)))))) .before .before .counts .given
+same-length-9 : tie.Need-same-length-9
+same-length-9 c = after-counts2 (c .before) .counts2 .given ∙ after-widths (c .before) .before .before .counts .given
 
-same-length-20 : tie.Need-same-length-20
-same-length-20 c =
-    c .before .before .before .widths2 .given
-    ∙ after-widths (after-values2 (after-statuses2 (after-readings2 (after-agreed2 (after-counts2 (c .before)))))) .widths .given
+same-length-10 : tie.Need-same-length-10
+same-length-10 c = after-widths2 (c .before) .widths2 .given ∙ after-widths (c .before) .widths .given
 
 pub publish-lent-spec : {M : Type 1} → statement M
 publish-lent-spec =
     tie.close
     (tie.spec
     (λ c κs. search needs)
-    (λ c. search needs)
-    (λ c. search needs)
-    (λ c. search needs)
-    (λ c. search needs)
-    (λ c. search needs)
-    (λ c. search needs)
-    (λ c. search needs)
-    (λ c. search needs)
-    (λ c. search needs)
-    (λ c. search needs)
-    (λ c. search needs)
-    (λ c. search needs)
-    (λ c. search needs)
     (λ c κs. search needs)
-    same-length-11
-    same-length-12
-    same-length-13
-    same-length-14
-    same-length-15
-    same-length-16
-    same-length-17
-    same-length-18
-    same-length-19
-    same-length-20
+    (λ c κs. search needs)
+    (λ c κs. search needs)
+    (λ c κs. search needs)
+    (λ c κs. search needs)
+    same-length
+    same-length-2
+    same-length-3
+    same-length-4
+    same-length-5
+    same-length-6
+    same-length-7
+    same-length-8
+    same-length-9
+    same-length-10
     (λ c. search needs)
     (λ c. search needs))
