@@ -11,7 +11,7 @@
 #define HEAD 2024, 5, 1, DAYS, 30, 40000, 500
 #define LENGTH (6 * SLOTS + 14 + 32)
 
-static uint32_t values[SLOTS], versions[SLOTS], readings[DAYS + 1], reads[DAYS + 1], agreed[SLOTS], agreed_versions[SLOTS];
+static uint32_t values[SLOTS], versions[SLOTS], readings[DAYS + 1], read_versions[DAYS + 1], agreed[SLOTS], agreed_versions[SLOTS];
 static uint16_t counts[DAYS], widths[DAYS + 1];
 static uint8_t statuses[SLOTS], holidays[DAYS], out[LENGTH];
 static int64_t report[SAWMAUVE_REPORT];
@@ -20,8 +20,8 @@ static uint64_t figures[SAWMAUVE_FIGURES];
 static uint32_t simulate(uint32_t seed, uint32_t loss, size_t room, size_t places)
 {
     return sawmauve_simulate(
-        HEAD, seed, loss, values, SLOTS, versions, SLOTS, statuses, SLOTS, holidays, DAYS, readings, DAYS + 1, reads, DAYS + 1, agreed, SLOTS,
-        agreed_versions, SLOTS, counts, DAYS, widths, DAYS + 1, out, room, report, places);
+        HEAD, seed, loss, values, SLOTS, versions, SLOTS, statuses, SLOTS, holidays, DAYS, readings, DAYS + 1, read_versions, DAYS + 1,
+        agreed, SLOTS, agreed_versions, SLOTS, counts, DAYS, widths, DAYS + 1, out, room, report, places);
 }
 
 int main(void)
@@ -31,7 +31,7 @@ int main(void)
     EXPECT(simulate(1, 1001, LENGTH, SAWMAUVE_REPORT) == 21);
     EXPECT(simulate(0, 0, LENGTH - 1, SAWMAUVE_REPORT) == 7);
     EXPECT(simulate(0, 0, LENGTH - 1, 1) == 2);
-    EXPECT(reads[0] == 0 && out[LENGTH - 1] == 0 && out[4] == 0);
+    EXPECT(read_versions[0] == 0 && out[LENGTH - 1] == 0 && out[4] == 0);
 
     /* Without losses the dial agrees, and nothing is missing. */
     EXPECT(simulate(1, 0, LENGTH, SAWMAUVE_REPORT) == SAWMAUVE_DONE);

@@ -11,7 +11,7 @@
 #define HEAD 2024, 5, 1, DAYS, 30, 40000, 0
 #define LENGTH (6 * SLOTS + 14 + 32)
 
-static uint32_t values[SLOTS], versions[SLOTS], readings[DAYS + 1], reads[DAYS + 1], agreed[SLOTS], agreed_versions[SLOTS];
+static uint32_t values[SLOTS], versions[SLOTS], readings[DAYS + 1], read_versions[DAYS + 1], agreed[SLOTS], agreed_versions[SLOTS];
 static uint16_t counts[DAYS], widths[DAYS + 1];
 static uint8_t statuses[SLOTS], holidays[DAYS], file[LENGTH];
 static uint64_t figures[SAWMAUVE_FIGURES];
@@ -22,7 +22,7 @@ static uint32_t take(uint32_t boundary, const uint8_t *dial, size_t dial_len)
     uint32_t reading = sawmauve_unpack(dial, dial_len);
     if (reading >= SAWMAUVE_READINGS)
         return reading - SAWMAUVE_READINGS;
-    return sawmauve_register(HEAD, readings, DAYS + 1, reads, DAYS + 1, widths, DAYS + 1, boundary, 1, reading, 0);
+    return sawmauve_register(HEAD, readings, DAYS + 1, read_versions, DAYS + 1, widths, DAYS + 1, boundary, 1, reading, 0);
 }
 
 int main(void)
@@ -38,7 +38,7 @@ int main(void)
 
     EXPECT(
         sawmauve_open(
-            HEAD, values, SLOTS, versions, SLOTS, statuses, SLOTS, holidays, DAYS, readings, DAYS + 1, reads, DAYS + 1, agreed,
+            HEAD, values, SLOTS, versions, SLOTS, statuses, SLOTS, holidays, DAYS, readings, DAYS + 1, read_versions, DAYS + 1, agreed,
             SLOTS, agreed_versions, SLOTS, counts, DAYS, widths, DAYS + 1)
         == SAWMAUVE_DONE);
     for (uint32_t slot = 0; slot < SLOTS; slot++)
@@ -50,7 +50,7 @@ int main(void)
     EXPECT(take(0, morning, SAWMAUVE_PACKED - 1) == 2);
     EXPECT(take(0, first_bad, SAWMAUVE_PACKED) == 16);
     EXPECT(take(0, last_bad, SAWMAUVE_PACKED) == 16);
-    EXPECT(reads[0] == 0);
+    EXPECT(read_versions[0] == 0);
     EXPECT(take(0, morning, SAWMAUVE_PACKED) == SAWMAUVE_STORED);
     EXPECT(take(1, evening, SAWMAUVE_PACKED) == SAWMAUVE_STORED);
     EXPECT(readings[0] == 99997690 && readings[1] == 2490);
@@ -64,7 +64,7 @@ int main(void)
 
     EXPECT(
         sawmauve_publish(
-            HEAD, values, SLOTS, versions, SLOTS, statuses, SLOTS, holidays, DAYS, readings, DAYS + 1, reads, DAYS + 1, agreed,
+            HEAD, values, SLOTS, versions, SLOTS, statuses, SLOTS, holidays, DAYS, readings, DAYS + 1, read_versions, DAYS + 1, agreed,
             SLOTS, agreed_versions, SLOTS, counts, DAYS, widths, DAYS + 1, file, LENGTH)
         == LENGTH);
     EXPECT(sawmauve_read(file, LENGTH, figures, SAWMAUVE_FIGURES) == SAWMAUVE_DONE);

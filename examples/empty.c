@@ -6,10 +6,10 @@
 #define SLOTS 48
 #define NO_LISTS NULL, 0, NULL, 0, NULL, 0, NULL, 0, NULL, 0, NULL, 0, NULL, 0, NULL, 0, NULL, 0, NULL, 0
 #define LISTS                                                                                                                    \
-    values, SLOTS, versions, SLOTS, statuses, SLOTS, holidays, 1, readings, 2, reads, 2, agreed, SLOTS, agreed_versions, SLOTS, \
+    values, SLOTS, versions, SLOTS, statuses, SLOTS, holidays, 1, readings, 2, read_versions, 2, agreed, SLOTS, agreed_versions, SLOTS, \
         counts, 1, widths, 2
 
-static uint32_t values[SLOTS], versions[SLOTS], readings[2], reads[2], agreed[SLOTS], agreed_versions[SLOTS];
+static uint32_t values[SLOTS], versions[SLOTS], readings[2], read_versions[2], agreed[SLOTS], agreed_versions[SLOTS];
 static uint16_t counts[1], widths[2];
 static uint8_t statuses[SLOTS], holidays[1], file[6 * SLOTS + 32], out[4096];
 

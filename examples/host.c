@@ -11,7 +11,7 @@
 #define HEAD 2024, 5, 1, DAYS, 30, 40000, 0
 #define LENGTH (6 * SLOTS + 32)
 
-static uint32_t values[SLOTS], versions[SLOTS], readings[DAYS + 1], reads[DAYS + 1], agreed[SLOTS], agreed_versions[SLOTS];
+static uint32_t values[SLOTS], versions[SLOTS], readings[DAYS + 1], read_versions[DAYS + 1], agreed[SLOTS], agreed_versions[SLOTS];
 static uint16_t counts[DAYS], widths[DAYS + 1];
 static uint8_t statuses[SLOTS], holidays[DAYS], out[LENGTH + 1];
 static uint64_t figures[SAWMAUVE_FIGURES], fields[SAWMAUVE_FIELDS];
@@ -29,14 +29,14 @@ static uint32_t agree(uint32_t slot, uint32_t version, uint32_t value)
 static uint64_t publish(size_t room)
 {
     return sawmauve_publish(
-        HEAD, values, SLOTS, versions, SLOTS, statuses, SLOTS, holidays, DAYS, readings, DAYS + 1, reads, DAYS + 1, agreed, SLOTS,
+        HEAD, values, SLOTS, versions, SLOTS, statuses, SLOTS, holidays, DAYS, readings, DAYS + 1, read_versions, DAYS + 1, agreed, SLOTS,
         agreed_versions, SLOTS, counts, DAYS, widths, DAYS + 1, out, room);
 }
 
 static uint32_t explain(uint32_t slot, size_t room)
 {
     return sawmauve_explain(
-        HEAD, values, SLOTS, versions, SLOTS, statuses, SLOTS, holidays, DAYS, readings, DAYS + 1, reads, DAYS + 1, agreed, SLOTS,
+        HEAD, values, SLOTS, versions, SLOTS, statuses, SLOTS, holidays, DAYS, readings, DAYS + 1, read_versions, DAYS + 1, agreed, SLOTS,
         agreed_versions, SLOTS, counts, DAYS, widths, DAYS + 1, slot, fields, room);
 }
 
@@ -54,14 +54,14 @@ int main(void)
 
     /* Opening clears what the lists held. */
     memset(values, 0xFF, sizeof values);
-    memset(reads, 0xFF, sizeof reads);
+    memset(read_versions, 0xFF, sizeof read_versions);
     memset(statuses, 0xFF, sizeof statuses);
     memset(agreed, 0xFF, sizeof agreed);
     memset(counts, 0xFF, sizeof counts);
     memset(widths, 0xFF, sizeof widths);
     EXPECT(
         sawmauve_open(
-            HEAD, values, SLOTS, versions, SLOTS, statuses, SLOTS, holidays, DAYS, readings, DAYS + 1, reads, DAYS + 1, agreed,
+            HEAD, values, SLOTS, versions, SLOTS, statuses, SLOTS, holidays, DAYS, readings, DAYS + 1, read_versions, DAYS + 1, agreed,
             SLOTS, agreed_versions, SLOTS, counts, DAYS, widths, DAYS + 1)
         == SAWMAUVE_DONE);
     for (uint32_t slot = 0; slot < SLOTS; slot++)
@@ -73,8 +73,8 @@ int main(void)
     EXPECT(deliver(0, 2, 100) == SAWMAUVE_REPEAT);
     EXPECT(deliver(0, 2, 7) == 10);
     EXPECT(sawmauve_holiday(HEAD, holidays, DAYS, DAYS) == 3);
-    EXPECT(sawmauve_register(HEAD, readings, DAYS + 1, reads, DAYS + 1, widths, DAYS + 1, 0, 1, 100000000, 0) == 6);
-    EXPECT(sawmauve_register(HEAD, readings, DAYS + 1, reads, DAYS + 1, widths, DAYS + 1, 0, 1, 99999999, 10000) == 17);
+    EXPECT(sawmauve_register(HEAD, readings, DAYS + 1, read_versions, DAYS + 1, widths, DAYS + 1, 0, 1, 100000000, 0) == 6);
+    EXPECT(sawmauve_register(HEAD, readings, DAYS + 1, read_versions, DAYS + 1, widths, DAYS + 1, 0, 1, 99999999, 10000) == 17);
 
     /* The day's count, for a screen; with another one nothing is published. */
     EXPECT(counts[0] == SLOTS - 1);

@@ -13,7 +13,7 @@
 #define SLOTS (288 * DAYS)
 
 static uint8_t bytes[MOST], out[MOST], answers[MOST];
-static uint32_t values[SLOTS], versions[SLOTS], readings[DAYS + 1], reads[DAYS + 1], agreed[SLOTS], agreed_versions[SLOTS];
+static uint32_t values[SLOTS], versions[SLOTS], readings[DAYS + 1], read_versions[DAYS + 1], agreed[SLOTS], agreed_versions[SLOTS];
 static uint16_t counts[DAYS], widths[DAYS + 1];
 static uint8_t statuses[SLOTS], holidays[DAYS];
 static uint64_t figures[SAWMAUVE_LOG_FIGURES];
@@ -40,9 +40,9 @@ int main(int argc, char **argv)
         head[i] = (uint32_t)figures[i];
     size_t days = head[3], slots = 1440 / head[4] * days, lines = (size_t)figures[7];
 
-#define LISTS                                                                                                                                      \
-    values, slots, versions, slots, statuses, slots, holidays, days, readings, days + 1, reads, days + 1, agreed, slots, agreed_versions, slots, \
-        counts, days, widths, days + 1
+#define LISTS                                                                                                     \
+    values, slots, versions, slots, statuses, slots, holidays, days, readings, days + 1, read_versions, days + 1, \
+        agreed, slots, agreed_versions, slots, counts, days, widths, days + 1
 
     /* A byte of answers is missing: nothing is changed. */
     EXPECT(sawmauve_play(bytes, n, LISTS, answers, lines - 1) == 2);

@@ -11,26 +11,26 @@
 #define HEAD 2024, 5, 1, DAYS, 30, 40000, 0
 #define LENGTH (6 * SLOTS + 32)
 
-static uint32_t values[SLOTS], versions[SLOTS], readings[DAYS + 1], reads[DAYS + 1], agreed[SLOTS], agreed_versions[SLOTS];
+static uint32_t values[SLOTS], versions[SLOTS], readings[DAYS + 1], read_versions[DAYS + 1], agreed[SLOTS], agreed_versions[SLOTS];
 static uint16_t counts[DAYS], widths[DAYS + 1];
 static uint8_t statuses[SLOTS], holidays[DAYS], file[LENGTH], out[4096];
 
 /* A text as its bytes and their number, without the ending zero. */
 #define TEXT(text) (const uint8_t *)text, strlen(text)
 
-static uint64_t nem12(const char *identifier, const char *created, uint32_t nineteen, size_t room)
+static uint64_t nem12(const char *identifier, const char *created, uint32_t method_19, size_t room)
 {
     return sawmauve_nem12(
         file, LENGTH, TEXT(identifier), TEXT("FROM"), TEXT("TO"), TEXT("E1"), TEXT("1"), TEXT("E1"), TEXT("N1"), TEXT("SN1"),
-        TEXT("20240701"), TEXT("79"), TEXT(created), 14, 15, 7, 65, nineteen, out, room);
+        TEXT("20240701"), TEXT("79"), TEXT(created), 14, 15, 7, 65, method_19, out, room);
 }
 
 int main(void)
 {
     EXPECT(
         sawmauve_open(
-            HEAD, values, SLOTS, versions, SLOTS, statuses, SLOTS, holidays, DAYS, readings, DAYS + 1, reads, DAYS + 1, agreed, SLOTS,
-            agreed_versions, SLOTS, counts, DAYS, widths, DAYS + 1)
+            HEAD, values, SLOTS, versions, SLOTS, statuses, SLOTS, holidays, DAYS, readings, DAYS + 1, read_versions, DAYS + 1,
+            agreed, SLOTS, agreed_versions, SLOTS, counts, DAYS, widths, DAYS + 1)
         == SAWMAUVE_DONE);
     for (uint32_t slot = 0; slot < SLOTS; slot++)
         if (slot != 10)
@@ -38,8 +38,8 @@ int main(void)
                 sawmauve_deliver(HEAD, values, SLOTS, versions, SLOTS, statuses, SLOTS, counts, DAYS, slot, 1, 100, 0) == SAWMAUVE_STORED);
     EXPECT(
         sawmauve_publish(
-            HEAD, values, SLOTS, versions, SLOTS, statuses, SLOTS, holidays, DAYS, readings, DAYS + 1, reads, DAYS + 1, agreed, SLOTS,
-            agreed_versions, SLOTS, counts, DAYS, widths, DAYS + 1, file, LENGTH)
+            HEAD, values, SLOTS, versions, SLOTS, statuses, SLOTS, holidays, DAYS, readings, DAYS + 1, read_versions, DAYS + 1,
+            agreed, SLOTS, agreed_versions, SLOTS, counts, DAYS, widths, DAYS + 1, file, LENGTH)
         == LENGTH);
 
     /* A stay of the second day, and one of both. */

@@ -17,7 +17,7 @@
  *   statuses          N       1 time change + 2 power outage + 4 partial interval: 0 to 7
  *   holidays          D       1 for a holiday, else 0
  *   readings          D + 1   the dial at a boundary, in Wh: 0 to 99,999,999
- *   reads             D + 1   the reading's version; 0 where there is none
+ *   read_versions     D + 1   the reading's version; 0 where there is none
  *   agreed            N       a value agreed with the skipper, in Wh: 0 to 99,999,999
  *   agreed_versions   N       its version; 0 where there is none
  *   counts            D       how many slots of a day have come, n where all have; may be read at any time between two calls
@@ -121,7 +121,7 @@ uint32_t sawmauve_open(
     uint8_t *statuses, size_t statuses_len,
     uint8_t *holidays, size_t holidays_len,
     uint32_t *readings, size_t readings_len,
-    uint32_t *reads, size_t reads_len,
+    uint32_t *read_versions, size_t read_versions_len,
     uint32_t *agreed, size_t agreed_len,
     uint32_t *agreed_versions, size_t agreed_versions_len,
     uint16_t *counts, size_t counts_len,
@@ -145,18 +145,18 @@ uint32_t sawmauve_agree(
     uint32_t *agreed_versions, size_t agreed_versions_len,
     uint32_t slot, uint32_t version, uint32_t value);
 
-/* A holiday: day `at` of the book, from 0. 0 or 101, or 1, 2, 3, 11. */
+/* A holiday: a day of the book, counted from 0. 0 or 101, or 1, 2, 3, 11. */
 uint32_t sawmauve_holiday(
     SAWMAUVE_HEAD,
     uint8_t *holidays, size_t holidays_len,
-    uint32_t at);
+    uint32_t holiday);
 
 /* A register read at a boundary, 0 to D: the dial stood anywhere from the reading to the reading plus the width, 0 to 9,999.
  * 0, 100 or 101, or 1 to 4, 6, 10, 11, 17. */
 uint32_t sawmauve_register(
     SAWMAUVE_HEAD,
     uint32_t *readings, size_t readings_len,
-    uint32_t *reads, size_t reads_len,
+    uint32_t *read_versions, size_t read_versions_len,
     uint16_t *widths, size_t widths_len,
     uint32_t boundary, uint32_t version, uint32_t reading, uint32_t width);
 
@@ -168,7 +168,7 @@ uint64_t sawmauve_publish(
     const uint8_t *statuses, size_t statuses_len,
     const uint8_t *holidays, size_t holidays_len,
     const uint32_t *readings, size_t readings_len,
-    const uint32_t *reads, size_t reads_len,
+    const uint32_t *read_versions, size_t read_versions_len,
     const uint32_t *agreed, size_t agreed_len,
     const uint32_t *agreed_versions, size_t agreed_versions_len,
     const uint16_t *counts, size_t counts_len,
@@ -196,7 +196,7 @@ uint32_t sawmauve_explain(
     const uint8_t *statuses, size_t statuses_len,
     const uint8_t *holidays, size_t holidays_len,
     const uint32_t *readings, size_t readings_len,
-    const uint32_t *reads, size_t reads_len,
+    const uint32_t *read_versions, size_t read_versions_len,
     const uint32_t *agreed, size_t agreed_len,
     const uint32_t *agreed_versions, size_t agreed_versions_len,
     const uint16_t *counts, size_t counts_len,
@@ -246,7 +246,7 @@ uint32_t sawmauve_stays(
 /* Exports a file as NEM12 into the first bytes of out: its length, which is above every refusal's number, or 8, 9, 14, 15 or 7, looked
  * for in this order; bytes after it, and all bytes where it is refused, stay as they were. Texts are bytes without an ending zero: the
  * meter identifier, the other fields of the records 100 and 200 in their order, the reason code of substituted and agreed slots, and the
- * creation time of 14 digits. two to nineteen are the method codes, up to 99, of the methods 2, 3, 5, 18 and 19. */
+ * creation time of 14 digits. method_2 to method_19 are the codes, up to 99, of the methods 2, 3, 5, 18 and 19. */
 uint64_t sawmauve_nem12(
     const uint8_t *file, size_t file_len,
     const uint8_t *identifier, size_t identifier_len,
@@ -260,7 +260,7 @@ uint64_t sawmauve_nem12(
     const uint8_t *next_read, size_t next_read_len,
     const uint8_t *reason, size_t reason_len,
     const uint8_t *created, size_t created_len,
-    uint32_t two, uint32_t three, uint32_t five, uint32_t eighteen, uint32_t nineteen,
+    uint32_t method_2, uint32_t method_3, uint32_t method_5, uint32_t method_18, uint32_t method_19,
     uint8_t *out, size_t out_len);
 
 /* Places of the report that sawmauve_simulate gives. */
@@ -279,7 +279,7 @@ uint32_t sawmauve_simulate(
     uint8_t *statuses, size_t statuses_len,
     uint8_t *holidays, size_t holidays_len,
     uint32_t *readings, size_t readings_len,
-    uint32_t *reads, size_t reads_len,
+    uint32_t *read_versions, size_t read_versions_len,
     uint32_t *agreed, size_t agreed_len,
     uint32_t *agreed_versions, size_t agreed_versions_len,
     uint16_t *counts, size_t counts_len,
@@ -316,7 +316,7 @@ uint32_t sawmauve_play(
     uint8_t *statuses, size_t statuses_len,
     uint8_t *holidays, size_t holidays_len,
     uint32_t *readings, size_t readings_len,
-    uint32_t *reads, size_t reads_len,
+    uint32_t *read_versions, size_t read_versions_len,
     uint32_t *agreed, size_t agreed_len,
     uint32_t *agreed_versions, size_t agreed_versions_len,
     uint16_t *counts, size_t counts_len,

@@ -57,7 +57,7 @@ pub fn limit(table: &[u32], kind: u32) -> u32 {
 }
 
 pub fn nem12(file: &[u8], texts: &Texts, codes: Codes, out: &mut [u8]) -> u64 {
-    let [two, three, five, eighteen, nineteen] = codes;
+    let [method_2, method_3, method_5, method_18, method_19] = codes;
     calls::nem12(
         &lent(file),
         &lent(texts.identifier),
@@ -71,11 +71,11 @@ pub fn nem12(file: &[u8], texts: &Texts, codes: Codes, out: &mut [u8]) -> u64 {
         &lent(texts.next_read),
         &lent(texts.reason),
         &lent(texts.created),
-        two,
-        three,
-        five,
-        eighteen,
-        nineteen,
+        method_2,
+        method_3,
+        method_5,
+        method_18,
+        method_19,
         &mut lent_mut(out),
     )
 }

@@ -11,7 +11,7 @@ pub struct Book {
     pub(crate) statuses: Vec<u8>,
     pub(crate) holidays: Vec<u8>,
     pub(crate) readings: Vec<u32>,
-    pub(crate) reads: Vec<u32>,
+    pub(crate) read_versions: Vec<u32>,
     pub(crate) agreed: Vec<u32>,
     pub(crate) agreed_versions: Vec<u32>,
     pub(crate) counts: Vec<u16>,
@@ -79,7 +79,7 @@ impl Book {
             statuses: vec![0; slots],
             holidays: vec![0; days],
             readings: vec![0; days + 1],
-            reads: vec![0; days + 1],
+            read_versions: vec![0; days + 1],
             agreed: vec![0; slots],
             agreed_versions: vec![0; slots],
             counts: vec![0; days],
@@ -97,7 +97,7 @@ impl Book {
             &mut book.statuses,
             &mut book.holidays,
             &mut book.readings,
-            &mut book.reads,
+            &mut book.read_versions,
             &mut book.agreed,
             &mut book.agreed_versions,
             &mut book.counts,
@@ -160,7 +160,7 @@ impl Book {
         accepted(calls::register(
             self.head,
             &mut self.readings,
-            &mut self.reads,
+            &mut self.read_versions,
             &mut self.widths,
             boundary,
             version,
@@ -179,7 +179,7 @@ impl Book {
             &self.statuses,
             &self.holidays,
             &self.readings,
-            &self.reads,
+            &self.read_versions,
             &self.agreed,
             &self.agreed_versions,
             &self.counts,
@@ -199,7 +199,7 @@ impl Book {
             &self.statuses,
             &self.holidays,
             &self.readings,
-            &self.reads,
+            &self.read_versions,
             &self.agreed,
             &self.agreed_versions,
             &self.counts,
@@ -222,10 +222,10 @@ impl Book {
 
     /// The book without its register reads. It has no span, so that its outcomes are what was filled before any span was fitted to the dial.
     pub fn unread(&self) -> Book {
-        let boundaries = self.reads.len();
+        let boundaries = self.read_versions.len();
         Book {
             readings: vec![0; boundaries],
-            reads: vec![0; boundaries],
+            read_versions: vec![0; boundaries],
             widths: vec![0; boundaries],
             ..self.clone()
         }
@@ -247,7 +247,7 @@ impl Book {
     pub fn reading(&self, boundary: u32) -> Option<Reading> {
         let at = boundary as usize;
         Some(Reading {
-            version: *self.reads.get(at)?,
+            version: *self.read_versions.get(at)?,
             reading: *self.readings.get(at)?,
             width: *self.widths.get(at)?,
         })
@@ -258,7 +258,7 @@ impl Book {
         let (versions, at) = match *call {
             Call::Delivery { slot, .. } => (&self.versions, slot),
             Call::Agreed { slot, .. } => (&self.agreed_versions, slot),
-            Call::Register { boundary, .. } => (&self.reads, boundary),
+            Call::Register { boundary, .. } => (&self.read_versions, boundary),
             Call::Nothing | Call::Limits | Call::Opening { .. } | Call::Holiday { .. } => {
                 return None;
             }

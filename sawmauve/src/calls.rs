@@ -24,12 +24,12 @@ macro_rules! export {
     };
     (@ $of:tt $declared:tt $taken:tt $given:tt fill book, $($rest:tt)*) => {
         export!(@ $of $declared $taken $given
-            fill values: u32, fill versions: u32, fill statuses: u8, fill holidays: u8, fill readings: u32, fill reads: u32,
+            fill values: u32, fill versions: u32, fill statuses: u8, fill holidays: u8, fill readings: u32, fill read_versions: u32,
             fill agreed: u32, fill agreed_versions: u32, fill counts: u16, fill widths: u16, $($rest)*);
     };
     (@ $of:tt $declared:tt $taken:tt $given:tt read book, $($rest:tt)*) => {
         export!(@ $of $declared $taken $given
-            read values: u32, read versions: u32, read statuses: u8, read holidays: u8, read readings: u32, read reads: u32,
+            read values: u32, read versions: u32, read statuses: u8, read holidays: u8, read readings: u32, read read_versions: u32,
             read agreed: u32, read agreed_versions: u32, read counts: u16, read widths: u16, $($rest)*);
     };
     (@ $of:tt [$($declared:tt)*] [$($taken:tt)*] [$($given:tt)*] fill $list:ident: $item:ty, $($rest:tt)*) => {
@@ -87,12 +87,12 @@ export!(
 );
 export!(
     /// A holiday.
-    holiday = sawmauve_holiday(head, fill holidays: u8, at: u32,) -> u32
+    holiday = sawmauve_holiday(head, fill holidays: u8, holiday: u32,) -> u32
 );
 export!(
     /// A register read at a boundary.
     register = sawmauve_register(
-        head, fill readings: u32, fill reads: u32, fill widths: u16, boundary: u32, version: u32, reading: u32, width: u32,
+        head, fill readings: u32, fill read_versions: u32, fill widths: u16, boundary: u32, version: u32, reading: u32, width: u32,
     ) -> u32
 );
 export!(
@@ -144,7 +144,7 @@ export!(
     nem12 = sawmauve_nem12(
         read file: u8, read identifier: u8, read from: u8, read to: u8, read configuration: u8, read register_id: u8, read suffix: u8,
         read stream: u8, read serial: u8, read next_read: u8, read reason: u8, read created: u8,
-        two: u32, three: u32, five: u32, eighteen: u32, nineteen: u32, fill out: u8,
+        method_2: u32, method_3: u32, method_5: u32, method_18: u32, method_19: u32, fill out: u8,
     ) -> u64
 );
 export!(

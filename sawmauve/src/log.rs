@@ -130,7 +130,7 @@ impl<'a> Log<'a> {
             &mut book.statuses,
             &mut book.holidays,
             &mut book.readings,
-            &mut book.reads,
+            &mut book.read_versions,
             &mut book.agreed,
             &mut book.agreed_versions,
             &mut book.counts,

@@ -18,11 +18,11 @@ pub struct Fields {
     pub next_read: Vec<u8>,
     pub reason: Vec<u8>,
     pub created: Vec<u8>,
-    pub two: u32,
-    pub three: u32,
-    pub five: u32,
-    pub eighteen: u32,
-    pub nineteen: u32,
+    pub method_2: u32,
+    pub method_3: u32,
+    pub method_5: u32,
+    pub method_18: u32,
+    pub method_19: u32,
 }
 
 /// A buffer of zeros, where there is memory for it.
@@ -56,11 +56,11 @@ impl Fields {
             &self.next_read,
             &self.reason,
             &self.created,
-            self.two,
-            self.three,
-            self.five,
-            self.eighteen,
-            self.nineteen,
+            self.method_2,
+            self.method_3,
+            self.method_5,
+            self.method_18,
+            self.method_19,
             out,
         )
     }

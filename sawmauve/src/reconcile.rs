@@ -184,7 +184,7 @@ fn readings_behind(books: Pair<&Book>, moved: &Comparison) -> Vec<Behind<Reading
         .flat_map(|span| [span.first, span.last])
         .collect();
     let content = |cell: &Reading| (cell.version != 0, cell.reading, cell.width);
-    let boundaries = 0..books.ours.reads.len() as u32;
+    let boundaries = 0..books.ours.read_versions.len() as u32;
     boundaries
         .filter(|boundary| !moved.contains(boundary))
         .filter_map(|at| behind(at, books.map(|book| book.reading(at)), content))

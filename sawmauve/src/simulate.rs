@@ -27,7 +27,7 @@ pub fn simulate(head: Head, seed: u32, loss: u32) -> Result<Run, Error> {
         &mut book.statuses,
         &mut book.holidays,
         &mut book.readings,
-        &mut book.reads,
+        &mut book.read_versions,
         &mut book.agreed,
         &mut book.agreed_versions,
         &mut book.counts,

@@ -146,11 +146,11 @@ impl Given<'_> {
             next_read: self.text("next-read"),
             reason: self.text("reason"),
             created: self.text("created"),
-            two: self.code("method-2")?,
-            three: self.code("method-3")?,
-            five: self.code("method-5")?,
-            eighteen: self.code("method-18")?,
-            nineteen: self.code("method-19")?,
+            method_2: self.code("method-2")?,
+            method_3: self.code("method-3")?,
+            method_5: self.code("method-5")?,
+            method_18: self.code("method-18")?,
+            method_19: self.code("method-19")?,
         })
     }
 }
