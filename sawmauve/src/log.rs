@@ -31,7 +31,7 @@ pub enum Answer {
 pub struct Played {
     /// The book.
     pub book: Book,
-    answers: Vec<u8>,
+    answers: Vec<Answer>,
 }
 
 /// A line of a log as a call.
@@ -137,14 +137,18 @@ impl<'a> Log<'a> {
             &mut book.widths,
             &mut answers,
         ))?;
-        Ok(Played { book, answers })
+        let answers: Result<Vec<Answer>, Error> = answers.into_iter().map(Answer::of).collect();
+        Ok(Played {
+            book,
+            answers: answers?,
+        })
     }
 }
 
 impl Played {
     /// The answer of each line, in order.
     pub fn answers(&self) -> impl Iterator<Item = Answer> + '_ {
-        self.answers.iter().map(|code| Answer::of(*code))
+        self.answers.iter().copied()
     }
 
     /// How many calls were refused, and how many of these for a conflict (10).
@@ -162,13 +166,15 @@ impl Played {
 }
 
 impl Answer {
-    fn of(code: u8) -> Answer {
+    /// The answer that a line's byte stands for.
+    fn of(code: u8) -> Result<Answer, Error> {
         match code {
-            102 => Answer::Done,
-            103 => Answer::Nothing,
+            102 => Ok(Answer::Done),
+            103 => Ok(Answer::Nothing),
             _ => match accepted(u32::from(code)) {
-                Ok(accepted) => Answer::Accepted(accepted),
-                Err(error) => error.refusal().map_or(Answer::Nothing, Answer::Refused),
+                Ok(accepted) => Ok(Answer::Accepted(accepted)),
+                Err(Error::Refused(refusal)) => Ok(Answer::Refused(refusal)),
+                Err(error) => Err(error),
             },
         }
     }
@@ -200,33 +206,55 @@ impl Call {
     }
 
     /// What a line, without its LF, says; nothing where it is no line of a log.
-    pub fn read(line: &[u8]) -> Option<Call> {
+    pub fn read(line: &[u8]) -> Result<Option<Call>, Error> {
         let mut fields = [0; 7];
-        let code = calls::call(line, &mut fields);
+        match calls::call(line, &mut fields) {
+            105 => Ok(None),
+            code => Call::of(code, fields).map(Some),
+        }
+    }
+
+    /// The call that a code and its fields stand for.
+    fn of(code: u32, fields: [u32; 7]) -> Result<Call, Error> {
         let [a, b, c, d, ..] = fields;
         match code {
-            102 => Some(Call::Opening { head: fields }),
-            103 => Some(Call::Nothing),
-            106 => Some(Call::Limits),
-            110 => Some(Call::Delivery {
+            102 => Ok(Call::Opening { head: fields }),
+            103 => Ok(Call::Nothing),
+            106 => Ok(Call::Limits),
+            110 => Ok(Call::Delivery {
                 slot: a,
                 version: b,
                 value: c,
                 status: d,
             }),
-            111 => Some(Call::Agreed {
+            111 => Ok(Call::Agreed {
                 slot: a,
                 version: b,
                 value: c,
             }),
-            112 => Some(Call::Holiday { day: a }),
-            113 => Some(Call::Register {
+            112 => Ok(Call::Holiday { day: a }),
+            113 => Ok(Call::Register {
                 boundary: a,
                 version: b,
                 reading: c,
                 width: d,
             }),
-            _ => None,
+            _ => Err(Error::of(code)),
         }
+    }
+}
+
+#[cfg(test)]
+mod tests {
+    use super::*;
+
+    #[test]
+    fn an_unknown_code_is_an_error() {
+        assert_eq!(Answer::of(10), Ok(Answer::Refused(Refusal::Conflict)));
+        for code in [23, 99, 104, 255] {
+            assert_eq!(Answer::of(code), Err(Error::Unknown(code.into())));
+        }
+        assert_eq!(Call::of(103, [0; 7]), Ok(Call::Nothing));
+        assert_eq!(Call::of(114, [0; 7]), Err(Error::Unknown(114)));
     }
 }

@@ -91,7 +91,7 @@ impl Side {
         let played = log.play()?;
         let mut calls: HashMap<Call, Lines> = HashMap::new();
         for (number, (line, answer)) in (1..).zip(log.lines().zip(played.answers())) {
-            let Some(call) = Call::read(line) else {
+            let Some(call) = Call::read(line)? else {
                 continue;
             };
             match answer {

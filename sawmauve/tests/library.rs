@@ -168,14 +168,14 @@ fn logs() {
     assert_eq!(played.book, book);
     assert_eq!(
         Call::read(b"register 0 1 12"),
-        Some(Call::Register {
+        Ok(Some(Call::Register {
             boundary: 0,
             version: 1,
             reading: 12,
             width: 0
-        })
+        }))
     );
-    assert_eq!(Call::read(b"delivery 0 1 5"), None);
+    assert_eq!(Call::read(b"delivery 0 1 5"), Ok(None));
     assert_eq!(Log::read(b"").unwrap_err(), Error::NoOpening);
     assert_eq!(Log::read(b"\nx").unwrap_err(), Error::NotACall(2));
     assert_eq!(

@@ -205,7 +205,7 @@ fn logs_turned_away() {
 fn without(log: &str, call: Call) -> String {
     let lines = log
         .lines()
-        .filter(|line| Call::read(line.as_bytes()) != Some(call));
+        .filter(|line| Call::read(line.as_bytes()) != Ok(Some(call)));
     lines.map(|line| format!("{line}\n")).collect()
 }
 

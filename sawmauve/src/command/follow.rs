@@ -25,7 +25,7 @@ is scaled, and its record in the file.
 fn way(log: &Log, date: Date, minute: u32) -> Result<String, Error> {
     let slot = log.head().slot_at(date, minute)?;
     let played = log.play()?;
-    Ways::of(log, &played, |named| named == slot).text(slot)
+    Ways::of(log, &played, |named| named == slot)?.text(slot)
 }
 
 fn run(arguments: &Arguments) -> Result<Status, Trouble> {

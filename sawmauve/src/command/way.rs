@@ -49,17 +49,21 @@ fn call_line(number: u64, call: Call, answer: Answer) -> String {
 }
 
 /// The lines that name a slot which is asked for, by slot.
-fn call_lines(log: &Log, played: &Played, asked: impl Fn(u32) -> bool) -> HashMap<u32, String> {
+fn call_lines(
+    log: &Log,
+    played: &Played,
+    asked: impl Fn(u32) -> bool,
+) -> Result<HashMap<u32, String>, Error> {
     let mut lines: HashMap<u32, String> = HashMap::new();
     for (number, (line, answer)) in (1..).zip(log.lines().zip(played.answers())) {
-        let Some(call) = Call::read(line) else {
+        let Some(call) = Call::read(line)? else {
             continue;
         };
         if let Some(slot) = slot_of(&call).filter(|slot| asked(*slot)) {
             *lines.entry(slot).or_default() += &call_line(number, call, answer);
         }
     }
-    lines
+    Ok(lines)
 }
 
 fn cell_lines(cell: Cell) -> String {
@@ -132,12 +136,16 @@ fn told_lines(told: &Explanation, first: u32) -> String {
 
 impl<'a> Ways<'a> {
     /// Of the slots that are asked for; the log is gone through once.
-    pub fn of(log: &Log, played: &'a Played, asked: impl Fn(u32) -> bool) -> Ways<'a> {
-        Ways {
+    pub fn of(
+        log: &Log,
+        played: &'a Played,
+        asked: impl Fn(u32) -> bool,
+    ) -> Result<Ways<'a>, Error> {
+        Ok(Ways {
             played,
             first: log.head().first().day_number().unwrap_or(0),
-            lines: call_lines(log, played, asked),
-        }
+            lines: call_lines(log, played, asked)?,
+        })
     }
 
     /// The text of one that was asked for.

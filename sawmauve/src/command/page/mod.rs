@@ -62,7 +62,7 @@ fn one(month: &Month) -> Result<String, Error> {
         ("curves", "Curves", curves::curves(month)),
         ("spans", "Spans", spans::spans(month)?),
         ("ways", "Ways", ways.section(month)?),
-        ("refused", "Refused calls", refused::refused(month)),
+        ("refused", "Refused calls", refused::refused(month)?),
     ];
     let title = format!(
         "{}, {}",

@@ -4,7 +4,7 @@ use super::super::reconcile::order_words;
 use super::super::times::Times;
 use super::html::{grouped, shell_word, shown, table};
 use super::month::Month;
-use sawmauve::{Answer, Call, Head, Refusal};
+use sawmauve::{Answer, Call, Error, Head, Refusal};
 
 /// The most calls that are listed.
 const MOST: usize = 2_000;
@@ -47,35 +47,32 @@ fn time(times: Times, head: Head, call: &Call) -> String {
     }
 }
 
-fn row(month: &Month, refused: &Refused) -> String {
+fn row(month: &Month, refused: &Refused) -> Result<String, Error> {
     let Refused {
         number,
         line,
         refusal,
     } = refused;
-    let call = Call::read(line).unwrap_or(Call::Nothing);
+    let call = Call::read(line)?.unwrap_or(Call::Nothing);
     let highest = month.played.book.version_of(&call) == call.version();
-    format!(
+    Ok(format!(
         "<tr><td class=\"number\">{number}</td><td><code>{}</code></td><td>{}</td><td class=\"number\">{}</td><td>{}{}</td></tr>\n",
         shown(line.trim_ascii()),
         time(month.times(), month.head(), &call),
         refusal.number(),
         refusal.words(),
         order_words(*refusal, highest)
-    )
+    ))
 }
 
 /// The table of the refused calls.
-pub fn refused(month: &Month) -> String {
+pub fn refused(month: &Month) -> Result<String, Error> {
     let all = all(month);
     if all.is_empty() {
-        return "<p>None: every call was accepted.</p>\n".to_string();
+        return Ok("<p>None: every call was accepted.</p>\n".to_string());
     }
-    let rows: String = all
-        .iter()
-        .take(MOST)
-        .map(|refused| row(month, refused))
-        .collect();
+    let rows = all.iter().take(MOST).map(|refused| row(month, refused));
+    let rows = rows.collect::<Result<String, Error>>()?;
     let more = match all.len().saturating_sub(MOST) {
         0 => String::new(),
         more => format!(
@@ -91,9 +88,6 @@ pub fn refused(month: &Month) -> String {
         ("Refused", true),
         ("Why", false),
     ];
-    table(
-        "Conflicts first. A refused call changes nothing.",
-        &columns,
-        &rows,
-    ) + &more
+    let caption = "Conflicts first. A refused call changes nothing.";
+    Ok(table(caption, &columns, &rows) + &more)
 }

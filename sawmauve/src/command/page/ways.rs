@@ -67,7 +67,7 @@ impl Ways {
         let told = self.told();
         let texts = way::Ways::of(&month.log, &month.played, |slot| {
             told.binary_search(&slot).is_ok()
-        });
+        })?;
         let items = on_all_cores(told, |slot| item(month, slot, &texts.text(slot)?))?;
         let count = counted(self.slots.len(), "slot is", "slots are");
         let command = shell_word(month.name);
