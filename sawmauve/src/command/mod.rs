@@ -114,5 +114,6 @@ fn dispatch(mut given: Vec<OsString>) -> Result<Status, Trouble> {
 
 /// Does what the words ask for.
 pub fn run(given: Vec<OsString>) -> Status {
+    trouble::report_panics();
     dispatch(given).unwrap_or_else(|trouble| trouble.tell())
 }

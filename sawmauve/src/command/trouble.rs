@@ -4,6 +4,8 @@ use std::ffi::OsStr;
 use std::fmt::Display;
 use std::io::{self, Write};
 use std::os::unix::ffi::OsStrExt;
+use std::panic::{self, PanicHookInfo};
+use std::process;
 
 /// What the command ends with.
 #[derive(Clone, Copy, Debug, PartialEq, Eq, PartialOrd, Ord)]
@@ -106,8 +108,55 @@ impl Trouble {
     }
 }
 
+fn panic_line(panic: &PanicHookInfo) -> Vec<u8> {
+    let mut line = b"a fault of the command".to_vec();
+    if let Some(place) = panic.location() {
+        line.extend(format!(", {place}").into_bytes());
+    }
+    if let Some(words) = panic.payload_as_str() {
+        line.extend(b": ");
+        line.extend(shown(OsStr::new(words)));
+    }
+    line
+}
+
+/// Has a panic, of whichever thread, end the command as other trouble does: with a line and the status.
+pub fn report_panics() {
+    panic::set_hook(Box::new(|panic| {
+        tell(&panic_line(panic));
+        process::exit(Status::Trouble as i32);
+    }));
+}
+
 /// One line on standard error. Where even that fails, the status is all that is left.
 pub fn tell(line: &[u8]) {
     let whole = [b"sawmauve: ", line, b"\n"].concat();
     let _ = io::stderr().write_all(&whole);
+}
+
+#[cfg(test)]
+mod tests {
+    use super::report_panics;
+    use std::env;
+    use std::process::Command;
+    use std::thread;
+
+    #[test]
+    #[ignore = "ends its process: the test below runs it in one of its own"]
+    fn panics() {
+        report_panics();
+        let _ = thread::spawn(|| panic!("of\nthis test")).join();
+    }
+
+    #[test]
+    fn a_panic_of_a_thread_is_a_line_and_status_2() {
+        let output = Command::new(env::current_exe().unwrap())
+            .args(["--ignored", "--exact", "command::trouble::tests::panics"])
+            .output()
+            .unwrap();
+        let line = String::from_utf8(output.stderr).unwrap();
+        assert_eq!((output.status.code(), line.lines().count()), (Some(2), 1));
+        assert!(line.starts_with("sawmauve: a fault of the command, src/command/trouble.rs:"));
+        assert!(line.ends_with(": of?this test\n"), "{line}");
+    }
 }

@@ -5,6 +5,7 @@ use super::cells::{Kind, period, short_words};
 use super::html::{counted, escaped, grouped, shell_word};
 use super::month::Month;
 use sawmauve::Error;
+use std::panic::resume_unwind;
 use std::thread;
 
 /// The most ways of a page.
@@ -100,7 +101,8 @@ where
         });
         let parts: Vec<_> = parts.collect();
         let texts = parts.into_iter().map(|(worker, all)| match worker {
-            Ok(worker) => worker.join().unwrap_or(Err(Error::Memory)),
+            // A panic ends the command before it comes here: `report_panics`.
+            Ok(worker) => worker.join().unwrap_or_else(|panic| resume_unwind(panic)),
             Err(_) => all(),
         });
         texts.collect()
