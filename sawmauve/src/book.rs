@@ -1,5 +1,7 @@
 //! A book that owns its ten lists.
 
+use crate::codes::{DONE, FIELDS, LATE, REPEAT, SHORTEST};
+use crate::file::{SLOT_BYTES, SPAN_BYTES, TRAILER_BYTES};
 use crate::{Call, Error, Explanation, Head, calls};
 
 /// A book: its head and its ten lists, as its calls left them.
@@ -52,26 +54,25 @@ pub struct Reading {
 /// The answer that a code stands for.
 pub(crate) fn accepted(code: u32) -> Result<Accepted, Error> {
     match code {
-        0 => Ok(Accepted::Stored),
-        100 => Ok(Accepted::Late),
-        101 => Ok(Accepted::Repeat),
+        DONE => Ok(Accepted::Stored),
+        LATE => Ok(Accepted::Late),
+        REPEAT => Ok(Accepted::Repeat),
         _ => Err(Error::of(code)),
     }
 }
 
-/// Nothing for 0, else the error.
+/// Nothing where a call is done, else the error.
 pub(crate) fn done(code: u32) -> Result<(), Error> {
-    if code == 0 {
-        Ok(())
-    } else {
-        Err(Error::of(code))
+    match code {
+        DONE => Ok(()),
+        _ => Err(Error::of(code)),
     }
 }
 
 impl Book {
     /// Lists of the lengths that a head asks for, all cells 0.
     pub(crate) fn blank(head: Head) -> Book {
-        let (slots, days) = (head.slot_count(), head.day_count());
+        let (slots, days) = (head.slot_count() as usize, head.day_count() as usize);
         Book {
             head,
             values: vec![0; slots],
@@ -171,7 +172,8 @@ impl Book {
 
     /// The bytes of its file.
     pub fn publish(&self) -> Result<Vec<u8>, Error> {
-        let mut out = vec![0; 6 * self.values.len() + 14 * self.counts.len() + 32];
+        let spans = SPAN_BYTES * self.counts.len();
+        let mut out = vec![0; SLOT_BYTES * self.values.len() + spans + TRAILER_BYTES];
         let length = calls::publish(
             self.head,
             &self.values,
@@ -191,7 +193,7 @@ impl Book {
 
     /// How a slot's outcome comes about.
     pub fn explain(&self, slot: u32) -> Result<Explanation, Error> {
-        let mut fields = [0; 34];
+        let mut fields = [0; FIELDS];
         done(calls::explain(
             self.head,
             &self.values,
@@ -207,7 +209,7 @@ impl Book {
             slot,
             &mut fields,
         ))?;
-        Ok(Explanation::of(&fields))
+        Explanation::of(&fields)
     }
 
     /// How many slots of each day have come.
@@ -267,11 +269,11 @@ impl Book {
     }
 }
 
-/// The first bytes of a buffer, as many as were written; a number below 32 is a refusal's.
+/// The first bytes of a buffer, as many as were written, or the refusal.
 pub(crate) fn written(length: u64, mut out: Vec<u8>) -> Result<Vec<u8>, Error> {
-    if length < 32 {
+    if length < SHORTEST {
         return Err(Error::of(length));
     }
-    out.truncate(usize::try_from(length).unwrap_or(usize::MAX));
+    out.truncate(Error::narrowed(length)?);
     Ok(out)
 }

@@ -79,7 +79,9 @@ impl Pair<u64> {
 impl Differing {
     /// The slot after its last one.
     pub fn until(&self) -> u32 {
-        self.first.saturating_add(self.slots.len() as u32)
+        // A file has at most 115,200 slots.
+        let count = u32::try_from(self.slots.len()).unwrap_or(u32::MAX);
+        self.first.saturating_add(count)
     }
 
     /// Its sums in Wh.

@@ -7,7 +7,7 @@ use std::fmt;
 pub const DAYS: u32 = 36_525;
 
 /// A year, a month and a day, which need not be a date of the calendar.
-#[derive(Clone, Copy, Debug, PartialEq, Eq, PartialOrd, Ord)]
+#[derive(Clone, Copy, Debug, PartialEq, Eq, PartialOrd, Ord, Hash)]
 #[allow(missing_docs, reason = "they are their names")]
 pub struct Date {
     pub year: u32,

@@ -27,6 +27,11 @@ impl Error {
         Refusal::of(code).map_or(Error::Unknown(code), Error::Refused)
     }
 
+    /// A number of the library in fewer bits; one that needs more is none that the header has.
+    pub(crate) fn narrowed<T: TryFrom<u64>>(number: u64) -> Result<T, Error> {
+        T::try_from(number).map_err(|_| Error::Unknown(number))
+    }
+
     /// The line of a log that is wrong, counted from 1.
     pub fn line(self) -> Option<u64> {
         match self {

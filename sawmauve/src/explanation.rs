@@ -1,5 +1,7 @@
 //! How the outcome of a slot comes about.
 
+use crate::Error;
+use crate::codes::FIELDS;
 use std::fmt;
 
 /// The first test of a slot that applied.
@@ -91,75 +93,143 @@ pub struct Explanation {
     pub outcome: Outcome,
 }
 
-fn outcome(fields: &[u64; 34], at: usize) -> Outcome {
-    Outcome {
-        value: fields[at],
-        quality: char::from(fields[at + 1] as u8),
-        method: fields[at + 2],
+/// Places of the fields that the library gives, as the header counts them.
+mod field {
+    use std::ops::Range;
+
+    pub const CAUSE: usize = 0;
+    pub const RULE: usize = 1;
+    pub const FILLED_VALUE: usize = 2;
+    pub const FILLED_QUALITY: usize = 3;
+    pub const FILLED_METHOD: usize = 4;
+    pub const LEFT: usize = 5;
+    pub const RIGHT: usize = 6;
+    pub const PLACE: usize = 7;
+    pub const LENGTH: usize = 8;
+    pub const REFERENCES: usize = 9;
+    pub const REFERENCE_DAYS: Range<usize> = 10..14;
+    pub const REFERENCE_VALUES: Range<usize> = 14..18;
+    pub const IN_SPAN: usize = 18;
+    pub const FIRST: usize = 19;
+    pub const LAST: usize = 20;
+    pub const LOWEST: usize = 21;
+    pub const HIGHEST: usize = 22;
+    pub const ADVANCE: usize = 23;
+    pub const ACTUAL: usize = 24;
+    pub const STATE: usize = 25;
+    pub const IS_SCALED: usize = 26;
+    pub const T: usize = 27;
+    pub const E: usize = 28;
+    pub const P: usize = 29;
+    pub const C: usize = 30;
+    pub const VALUE: usize = 31;
+    pub const QUALITY: usize = 32;
+    pub const METHOD: usize = 33;
+}
+
+type Fields = [u64; FIELDS];
+
+fn cause(fields: &Fields) -> Result<Cause, Error> {
+    Ok(match fields[field::CAUSE] {
+        0 => Cause::Nothing,
+        1 => Cause::Gap,
+        2 => Cause::TimeChange,
+        3 => Cause::Partial,
+        4 => Cause::Demand,
+        other => return Err(Error::Unknown(other)),
+    })
+}
+
+fn rule(fields: &Fields) -> Result<Rule, Error> {
+    Ok(match fields[field::RULE] {
+        0 => Rule::Delivered,
+        1 => Rule::OutageZero,
+        2 => Rule::Linear,
+        3 => Rule::SameDay,
+        4 => Rule::Nothing,
+        5 => Rule::Agreed,
+        other => return Err(Error::Unknown(other)),
+    })
+}
+
+fn outcome(value: u64, quality: u64, method: u64) -> Result<Outcome, Error> {
+    Ok(Outcome {
+        value,
+        quality: char::from(Error::narrowed::<u8>(quality)?),
+        method,
+    })
+}
+
+fn line(fields: &Fields) -> Line {
+    Line {
+        left: fields[field::LEFT],
+        right: fields[field::RIGHT],
+        place: fields[field::PLACE],
+        length: fields[field::LENGTH],
     }
 }
 
-fn references(fields: &[u64; 34]) -> Vec<Reference> {
-    let count = fields[9].min(4) as usize;
-    let pairs = fields[10..14].iter().zip(&fields[14..18]).take(count);
+fn references(fields: &Fields) -> Result<Vec<Reference>, Error> {
+    let count = Error::narrowed(fields[field::REFERENCES])?;
+    let (days, values) = (
+        &fields[field::REFERENCE_DAYS],
+        &fields[field::REFERENCE_VALUES],
+    );
+    let pairs = days.iter().zip(values).take(count);
     pairs
-        .map(|(day, value)| Reference {
-            day: *day as u32,
-            value: *value,
+        .map(|(day, value)| {
+            Ok(Reference {
+                day: Error::narrowed(*day)?,
+                value: *value,
+            })
         })
         .collect()
 }
 
-fn held(fields: &[u64; 34]) -> Held {
-    Held {
-        first: fields[19] as u32,
-        last: fields[20] as u32,
-        lowest: fields[21],
-        highest: fields[22],
-        advance: fields[23],
-        actual: fields[24],
-        state: fields[25] as u8,
+fn held(fields: &Fields) -> Result<Held, Error> {
+    Ok(Held {
+        first: Error::narrowed(fields[field::FIRST])?,
+        last: Error::narrowed(fields[field::LAST])?,
+        lowest: fields[field::LOWEST],
+        highest: fields[field::HIGHEST],
+        advance: fields[field::ADVANCE],
+        actual: fields[field::ACTUAL],
+        state: Error::narrowed(fields[field::STATE])?,
+    })
+}
+
+fn shares(fields: &Fields) -> Shares {
+    Shares {
+        t: fields[field::T],
+        e: fields[field::E],
+        p: fields[field::P],
+        c: fields[field::C],
     }
 }
 
 impl Explanation {
     /// The fields that the library gives, by their names.
-    pub(crate) fn of(fields: &[u64; 34]) -> Explanation {
-        let line = Line {
-            left: fields[5],
-            right: fields[6],
-            place: fields[7],
-            length: fields[8],
-        };
-        let shares = Shares {
-            t: fields[27],
-            e: fields[28],
-            p: fields[29],
-            c: fields[30],
-        };
-        Explanation {
-            cause: match fields[0] {
-                0 => Cause::Nothing,
-                1 => Cause::Gap,
-                2 => Cause::TimeChange,
-                3 => Cause::Partial,
-                _ => Cause::Demand,
-            },
-            rule: match fields[1] {
-                0 => Rule::Delivered,
-                1 => Rule::OutageZero,
-                2 => Rule::Linear,
-                3 => Rule::SameDay,
-                4 => Rule::Nothing,
-                _ => Rule::Agreed,
-            },
-            filled: outcome(fields, 2),
-            line: (fields[8] != 0).then_some(line),
-            references: references(fields),
-            span: (fields[18] == 1).then(|| held(fields)),
-            shares: (fields[26] == 1).then_some(shares),
-            outcome: outcome(fields, 31),
-        }
+    pub(crate) fn of(fields: &Fields) -> Result<Explanation, Error> {
+        let [is_linear, in_span, is_scaled] =
+            [field::LENGTH, field::IN_SPAN, field::IS_SCALED].map(|place| fields[place] != 0);
+        Ok(Explanation {
+            cause: cause(fields)?,
+            rule: rule(fields)?,
+            filled: outcome(
+                fields[field::FILLED_VALUE],
+                fields[field::FILLED_QUALITY],
+                fields[field::FILLED_METHOD],
+            )?,
+            line: is_linear.then(|| line(fields)),
+            references: references(fields)?,
+            span: in_span.then(|| held(fields)).transpose()?,
+            shares: is_scaled.then(|| shares(fields)),
+            outcome: outcome(
+                fields[field::VALUE],
+                fields[field::QUALITY],
+                fields[field::METHOD],
+            )?,
+        })
     }
 }
 

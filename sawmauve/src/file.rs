@@ -1,7 +1,20 @@
 //! A published file that the proved reader accepted.
 
-use crate::book::done;
+use crate::book::{done, written};
+use crate::codes::FIGURES;
 use crate::{Error, Fields, calls};
+
+/// The bytes of a slot's record.
+pub(crate) const SLOT_BYTES: usize = 6;
+
+/// The bytes of a span's record.
+pub(crate) const SPAN_BYTES: usize = 14;
+
+/// The bytes of the trailer.
+pub(crate) const TRAILER_BYTES: usize = 32;
+
+/// The bytes of the longest file: 400 days of 5 minutes, with a span for each day.
+pub const LONGEST: usize = SLOT_BYTES * 288 * 400 + SPAN_BYTES * 400 + TRAILER_BYTES;
 
 /// The bytes of a file and what the reader gave of them.
 #[derive(Clone, Debug)]
@@ -46,18 +59,30 @@ pub struct Span {
 }
 
 impl Figures {
-    fn of(figures: &[u64; 9]) -> Figures {
-        Figures {
-            first: figures[0] as u32,
-            days: figures[1] as u32,
-            interval: figures[2] as u32,
-            spans: figures[3] as usize,
-            actual: figures[4],
-            substituted: figures[5],
-            none: figures[6],
-            sum: figures[7],
-            layout: figures[8] as u8,
-        }
+    /// The figures that the library gives, in its order.
+    fn of(figures: [u64; FIGURES]) -> Result<Figures, Error> {
+        let [
+            first,
+            days,
+            interval,
+            spans,
+            actual,
+            substituted,
+            none,
+            sum,
+            layout,
+        ] = figures;
+        Ok(Figures {
+            first: Error::narrowed(first)?,
+            days: Error::narrowed(days)?,
+            interval: Error::narrowed(interval)?,
+            spans: Error::narrowed(spans)?,
+            actual,
+            substituted,
+            none,
+            sum,
+            layout: Error::narrowed(layout)?,
+        })
     }
 
     /// n.
@@ -108,11 +133,11 @@ fn span_of(record: &[u8]) -> Option<Span> {
 impl File {
     /// The file that these bytes are.
     pub fn read(bytes: Vec<u8>) -> Result<File, Error> {
-        let mut figures = [0; 9];
+        let mut figures = [0; FIGURES];
         done(calls::read(&bytes, &mut figures))?;
         Ok(File {
             bytes,
-            figures: Figures::of(&figures),
+            figures: Figures::of(figures)?,
         })
     }
 
@@ -129,27 +154,26 @@ impl File {
     /// 01's line.
     pub fn line(&self) -> Result<Vec<u8>, Error> {
         let mut out = vec![0; 256];
-        let length = calls::line(&self.bytes, &mut out);
-        if length < 23 {
-            return Err(Error::of(length));
-        }
-        out.truncate(length as usize);
-        Ok(out)
+        written(calls::line(&self.bytes, &mut out), out)
     }
 
     /// The slot table.
     pub fn slot_table(&self) -> &[u8] {
-        self.bytes.get(..6 * self.figures.slots()).unwrap_or(&[])
+        let end = SLOT_BYTES * self.figures.slots();
+        self.bytes.get(..end).unwrap_or(&[])
     }
 
     fn span_table(&self) -> &[u8] {
-        let end = calls::tables(&self.bytes) as usize;
-        self.bytes.get(6 * self.figures.slots()..end).unwrap_or(&[])
+        let start = SLOT_BYTES * self.figures.slots();
+        let end = usize::try_from(calls::tables(&self.bytes)).unwrap_or(0);
+        self.bytes.get(start..end).unwrap_or(&[])
     }
 
     /// Its slots in order.
     pub fn slots(&self) -> impl Iterator<Item = Slot> + '_ {
-        self.slot_table().chunks_exact(6).filter_map(slot_of)
+        self.slot_table()
+            .chunks_exact(SLOT_BYTES)
+            .filter_map(slot_of)
     }
 
     /// Its spans in order.

@@ -1,5 +1,6 @@
 //! The head of a book.
 
+use crate::codes::READINGS;
 use crate::{Date, Error, calls};
 
 /// What every call of a book is given: first day, days, interval in minutes, demand limit in W, tolerance in Wh.
@@ -15,22 +16,19 @@ pub struct Head {
     pub tolerance: u32,
 }
 
-/// What the library adds a refusal's number to where it answers a number below it.
-const READINGS: u32 = 100_000_000;
-
 impl Head {
     /// n; 0 where the interval is 0.
-    pub fn slots_per_day(&self) -> usize {
-        1440_u32.checked_div(self.interval).unwrap_or(0) as usize
+    pub fn slots_per_day(&self) -> u32 {
+        1440_u32.checked_div(self.interval).unwrap_or(0)
     }
 
     /// D, or 400 for a head of more, which every call refuses.
-    pub fn day_count(&self) -> usize {
-        self.days.min(400) as usize
+    pub fn day_count(&self) -> u32 {
+        self.days.min(400)
     }
 
     /// N.
-    pub fn slot_count(&self) -> usize {
+    pub fn slot_count(&self) -> u32 {
         self.slots_per_day() * self.day_count()
     }
 

@@ -17,6 +17,7 @@
 pub mod calls;
 
 mod book;
+mod codes;
 mod compare;
 mod date;
 mod error;
@@ -36,7 +37,7 @@ pub use error::Error;
 pub use explanation::{
     Cause, Explanation, Held, Line, Outcome, Reference, Rule, Shares, state_word,
 };
-pub use file::{Figures, File, Slot, Span, from_strips};
+pub use file::{Figures, File, LONGEST, Slot, Span, from_strips};
 pub use head::Head;
 pub use log::{Answer, Call, Log, Played};
 pub use market::Fields;

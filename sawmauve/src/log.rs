@@ -1,7 +1,8 @@
 //! A text log: what it is, what its lines say, and what playing it leaves and answers.
 
 use crate::book::{accepted, done};
-use crate::{Accepted, Book, Error, Head, Refusal, calls};
+use crate::codes::{self, CALL_FIELDS, LOG_FIGURES};
+use crate::{Accepted, Book, Date, Error, Head, Refusal, calls};
 use std::fmt;
 
 /// The bytes of a log: one opening with a good head, and only calls.
@@ -41,7 +42,11 @@ pub enum Call {
     Nothing,
     Limits,
     Opening {
-        head: [u32; 7],
+        first: Date,
+        days: u32,
+        interval: u32,
+        kind: u32,
+        tolerance: u32,
     },
     Delivery {
         slot: u32,
@@ -65,27 +70,27 @@ pub enum Call {
     },
 }
 
-fn head_of(figures: &[u64; 9]) -> Head {
-    let [year, month, day, days, interval, limit, tolerance, ..] = figures.map(|n| n as u32);
-    Head {
-        year,
-        month,
-        day,
-        days,
-        interval,
-        limit,
-        tolerance,
-    }
+fn head_of(figures: [u64; 7]) -> Result<Head, Error> {
+    let [year, month, day, days, interval, limit, tolerance] = figures;
+    Ok(Head {
+        year: Error::narrowed(year)?,
+        month: Error::narrowed(month)?,
+        day: Error::narrowed(day)?,
+        days: Error::narrowed(days)?,
+        interval: Error::narrowed(interval)?,
+        limit: Error::narrowed(limit)?,
+        tolerance: Error::narrowed(tolerance)?,
+    })
 }
 
 impl<'a> Log<'a> {
     /// The log that these bytes are.
     pub fn read(bytes: &'a [u8]) -> Result<Log<'a>, Error> {
-        let mut figures = [0; 9];
+        let mut figures = [0; LOG_FIGURES];
         match calls::log(bytes, &mut figures) {
-            0 => {}
-            104 => return Err(Error::NoOpening),
-            105 => return Err(Error::NotACall(calls::log_line(bytes))),
+            codes::DONE => {}
+            codes::NO_OPENING => return Err(Error::NoOpening),
+            codes::NOT_A_CALL => return Err(Error::NotACall(calls::log_line(bytes))),
             code => {
                 let error = Error::of(code);
                 return Err(match error.refusal() {
@@ -94,12 +99,12 @@ impl<'a> Log<'a> {
                 });
             }
         }
-        let lines = usize::try_from(figures[7]).map_err(|_| Error::Unknown(figures[7]))?;
+        let [head @ .., lines, calls] = figures;
         Ok(Log {
             bytes,
-            head: head_of(&figures),
-            lines,
-            calls: figures[8],
+            head: head_of(head)?,
+            lines: Error::narrowed(lines)?,
+            calls,
         })
     }
 
@@ -168,10 +173,10 @@ impl Played {
 impl Answer {
     /// The answer that a line's byte stands for.
     fn of(code: u8) -> Result<Answer, Error> {
-        match code {
-            102 => Ok(Answer::Done),
-            103 => Ok(Answer::Nothing),
-            _ => match accepted(u32::from(code)) {
+        match u32::from(code) {
+            codes::OPENING => Ok(Answer::Done),
+            codes::NO_CALL => Ok(Answer::Nothing),
+            code => match accepted(code) {
                 Ok(accepted) => Ok(Answer::Accepted(accepted)),
                 Err(Error::Refused(refusal)) => Ok(Answer::Refused(refusal)),
                 Err(error) => Err(error),
@@ -207,40 +212,47 @@ impl Call {
 
     /// What a line, without its LF, says; nothing where it is no line of a log.
     pub fn read(line: &[u8]) -> Result<Option<Call>, Error> {
-        let mut fields = [0; 7];
+        let mut fields = [0; CALL_FIELDS];
         match calls::call(line, &mut fields) {
-            105 => Ok(None),
+            codes::NOT_A_CALL => Ok(None),
             code => Call::of(code, fields).map(Some),
         }
     }
 
     /// The call that a code and its fields stand for.
-    fn of(code: u32, fields: [u32; 7]) -> Result<Call, Error> {
-        let [a, b, c, d, ..] = fields;
-        match code {
-            102 => Ok(Call::Opening { head: fields }),
-            103 => Ok(Call::Nothing),
-            106 => Ok(Call::Limits),
-            110 => Ok(Call::Delivery {
-                slot: a,
-                version: b,
-                value: c,
-                status: d,
-            }),
-            111 => Ok(Call::Agreed {
-                slot: a,
-                version: b,
-                value: c,
-            }),
-            112 => Ok(Call::Holiday { day: a }),
-            113 => Ok(Call::Register {
-                boundary: a,
-                version: b,
-                reading: c,
-                width: d,
-            }),
-            _ => Err(Error::of(code)),
-        }
+    fn of(code: u32, fields: [u32; CALL_FIELDS]) -> Result<Call, Error> {
+        Ok(match (code, fields) {
+            (codes::NO_CALL, _) => Call::Nothing,
+            (codes::LIMITS, _) => Call::Limits,
+            (codes::OPENING, [year, month, day, days, interval, kind, tolerance]) => {
+                Call::Opening {
+                    first: Date { year, month, day },
+                    days,
+                    interval,
+                    kind,
+                    tolerance,
+                }
+            }
+            (codes::DELIVERY, [slot, version, value, status, ..]) => Call::Delivery {
+                slot,
+                version,
+                value,
+                status,
+            },
+            (codes::AGREED, [slot, version, value, ..]) => Call::Agreed {
+                slot,
+                version,
+                value,
+            },
+            (codes::HOLIDAY, [day, ..]) => Call::Holiday { day },
+            (codes::REGISTER, [boundary, version, reading, width, ..]) => Call::Register {
+                boundary,
+                version,
+                reading,
+                width,
+            },
+            _ => return Err(Error::of(code)),
+        })
     }
 }
 
@@ -254,7 +266,7 @@ mod tests {
         for code in [23, 99, 104, 255] {
             assert_eq!(Answer::of(code), Err(Error::Unknown(code.into())));
         }
-        assert_eq!(Call::of(103, [0; 7]), Ok(Call::Nothing));
-        assert_eq!(Call::of(114, [0; 7]), Err(Error::Unknown(114)));
+        assert_eq!(Call::of(103, [0; CALL_FIELDS]), Ok(Call::Nothing));
+        assert_eq!(Call::of(114, [0; CALL_FIELDS]), Err(Error::Unknown(114)));
     }
 }

@@ -166,7 +166,7 @@ fn slots_behind(books: Pair<&Book>, moved: &Comparison) -> Vec<Behind<Cell>> {
         .iter()
         .flat_map(|run| run.first..run.until())
         .collect();
-    let slots = 0..books.ours.values.len() as u32;
+    let slots = 0..books.ours.head.slot_count();
     slots
         .filter(|slot| !moved.contains(slot))
         .filter_map(|slot| behind(slot, books.map(|book| book.cell(slot)), content))
@@ -184,7 +184,7 @@ fn readings_behind(books: Pair<&Book>, moved: &Comparison) -> Vec<Behind<Reading
         .flat_map(|span| [span.first, span.last])
         .collect();
     let content = |cell: &Reading| (cell.version != 0, cell.reading, cell.width);
-    let boundaries = 0..books.ours.read_versions.len() as u32;
+    let boundaries = 0..=books.ours.head.day_count();
     boundaries
         .filter(|boundary| !moved.contains(boundary))
         .filter_map(|at| behind(at, books.map(|book| book.reading(at)), content))

@@ -1,6 +1,7 @@
 //! A berth on paper.
 
 use crate::book::done;
+use crate::file::{SLOT_BYTES, SPAN_BYTES, TRAILER_BYTES};
 use crate::{Book, Error, File, Head, calls, state_word};
 use std::fmt;
 
@@ -16,7 +17,7 @@ pub struct Run {
 /// Runs a berth from a seed with `loss` of 1000 slots lost.
 pub fn simulate(head: Head, seed: u32, loss: u32) -> Result<Run, Error> {
     let mut book = Book::blank(head);
-    let mut out = vec![0; 6 * book.values.len() + 14 + 32];
+    let mut out = vec![0; SLOT_BYTES * book.values.len() + SPAN_BYTES + TRAILER_BYTES];
     let mut report = [0; 2];
     done(calls::simulate(
         head,

@@ -7,7 +7,7 @@ use std::fmt::Write;
 use std::fs;
 use std::process::Stdio;
 use std::thread::sleep;
-use std::time::{Duration, Instant, SystemTime, UNIX_EPOCH};
+use std::time::{Instant, SystemTime, UNIX_EPOCH};
 
 const KILLS: u32 = 50;
 
@@ -68,9 +68,7 @@ fn killed_at_random_moments() {
             if kill % 2 == 0 { &old } else { &new },
         );
         let mut child = publish(kill as usize % 2).spawn().unwrap();
-        sleep(Duration::from_nanos(
-            u64::from(draw()) * whole.as_nanos() as u64 * 5 / 4 / u64::from(u32::MAX),
-        ));
+        sleep(whole.mul_f64(1.25 * f64::from(draw()) / f64::from(u32::MAX)));
         child.kill().unwrap();
         child.wait().unwrap();
         let after = fs::read(&file).unwrap();

@@ -324,7 +324,13 @@ fn slot_lines(draws: &mut Draws, slot: u64, loss: u64, lost: &mut u64) -> String
 /// A random log of so many days.
 fn random_log(seed: u64, days: u64, interval: u64) -> String {
     let mut draws = Draws(seed.wrapping_mul(0x9e37_79b9_7f4a_7c15) | 1);
-    let (in_day, loss) = (1440 / interval, [0, 5, 30, 200][draws.below(4) as usize]);
+    let in_day = 1440 / interval;
+    let loss = match draws.below(4) {
+        0 => 0,
+        1 => 5,
+        2 => 30,
+        _ => 200,
+    };
     let (month, first) = (1 + draws.below(12), 1 + draws.below(28));
     let mut text = format!(
         "# {seed}\nopen 20{:02}-{month:02}-{first:02} {days} {interval} 1 {}\n",
@@ -359,9 +365,10 @@ fn random_log(seed: u64, days: u64, interval: u64) -> String {
 fn random_logs() {
     let folder = Folder::new();
     let mut met = BTreeSet::new();
-    for seed in 1..=24 {
-        let days = [1, 2, 8, 20, 62][seed as usize % 5];
-        let text = random_log(seed, days, [30, 15, 5][seed as usize % 3]);
+    let days = [2, 8, 20, 62, 1].into_iter().cycle();
+    let sizes = days.zip([15, 5, 30].into_iter().cycle());
+    for (seed, (days, interval)) in (1..=24).zip(sizes) {
+        let text = random_log(seed, days, interval);
         let log = folder.write("x.log", text);
         let page = page(&log);
         met.extend(holds_cells(&page, &log));

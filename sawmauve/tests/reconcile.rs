@@ -219,7 +219,8 @@ fn a_listed_call_taken_out_disappears() {
     for one in &listed {
         let left = found(&without(&ours, one.call), &theirs).calls;
         assert!(left.ours.iter().all(|other| other.call != one.call));
-        let line = ours.lines().nth(one.lines[0] as usize - 1).unwrap();
+        let mut lines = (1..).zip(ours.lines());
+        let (_, line) = lines.find(|(at, _)| *at == one.lines[0]).unwrap();
         let left = found(&ours, &format!("{theirs}{line}\n")).calls;
         let still = left.ours.iter().any(|other| other.call == one.call);
         assert_eq!(still, one.refused.is_some());

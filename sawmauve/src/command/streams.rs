@@ -2,7 +2,7 @@
 
 use super::closed;
 use super::trouble::Trouble;
-use sawmauve::Error;
+use sawmauve::{Error, LONGEST};
 use std::ffi::OsStr;
 use std::fs::{self, File};
 use std::io::{self, IsTerminal, Read, Stdin, Write};
@@ -30,10 +30,9 @@ pub fn read(name: &OsStr) -> Result<Vec<u8>, Trouble> {
     bytes.map_err(|error| Trouble::io(name, &error))
 }
 
-/// The file under a name, or the reader's refusal. None is longer than 115,200 slots, 400 spans and the trailer; of what is longer one
-/// byte more is read, for which the reader refuses it.
+/// The file under a name, or the reader's refusal. Of what is longer than any file one byte more is read, for which the reader refuses it.
 pub fn read_file(name: &OsStr) -> Result<Result<sawmauve::File, Error>, Trouble> {
-    const MOST: u64 = 6 * 115_200 + 14 * 400 + 32 + 1;
+    const MOST: u64 = LONGEST as u64 + 1;
     let bytes = match name == "-" {
         true => standard_input().and_then(|input| all_of(&mut input.take(MOST))),
         false => File::open(name).and_then(|file| all_of(&mut file.take(MOST))),

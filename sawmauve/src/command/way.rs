@@ -16,7 +16,7 @@ pub struct Ways<'a> {
 /// The slot with its times.
 fn slot_line(played: &Played, first: u32, slot: u32) -> String {
     let head = played.book.head();
-    let in_day = (head.slots_per_day() as u32).max(1);
+    let in_day = head.slots_per_day().max(1);
     let from = slot % in_day * head.interval;
     let (date, to) = (date(first, slot / in_day), Time(from + head.interval));
     format!("slot {slot}: {date} {} to {to}\n", Time(from))

@@ -1,8 +1,7 @@
 //! What a slot is, and a cell of the grid: a slot, or in a long book the slots of a half hour.
 
-use super::super::times::Times;
 use super::html::{counted, grouped};
-use sawmauve::{Head, Slot, Time};
+use sawmauve::Slot;
 
 /// What a slot is, from what was measured to what is missing.
 #[derive(Clone, Copy, Debug, PartialEq, Eq, PartialOrd, Ord)]
@@ -113,13 +112,6 @@ fn sum(slots: &[Slot]) -> u64 {
     slots.iter().map(|slot| u64::from(slot.value)).sum()
 }
 
-/// The times of some slots from one on, which end on the same day.
-pub fn period(times: Times, head: Head, first: u32, slots: usize) -> String {
-    let minute = first % (head.slots_per_day() as u32).max(1) * head.interval;
-    let until = Time(minute + slots as u32 * head.interval);
-    format!("{} to {until}", times.slot(first))
-}
-
 impl Cell<'_> {
     /// The kind of the slot that is farthest from measured.
     pub fn kind(&self) -> Kind {
@@ -162,8 +154,7 @@ impl Cell<'_> {
     }
 
     /// What hovering or focusing it shows: its times and value, then quality and method.
-    pub fn label(&self, times: Times, head: Head) -> String {
-        let period = period(times, head, self.first, self.slots.len());
+    pub fn label(&self, period: &str) -> String {
         format!("{period}, {} Wh\n{}", grouped(self.value()), self.words())
     }
 }

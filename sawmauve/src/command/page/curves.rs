@@ -1,6 +1,6 @@
 //! Each day's curve, in a long book each week's: what was measured and what was filled as areas, and before the dial as a line.
 
-use super::cells::{ALL, Cell, Kind, period};
+use super::cells::{ALL, Cell, Kind};
 use super::html::{counted, escaped, grouped};
 use super::month::Month;
 
@@ -19,8 +19,9 @@ fn top(month: &Month) -> u64 {
 }
 
 fn height(value: u64, top: u64) -> u64 {
-    let value = u128::from(value) * u128::from(HEIGHT) / u128::from(top.max(1));
-    HEIGHT - (value as u64).min(HEIGHT)
+    let height = u128::from(value) * u128::from(HEIGHT) / u128::from(top.max(1));
+    // No value is above the top, so that the height is at most the drawing's.
+    HEIGHT - u64::try_from(height).unwrap_or(HEIGHT).min(HEIGHT)
 }
 
 /// A curve of steps through the places that have a height; `ground` closes each unbroken run of them to an area.
@@ -96,13 +97,8 @@ fn words(month: &Month, cells: &[Cell]) -> String {
     let Some(highest) = cells.iter().max_by_key(|cell| cell.value()) else {
         return kinds;
     };
-    let time = period(
-        month.times(),
-        month.head(),
-        highest.first,
-        highest.slots.len(),
-    );
-    format!("{kinds}; highest {} Wh, {time}", grouped(highest.value()))
+    let (value, time) = (grouped(highest.value()), month.period_of(highest));
+    format!("{kinds}; highest {value} Wh, {time}")
 }
 
 fn drawing(month: &Month, cells: &[Cell], top: u64) -> String {
@@ -125,13 +121,14 @@ fn drawing(month: &Month, cells: &[Cell], top: u64) -> String {
 }
 
 fn figure(month: &Month, day: u32, cells: &[Cell], top: u64) -> String {
-    let days = cells.len() / month.cells_per_day().max(1);
-    let totals = month.totals.iter().skip(day as usize).take(days);
-    let total = grouped(totals.map(|total| u128::from(*total)).sum::<u128>());
-    let weekday = month.weekday(day) + 1;
-    let until = match days {
-        0 | 1 => String::new(),
-        _ => format!(" to {}", month.date(day + days as u32 - 1)),
+    let in_day = month.head().slots_per_day().max(1);
+    let last = cells.last().map_or(day, |cell| cell.first / in_day);
+    let totals = month.totals.get(day as usize..=last as usize);
+    let totals = totals.unwrap_or(&[]).iter().map(|total| u128::from(*total));
+    let (total, weekday) = (grouped(totals.sum::<u128>()), month.weekday(day) + 1);
+    let until = match last == day {
+        true => String::new(),
+        false => format!(" to {}", month.date(last)),
     };
     format!(
         "<figure class=\"on-{weekday}\"><figcaption><a href=\"#day-{day}\">{}{until}</a> <span>{total} Wh</span></figcaption>{}</figure>\n",
@@ -169,7 +166,7 @@ fn legend(month: &Month, top: u64) -> String {
 pub fn curves(month: &Month) -> String {
     let cells: Vec<Cell> = month.cells().collect();
     let (top, days) = (top(month), if month.is_long() { WEEK } else { 1 });
-    let class = match month.head().day_count() {
+    let class = match month.head().day_count() as usize {
         _ if month.is_long() => "weeks",
         0..WEEK => "few",
         _ => "days",

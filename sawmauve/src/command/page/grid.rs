@@ -122,7 +122,7 @@ pub fn table(margins: &[Margin], cells: &[String], cells_per_day: usize) -> Stri
 
 /// A cell; what is not simply delivered leads to its way.
 fn cell(month: &Month, cell: &Cell, linked: impl Fn(u32) -> String) -> String {
-    let label = escaped(&cell.label(month.times(), month.head()));
+    let label = escaped(&cell.label(&month.period_of(cell)));
     let (kind, first) = (cell.kind(), cell.first);
     let (class, letter) = (kind.class(), kind.letter());
     if kind == Kind::Measured {

@@ -58,7 +58,7 @@ impl Listing {
 
 /// A row of the slots that differ.
 fn slot_row(month: &Month, slot: u32, pair: &Pair<Slot>) -> String {
-    let size = month.slots_per_cell() as u32;
+    let size = month.slots_per_cell();
     let side = |slot: &Slot| {
         format!(
             "<td class=\"number\">{}</td><td>{}</td>",

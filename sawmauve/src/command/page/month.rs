@@ -2,7 +2,7 @@
 
 use super::super::times::Times;
 use super::cells::Cell;
-use sawmauve::{Date, Error, File, Head, Log, Played, Slot};
+use sawmauve::{Date, Error, File, Head, Log, Played, Slot, Time};
 use std::ffi::OsStr;
 use std::os::unix::ffi::OsStrExt;
 
@@ -69,19 +69,32 @@ impl<'a> Month<'a> {
     }
 
     /// How many slots a cell has.
-    pub fn slots_per_cell(&self) -> usize {
+    pub fn slots_per_cell(&self) -> u32 {
         match self.is_long() {
-            true => 30_u32.checked_div(self.head().interval).unwrap_or(1).max(1) as usize,
+            true => 30_u32.checked_div(self.head().interval).unwrap_or(1).max(1),
             false => 1,
         }
     }
 
     pub fn cells_per_day(&self) -> usize {
-        (self.head().slots_per_day() / self.slots_per_cell()).max(1)
+        (self.head().slots_per_day() / self.slots_per_cell()).max(1) as usize
+    }
+
+    /// The times of some slots from one on, which end on the same day.
+    pub fn period(&self, first: u32, slots: u32) -> String {
+        let head = self.head();
+        let minute = first % head.slots_per_day().max(1) * head.interval;
+        let until = Time(minute + slots * head.interval);
+        format!("{} to {until}", self.times().slot(first))
+    }
+
+    /// The times of a cell.
+    pub fn period_of(&self, cell: &Cell) -> String {
+        self.period(cell.first, self.slots_per_cell())
     }
 
     pub fn cells(&self) -> impl Iterator<Item = Cell<'_>> {
-        let size = self.slots_per_cell();
+        let size = self.slots_per_cell() as usize;
         let parts = self.slots.chunks(size).zip(self.before.chunks(size));
         (0..)
             .step_by(size)

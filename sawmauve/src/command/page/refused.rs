@@ -36,9 +36,7 @@ fn all<'a>(month: &Month<'a>) -> Vec<Refused<'a>> {
 /// The time that a call is about, where it lies in the book.
 fn time(times: Times, head: Head, call: &Call) -> String {
     match *call {
-        Call::Delivery { slot, .. } | Call::Agreed { slot, .. }
-            if (slot as usize) < head.slot_count() =>
-        {
+        Call::Delivery { slot, .. } | Call::Agreed { slot, .. } if slot < head.slot_count() => {
             times.slot(slot)
         }
         Call::Holiday { day: at } if at < head.days => times.day(at),

@@ -27,13 +27,13 @@ pub fn advance(span: &Span) -> String {
 }
 
 /// What was shared out over the fitted slots of a span, which begins at this slot.
-fn shared(month: &Month, span: &Span, begin: usize) -> Result<String, Error> {
-    let end = span.last as usize * month.head().slots_per_day();
-    let slots = month.slots.get(begin..end).unwrap_or(&[]);
-    let Some(place) = slots.iter().position(is_fitted) else {
+fn shared(month: &Month, span: &Span, begin: u32) -> Result<String, Error> {
+    let end = span.last * month.head().slots_per_day();
+    let slots = month.slots.get(begin as usize..end as usize).unwrap_or(&[]);
+    let Some((slot, _)) = (begin..).zip(slots).find(|(_, slot)| is_fitted(slot)) else {
         return Ok("nothing".to_string());
     };
-    let told = month.played.book.explain((begin + place) as u32)?;
+    let told = month.played.book.explain(slot)?;
     let total = told.shares.map_or(0, |shares| shares.t);
     let count = slots.iter().filter(|slot| is_fitted(slot)).count();
     Ok(format!(
@@ -44,11 +44,8 @@ fn shared(month: &Month, span: &Span, begin: usize) -> Result<String, Error> {
 }
 
 fn row(month: &Month, span: &Span) -> Result<String, Error> {
-    let (begin, times) = (
-        span.first as usize * month.head().slots_per_day(),
-        month.times(),
-    );
-    let held = month.played.book.explain(begin as u32)?.span;
+    let (begin, times) = (span.first * month.head().slots_per_day(), month.times());
+    let held = month.played.book.explain(begin)?.span;
     let measured = held.map_or_else(String::new, |held| grouped(held.actual));
     Ok(format!(
         "<tr><th scope=\"row\">{}</th><td>{}</td><td class=\"number\">{}</td>\

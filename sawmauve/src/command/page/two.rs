@@ -1,7 +1,7 @@
 //! The page of two logs: one grid with the slots that differ outlined, both values, and what `reconcile` lists.
 
 use super::super::differences::signed;
-use super::cells::{Cell, Kind, period};
+use super::cells::{Cell, Kind};
 use super::grid::{self, Margin};
 use super::heading::{self, fact};
 use super::html::{self, counted, escaped, grouped, shown};
@@ -41,12 +41,7 @@ fn margins(months: &Pair<Month>) -> Vec<Margin> {
 
 /// What a cell that differs shows.
 fn label(month: &Month, cells: &Pair<Cell>) -> String {
-    let period = period(
-        month.times(),
-        month.head(),
-        cells.ours.first,
-        cells.ours.slots.len(),
-    );
+    let period = month.period_of(&cells.ours);
     let side = |cell: &Cell| format!("{} Wh, {}", grouped(cell.value()), cell.words());
     let Pair { ours, theirs } = cells.map(side);
     format!("{period}\nours {ours}\ntheirs {theirs}")
@@ -58,7 +53,7 @@ fn cell(month: &Month, cells: Pair<Cell>, listing: &Listing) -> String {
     let (class, letter) = (kinds.ours.class(), kinds.ours.letter());
     let mut pairs = (cells.ours.first..).zip(cells.ours.slots.iter().zip(cells.theirs.slots));
     let Some((slot, _)) = pairs.find(|(_, (ours, theirs))| ours != theirs) else {
-        let label = escaped(&cells.ours.label(month.times(), month.head()));
+        let label = escaped(&cells.ours.label(&month.period_of(&cells.ours)));
         return format!(
             "<td class=\"{class}\" tabindex=\"0\" aria-label=\"{label}\">{letter}</td>"
         );

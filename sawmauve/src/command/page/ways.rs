@@ -1,7 +1,7 @@
 //! The way of each slot that is not simply delivered, in `follow`'s text, folded until it is asked for.
 
 use super::super::way;
-use super::cells::{Kind, period, short_words};
+use super::cells::{Kind, short_words};
 use super::html::{counted, escaped, grouped, shell_word};
 use super::month::Month;
 use sawmauve::Error;
@@ -115,14 +115,14 @@ fn item(month: &Month, slot: u32, text: &str) -> Result<String, Error> {
         .slots
         .get(slot as usize)
         .ok_or(Error::Refused(sawmauve::Refusal::Place))?;
-    let (kind, size) = (Kind::of(record), month.slots_per_cell() as u32);
+    let (kind, size) = (Kind::of(record), month.slots_per_cell());
     let cell = slot / size * size;
     Ok(format!(
         "<details><summary><span class=\"key {}\" aria-hidden=\"true\">{}</span> {} · {} Wh · {}</summary>\
          <div id=\"way-{slot}\"><pre>{}</pre><a href=\"#slot-{cell}\">back to its cell</a></div></details>\n",
         kind.class(),
         kind.letter(),
-        period(month.times(), month.head(), slot, 1),
+        month.period(slot, 1),
         grouped(record.value),
         short_words(record),
         escaped(text)
