@@ -1,6 +1,6 @@
 //! Two files laid side by side.
 
-use crate::{Figures, File, Slot, Span};
+use crate::{Figures, File, Slot, Span, State};
 use std::collections::BTreeMap;
 
 /// What both sides have.
@@ -126,11 +126,16 @@ impl Comparison {
 impl Lacks {
     /// Of a file.
     pub fn of(file: &File) -> Lacks {
-        let in_state = |state| file.spans().filter(|span| span.state == state).count();
+        let in_state = |state| {
+            file.spans()
+                .iter()
+                .filter(|span| span.state == state)
+                .count()
+        };
         Lacks {
             missing: file.figures().none,
-            open: in_state(2),
-            disagreeing: in_state(3),
+            open: in_state(State::Open),
+            disagreeing: in_state(State::Disagrees),
         }
     }
 
@@ -143,17 +148,17 @@ impl Lacks {
 fn spans(files: Pair<&File>) -> Vec<Pair<Option<Span>>> {
     let mut by_ends: BTreeMap<(u32, u32), Pair<Option<Span>>> = BTreeMap::new();
     for span in files.ours.spans() {
-        by_ends.entry((span.first, span.last)).or_default().ours = Some(span);
+        by_ends.entry((span.first, span.last)).or_default().ours = Some(*span);
     }
     for span in files.theirs.spans() {
-        by_ends.entry((span.first, span.last)).or_default().theirs = Some(span);
+        by_ends.entry((span.first, span.last)).or_default().theirs = Some(*span);
     }
     by_ends.into_values().filter_map(Pair::differing).collect()
 }
 
-fn runs(slots: &Pair<Vec<Slot>>) -> Vec<Differing> {
+fn runs(slots: Pair<&[Slot]>) -> Vec<Differing> {
     let mut runs: Vec<Differing> = Vec::new();
-    for (at, (ours, theirs)) in (0..).zip(slots.ours.iter().zip(&slots.theirs)) {
+    for (at, (ours, theirs)) in (0..).zip(slots.ours.iter().zip(slots.theirs)) {
         let pair = Pair {
             ours: *ours,
             theirs: *theirs,
@@ -170,7 +175,7 @@ fn runs(slots: &Pair<Vec<Slot>>) -> Vec<Differing> {
     runs
 }
 
-fn days(slots: &Pair<Vec<Slot>>, in_day: usize) -> Vec<DaySums> {
+fn days(slots: Pair<&[Slot]>, in_day: usize) -> Vec<DaySums> {
     let in_day = in_day.max(1);
     let days = slots.ours.chunks(in_day).zip(slots.theirs.chunks(in_day));
     let sum = |slots: &[Slot]| slots.iter().map(|slot| u64::from(slot.value)).sum();
@@ -198,10 +203,13 @@ pub fn compare(ours: &File, theirs: &File) -> Comparison {
         days: Vec::new(),
     };
     if found.is_of_same_times() {
-        let slots = files.map(|file| file.slots().collect::<Vec<Slot>>());
+        let slots = Pair {
+            ours: ours.slots(),
+            theirs: theirs.slots(),
+        };
         found.spans = spans(files);
-        found.runs = runs(&slots);
-        found.days = days(&slots, ours.figures().slots_per_day() as usize);
+        found.runs = runs(slots);
+        found.days = days(slots, ours.figures().slots_per_day() as usize);
     }
     found
 }

@@ -1,7 +1,7 @@
 //! How the outcome of a slot comes about.
 
-use crate::Error;
 use crate::codes::FIELDS;
+use crate::{Error, Method, Quality, State};
 use std::fmt;
 
 /// The first test of a slot that applied.
@@ -27,13 +27,13 @@ pub enum Rule {
     Agreed,
 }
 
-/// A value, a quality letter and a method.
+/// A value, a quality and a method.
 #[derive(Clone, Copy, Debug, PartialEq, Eq)]
 #[allow(missing_docs, reason = "the paper's names")]
 pub struct Outcome {
     pub value: u64,
-    pub quality: char,
-    pub method: u64,
+    pub quality: Quality,
+    pub method: Method,
 }
 
 /// The values before and after a run, the slot's place in it from 1, and the run's slots.
@@ -65,7 +65,7 @@ pub struct Held {
     pub highest: u64,
     pub advance: u64,
     pub actual: u64,
-    pub state: u8,
+    pub state: State,
 }
 
 /// T, which is shared out, E, the sum of the shapes, P, that of those before the slot, and C, that up to and with it.
@@ -155,8 +155,8 @@ fn rule(fields: &Fields) -> Result<Rule, Error> {
 fn outcome(value: u64, quality: u64, method: u64) -> Result<Outcome, Error> {
     Ok(Outcome {
         value,
-        quality: char::from(Error::narrowed::<u8>(quality)?),
-        method,
+        quality: Quality::try_from(Error::narrowed::<u8>(quality)?)?,
+        method: Method::try_from(Error::narrowed::<u8>(method)?)?,
     })
 }
 
@@ -194,7 +194,7 @@ fn held(fields: &Fields) -> Result<Held, Error> {
         highest: fields[field::HIGHEST],
         advance: fields[field::ADVANCE],
         actual: fields[field::ACTUAL],
-        state: Error::narrowed(fields[field::STATE])?,
+        state: State::try_from(Error::narrowed::<u8>(fields[field::STATE])?)?,
     })
 }
 
@@ -230,16 +230,6 @@ impl Explanation {
                 fields[field::METHOD],
             )?,
         })
-    }
-}
-
-/// A span's state in a word.
-pub fn state_word(state: u8) -> &'static str {
-    match state {
-        0 => "agrees",
-        1 => "scaled",
-        2 => "open",
-        _ => "disagrees",
     }
 }
 

@@ -2,7 +2,7 @@
 
 use crate::book::{done, written};
 use crate::codes::FIGURES;
-use crate::{Error, Fields, calls};
+use crate::{Error, Fields, Method, Quality, Refusal, State, calls};
 
 /// The bytes of a slot's record.
 pub(crate) const SLOT_BYTES: usize = 6;
@@ -16,11 +16,16 @@ pub(crate) const TRAILER_BYTES: usize = 32;
 /// The bytes of the longest file: 400 days of 5 minutes, with a span for each day.
 pub const LONGEST: usize = SLOT_BYTES * 288 * 400 + SPAN_BYTES * 400 + TRAILER_BYTES;
 
-/// The bytes of a file and what the reader gave of them.
+/// Tables that are not as their trailer has them.
+const BROKEN: Error = Error::Refused(Refusal::Broken);
+
+/// The bytes of a file, what the reader gave of them, and the records of its two tables.
 #[derive(Clone, Debug)]
 pub struct File {
     bytes: Vec<u8>,
     figures: Figures,
+    slots: Vec<Slot>,
+    spans: Vec<Span>,
 }
 
 /// The figures of a file's trailer.
@@ -43,8 +48,8 @@ pub struct Figures {
 #[allow(missing_docs, reason = "the paper's names")]
 pub struct Slot {
     pub value: u32,
-    pub quality: char,
-    pub method: u8,
+    pub quality: Quality,
+    pub method: Method,
 }
 
 /// A span's record; in the layouts 1 and 2 both ends of the advance are R.
@@ -55,7 +60,7 @@ pub struct Span {
     pub last: u32,
     pub lowest: u32,
     pub highest: u32,
-    pub state: u8,
+    pub state: State,
 }
 
 impl Figures {
@@ -96,38 +101,46 @@ impl Figures {
     }
 }
 
-/// A number, low byte first.
-fn number(bytes: &[u8]) -> u32 {
-    bytes
-        .iter()
-        .rev()
-        .fold(0, |n, byte| n << 8 | u32::from(*byte))
+impl Slot {
+    fn of(record: &[u8; SLOT_BYTES]) -> Result<Slot, Error> {
+        let [a, b, c, d, quality, method] = *record;
+        Ok(Slot {
+            value: u32::from_le_bytes([a, b, c, d]),
+            quality: Quality::try_from(quality)?,
+            method: Method::try_from(method)?,
+        })
+    }
 }
 
-fn slot_of(record: &[u8]) -> Option<Slot> {
-    let [a, b, c, d, quality, method] = record else {
-        return None;
-    };
-    Some(Slot {
-        value: number(&[*a, *b, *c, *d]),
-        quality: char::from(*quality),
-        method: *method,
-    })
+impl Span {
+    /// A record of layout 3, or of a layout before it, which has one advance.
+    fn of(record: &[u8]) -> Result<Span, Error> {
+        let parts = || {
+            let (first, rest) = record.split_first_chunk()?;
+            let (last, rest) = rest.split_first_chunk()?;
+            let (lowest, rest) = rest.split_first_chunk()?;
+            let (highest, rest) = rest.split_first_chunk().unwrap_or((lowest, rest));
+            Some((first, last, lowest, highest, *rest.first()?))
+        };
+        let (first, last, lowest, highest, state) = parts().ok_or(BROKEN)?;
+        Ok(Span {
+            first: u16::from_le_bytes(*first).into(),
+            last: u16::from_le_bytes(*last).into(),
+            lowest: u32::from_le_bytes(*lowest),
+            highest: u32::from_le_bytes(*highest),
+            state: State::try_from(state)?,
+        })
+    }
 }
 
-fn span_of(record: &[u8]) -> Option<Span> {
-    let (ends, advance) = (
-        record.get(..4)?,
-        record.get(4..record.len().checked_sub(2)?)?,
-    );
-    let highest = advance.get(4..8).unwrap_or(advance);
-    Some(Span {
-        first: number(&ends[..2]),
-        last: number(&ends[2..]),
-        lowest: number(advance.get(..4)?),
-        highest: number(highest),
-        state: record[record.len() - 2],
-    })
+fn slots_of(table: &[u8]) -> Result<Vec<Slot>, Error> {
+    let (records, _) = table.as_chunks();
+    records.iter().map(Slot::of).collect()
+}
+
+fn spans_of(table: &[u8], count: usize) -> Result<Vec<Span>, Error> {
+    let length = table.len().checked_div(count).unwrap_or(0);
+    table.chunks(length.max(1)).map(Span::of).collect()
 }
 
 impl File {
@@ -135,9 +148,18 @@ impl File {
     pub fn read(bytes: Vec<u8>) -> Result<File, Error> {
         let mut figures = [0; FIGURES];
         done(calls::read(&bytes, &mut figures))?;
+        let figures = Figures::of(figures)?;
+        let end = Error::narrowed(calls::tables(&bytes))?;
+        let tables = bytes.get(..end).unwrap_or(&[]);
+        let (slots, spans) = tables
+            .split_at_checked(SLOT_BYTES * figures.slots())
+            .ok_or(BROKEN)?;
+        let (slots, spans) = (slots_of(slots)?, spans_of(spans, figures.spans)?);
         Ok(File {
             bytes,
-            figures: Figures::of(figures)?,
+            figures,
+            slots,
+            spans,
         })
     }
 
@@ -163,24 +185,14 @@ impl File {
         self.bytes.get(..end).unwrap_or(&[])
     }
 
-    fn span_table(&self) -> &[u8] {
-        let start = SLOT_BYTES * self.figures.slots();
-        let end = usize::try_from(calls::tables(&self.bytes)).unwrap_or(0);
-        self.bytes.get(start..end).unwrap_or(&[])
-    }
-
     /// Its slots in order.
-    pub fn slots(&self) -> impl Iterator<Item = Slot> + '_ {
-        self.slot_table()
-            .chunks_exact(SLOT_BYTES)
-            .filter_map(slot_of)
+    pub fn slots(&self) -> &[Slot] {
+        &self.slots
     }
 
     /// Its spans in order.
-    pub fn spans(&self) -> impl Iterator<Item = Span> + '_ {
-        let table = self.span_table();
-        let length = table.len().checked_div(self.figures.spans).unwrap_or(0);
-        table.chunks_exact(length.max(1)).filter_map(span_of)
+    pub fn spans(&self) -> &[Span] {
+        &self.spans
     }
 
     /// The totals of stays, each a first day and the day after the last, counted from 0 in the book.

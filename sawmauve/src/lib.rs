@@ -26,6 +26,7 @@ mod file;
 mod head;
 mod log;
 mod market;
+mod quality;
 mod reconcile;
 mod refusal;
 mod simulate;
@@ -34,13 +35,12 @@ pub use book::{Accepted, Book, Cell, Reading};
 pub use compare::{Comparison, DaySums, Differing, Lacks, Pair, compare};
 pub use date::{Date, Time, minute, number};
 pub use error::Error;
-pub use explanation::{
-    Cause, Explanation, Held, Line, Outcome, Reference, Rule, Shares, state_word,
-};
+pub use explanation::{Cause, Explanation, Held, Line, Outcome, Reference, Rule, Shares};
 pub use file::{Figures, File, LONGEST, Slot, Span, from_strips};
 pub use head::Head;
 pub use log::{Answer, Call, Log, Played};
 pub use market::Fields;
+pub use quality::{Method, Quality, State};
 pub use reconcile::{Behind, Elsewhere, Listed, Reconciliation, reconcile};
 pub use refusal::{ALL as REFUSALS, Refusal};
 pub use simulate::{Run, simulate};

@@ -2,16 +2,22 @@
 
 use crate::book::done;
 use crate::file::{SLOT_BYTES, SPAN_BYTES, TRAILER_BYTES};
-use crate::{Book, Error, File, Head, calls, state_word};
+use crate::{Book, Error, File, Head, State, calls};
 use std::fmt;
 
 /// What a run came to: the span's state, the published total minus the true one, and the true one, in Wh.
 #[derive(Clone, Copy, Debug, PartialEq, Eq)]
 #[allow(missing_docs, reason = "said above")]
 pub struct Run {
-    pub state: u8,
+    pub state: State,
     pub difference: i64,
     pub total: u64,
+}
+
+/// The state in a report, where numbers have a sign.
+fn state_of(number: i64) -> Result<State, Error> {
+    let unknown = Error::Unknown(number.unsigned_abs());
+    State::try_from(u8::try_from(number).map_err(|_| unknown)?)
 }
 
 /// Runs a berth from a seed with `loss` of 1000 slots lost.
@@ -39,7 +45,7 @@ pub fn simulate(head: Head, seed: u32, loss: u32) -> Result<Run, Error> {
     let published = File::read(out)?.figures().sum;
     let [state, difference] = report;
     Ok(Run {
-        state: u8::try_from(state).unwrap_or(3),
+        state: state_of(state)?,
         difference,
         total: published.saturating_add_signed(difference.saturating_neg()),
     })
@@ -65,10 +71,10 @@ impl fmt::Display for Run {
         } else {
             ""
         };
-        let state = state_word(self.state);
         write!(
             f,
-            "{state} {} {sign}{}.{}%",
+            "{} {} {sign}{}.{}%",
+            self.state,
             self.difference,
             tenths / 10,
             tenths % 10

@@ -1,8 +1,8 @@
 //! The library: no input makes it panic, and its types say what the exports do.
 
 use sawmauve::{
-    Accepted, Book, Call, Date, Error, File, Head, Log, REFUSALS, Refusal, calls, from_strips,
-    simulate,
+    Accepted, Book, Call, Date, Error, File, Head, Log, Method, Quality, REFUSALS, Refusal, State,
+    calls, from_strips, simulate,
 };
 
 const HEAD: Head = Head {
@@ -28,9 +28,10 @@ fn whole() -> Book {
 fn the_whole_case() {
     let file = File::read(whole().publish().unwrap()).unwrap();
     assert_eq!(file.line().unwrap(), b"2024-05-01 1 30 47 1 0 4800");
-    assert_eq!(file.slots().map(|slot| slot.value).sum::<u32>(), 4800);
-    assert_eq!(file.slots().nth(10).unwrap().quality, 'S');
-    assert_eq!(file.spans().count(), 0);
+    let values = file.slots().iter().map(|slot| slot.value);
+    assert_eq!(values.sum::<u32>(), 4800);
+    assert_eq!(file.slots()[10].quality, Quality::Substituted);
+    assert_eq!(file.spans().len(), 0);
     assert_eq!(file.stays(&[(0, 1)]), Ok(vec![4800]));
     let strips = file.strips().unwrap();
     assert_eq!(from_strips(30, &strips).unwrap(), file.slot_table());
@@ -49,16 +50,41 @@ fn without_its_readings_a_book_has_what_was_filled() {
         File::read(book.publish().unwrap())
             .unwrap()
             .slots()
-            .collect::<Vec<_>>()
+            .to_vec()
     };
     let (filled, fitted) = (slots(&book.unread()), slots(&book));
     for (at, slot) in (0..).zip(&filled) {
         let told = book.explain(at).unwrap().filled;
-        let record = (u64::from(slot.value), slot.quality, u64::from(slot.method));
+        let record = (u64::from(slot.value), slot.quality, slot.method);
         assert_eq!(record, (told.value, told.quality, told.method));
     }
     assert_eq!((filled.len(), filled == fitted), (1488, false));
     assert!((0..=31).all(|day| book.is_holiday(day) == [0, 8].contains(&day)));
+}
+
+/// Each byte is one of these, printed as it stands in a file or on a page, or refused.
+fn all_of<T: TryFrom<u8, Error = Error> + ToString>(known: &[(u8, &str)]) {
+    for byte in 0..=u8::MAX {
+        let known = known.iter().find(|(number, _)| *number == byte);
+        let want = known.map(|(_, text)| text.to_string());
+        let want = want.ok_or(Error::Unknown(byte.into()));
+        assert_eq!(T::try_from(byte).map(|one| one.to_string()), want);
+    }
+}
+
+#[test]
+fn qualities_methods_and_states() {
+    all_of::<Quality>(&[(b'A', "A"), (b'S', "S"), (b'F', "F"), (b'N', "N")]);
+    all_of::<Method>(&[
+        (0, "0"),
+        (1, "1"),
+        (2, "2"),
+        (3, "3"),
+        (5, "5"),
+        (18, "18"),
+        (19, "19"),
+    ]);
+    all_of::<State>(&[(0, "agrees"), (1, "scaled"), (2, "open"), (3, "disagrees")]);
 }
 
 #[test]
@@ -226,7 +252,7 @@ fn damaged_files_do_not_panic() {
             let mut bytes = good.clone();
             bytes[at] ^= 1 << bit;
             if let Ok(file) = File::read(bytes) {
-                assert_eq!(file.slots().count(), 48);
+                assert_eq!(file.slots().len(), 48);
             }
         }
         assert!(File::read(good[..at].to_vec()).is_err());

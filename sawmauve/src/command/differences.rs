@@ -1,7 +1,7 @@
 //! What differs between two files, in lines of text.
 
 use super::times::{Times, date};
-use sawmauve::{Comparison, Differing, Pair, Slot, Span, state_word};
+use sawmauve::{Comparison, Differing, Pair, Slot, Span};
 use std::fmt::Display;
 
 /// A difference in Wh with its sign.
@@ -42,7 +42,7 @@ fn span_words(span: Option<Span>) -> String {
              highest,
              state,
              ..
-         }| format!("{lowest} to {highest} {}", state_word(state)),
+         }| format!("{lowest} to {highest} {state}"),
     )
 }
 

@@ -1,7 +1,7 @@
 //! What differs between two files, as CSV.
 
 use super::times::{Times, date};
-use sawmauve::{Comparison, Differing, Pair, Slot, Span, state_word};
+use sawmauve::{Comparison, Differing, Pair, Slot, Span};
 
 const HEADER: &str = "what,from,until,\
     ours,ours highest,ours quality or state,ours method,\
@@ -37,10 +37,7 @@ fn figure_rows(found: &Comparison) -> String {
 fn span_side(span: &Option<Span>) -> String {
     span.map_or_else(
         || ",,,".to_string(),
-        |span| {
-            let state = state_word(span.state);
-            format!("{},{},{state},", span.lowest, span.highest)
-        },
+        |span| format!("{},{},{},", span.lowest, span.highest, span.state),
     )
 }
 

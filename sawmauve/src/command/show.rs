@@ -5,7 +5,7 @@ use super::arguments::{Arguments, Opt};
 use super::streams;
 use super::times::date;
 use super::trouble::{Status, Trouble, refused_line, tell};
-use sawmauve::{Error, File, Span, Time, state_word};
+use sawmauve::{Error, File, Span, Time};
 use std::ffi::{OsStr, OsString};
 use std::os::unix::ffi::OsStrExt;
 
@@ -73,16 +73,14 @@ fn slots(file: &File) -> Result<Vec<String>, Error> {
 
 fn spans(file: &File) -> Result<Vec<String>, Error> {
     let start = file.figures().first;
-    let line = |span: Span| {
+    let line = |span: &Span| {
         let (from, until) = (date(start, span.first), date(start, span.last));
         format!(
             "{from},{until},{},{},{}",
-            span.lowest,
-            span.highest,
-            state_word(span.state)
+            span.lowest, span.highest, span.state
         )
     };
-    Ok(file.spans().map(line).collect())
+    Ok(file.spans().iter().map(line).collect())
 }
 
 /// A name as a field of CSV.

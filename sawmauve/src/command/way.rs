@@ -1,9 +1,7 @@
 //! The way of a slot through the book, from the log's lines to its published record, in lines of text.
 
 use super::times::date;
-use sawmauve::{
-    Answer, Call, Cell, Error, Explanation, Held, Log, Played, Refusal, Time, state_word,
-};
+use sawmauve::{Answer, Call, Cell, Error, Explanation, Held, Log, Played, Refusal, Time};
 use std::collections::HashMap;
 
 /// A log that was played, and the lines of it that name the slots whose ways are asked for.
@@ -108,13 +106,10 @@ fn span_line(span: Option<Held>, first: u32) -> String {
         highest,
         advance,
         actual,
+        state,
         ..
     } = span;
-    let (from, to, state) = (
-        date(first, span.first),
-        date(first, span.last),
-        state_word(span.state),
-    );
+    let (from, to) = (date(first, span.first), date(first, span.last));
     format!(
         "span: {from} to {to}, advance {lowest} to {highest}, R {advance}, V {actual}, {state}\n"
     )

@@ -2,7 +2,7 @@
 
 use std::collections::BTreeSet;
 
-use sawmauve::{Comparison, File, Pair, Slot, Span};
+use sawmauve::{Comparison, Error, File, Method, Pair, Quality, Slot, Span, State};
 
 use crate::compare::rng::Rng;
 use crate::second::contents::Contents;
@@ -49,22 +49,22 @@ fn contents(file: &[u8]) -> Result<Contents, String> {
     Contents::of(file).map_err(|number| format!("the second build refuses {number}"))
 }
 
-fn slot(slot: &rules::Slot) -> Slot {
-    Slot {
+fn slot(slot: &rules::Slot) -> Result<Slot, Error> {
+    Ok(Slot {
         value: slot.value,
-        quality: char::from(letter(slot.quality)),
-        method: slot.method,
-    }
+        quality: Quality::try_from(letter(slot.quality))?,
+        method: Method::try_from(slot.method)?,
+    })
 }
 
-fn span(span: &rules::Span) -> Span {
-    Span {
+fn span(span: &rules::Span) -> Result<Span, Error> {
+    Ok(Span {
         first: span.first as u32,
         last: span.last as u32,
         lowest: span.advances.lowest,
         highest: span.advances.highest,
-        state: state_number(span.state),
-    }
+        state: State::try_from(state_number(span.state))?,
+    })
 }
 
 /// What is listed is what differs between the contents that the second build reads.
@@ -104,18 +104,18 @@ pub fn listed(found: &Comparison, ours: &[u8], theirs: &[u8]) -> Result<(), Stri
 /// Every slot that differs, in unbroken runs that do not touch.
 fn slots(found: &Comparison, ours: &Contents, theirs: &Contents) -> Result<(), String> {
     let pairs = (0..).zip(ours.slots.iter().zip(&theirs.slots));
-    let wanted: Vec<(u32, Pair<Slot>)> = pairs
+    let wanted = pairs
         .filter(|(_, (ours, theirs))| ours != theirs)
         .map(|(at, (ours, theirs))| {
-            let (ours, theirs) = (slot(ours), slot(theirs));
-            (at, Pair { ours, theirs })
-        })
-        .collect();
+            let (ours, theirs) = (slot(ours)?, slot(theirs)?);
+            Ok((at, Pair { ours, theirs }))
+        });
+    let wanted: Result<Vec<(u32, Pair<Slot>)>, Error> = wanted.collect();
     let runs = found.runs.iter();
     let given: Vec<(u32, Pair<Slot>)> = runs
         .flat_map(|run| (run.first..).zip(run.slots.iter().copied()))
         .collect();
-    must(given == wanted, "slots")?;
+    must(Ok(given) == wanted, "slots")?;
     let apart = found
         .runs
         .windows(2)
@@ -151,8 +151,11 @@ fn days(found: &Comparison, ours: &Contents, theirs: &Contents) -> Result<(), St
 
 /// Each boundary pair that one side alone has, or both with other records, once and in order.
 fn spans(found: &Comparison, ours: &Contents, theirs: &Contents) -> Result<(), String> {
-    let (a, b) = (ours.spans.iter().map(span), theirs.spans.iter().map(span));
-    let (a, b): (Vec<Span>, Vec<Span>) = (a.collect(), b.collect());
+    let records = |contents: &Contents| {
+        let spans: Result<Vec<Span>, Error> = contents.spans.iter().map(span).collect();
+        spans.map_err(|error| error.to_string())
+    };
+    let (a, b) = (records(ours)?, records(theirs)?);
     let ends: BTreeSet<(u32, u32)> = a
         .iter()
         .chain(&b)

@@ -1,7 +1,7 @@
 //! What a slot is, and a cell of the grid: a slot, or in a long book the slots of a half hour.
 
 use super::html::{counted, grouped};
-use sawmauve::Slot;
+use sawmauve::{Method, Quality, Slot};
 
 /// What a slot is, from what was measured to what is missing.
 #[derive(Clone, Copy, Debug, PartialEq, Eq, PartialOrd, Ord)]
@@ -22,12 +22,12 @@ pub const ALL: [Kind; 6] = [Measured, Outage, Line, OtherDays, Agreed, Missing];
 impl Kind {
     pub fn of(slot: &Slot) -> Kind {
         match (slot.quality, slot.method) {
-            ('A', 0) => Measured,
-            ('A', _) => Outage,
-            ('F', _) => Agreed,
-            ('S', 2 | 18) => Line,
-            ('S', _) => OtherDays,
-            _ => Missing,
+            (Quality::Actual, Method::OutageZero) => Outage,
+            (Quality::Actual, _) => Measured,
+            (Quality::Agreed, _) => Agreed,
+            (Quality::Substituted, Method::Linear | Method::ScaledLinear) => Line,
+            (Quality::Substituted, _) => OtherDays,
+            (Quality::Missing, _) => Missing,
         }
     }
 
@@ -69,7 +69,7 @@ impl Kind {
 
 /// The slot was fitted to the dial.
 pub fn is_fitted(slot: &Slot) -> bool {
-    slot.method >= 18
+    slot.method.is_scaled()
 }
 
 /// A record in few words.

@@ -15,11 +15,11 @@ fn key(class: &str, letter: &str, words: &str) -> String {
 /// How many slots are what: the legend of the grid.
 pub fn legend(month: &Month) -> String {
     let keys = ALL.map(|kind| {
-        let count = month.slots.iter().filter(|slot| Kind::of(slot) == kind);
+        let count = month.slots().iter().filter(|slot| Kind::of(slot) == kind);
         let words = format!("<b>{}</b> {}", grouped(count.count() as u128), kind.words());
         key(kind.class(), kind.letter(), &words)
     });
-    let slots = counted(month.slots.len(), "slot", "slots");
+    let slots = counted(month.slots().len(), "slot", "slots");
     format!(
         "<p class=\"lead\">Of {slots}:</p>\n<ul class=\"legend\">{}</ul>\n",
         keys.concat()

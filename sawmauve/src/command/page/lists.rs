@@ -9,7 +9,7 @@ use super::cells::record_words;
 use super::html::{grouped, shell_word, table};
 use super::month::Month;
 use super::spans::advance;
-use sawmauve::{Behind, Comparison, Listed, Pair, Reconciliation, Slot, Span, state_word};
+use sawmauve::{Behind, Comparison, Listed, Pair, Reconciliation, Slot, Span};
 use std::fmt::Display;
 
 /// The most rows of a list.
@@ -110,7 +110,7 @@ fn both_row(name: impl Display, sides: Pair<String>, more: &str) -> String {
 fn span_words(span: &Option<Span>) -> String {
     span.map_or_else(
         || "none".to_string(),
-        |span| format!("{} {}", advance(&span), state_word(span.state)),
+        |span| format!("{} {}", advance(&span), span.state),
     )
 }
 

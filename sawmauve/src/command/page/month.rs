@@ -15,7 +15,6 @@ pub struct Month<'a> {
     pub log: Log<'a>,
     pub played: Played,
     pub file: File,
-    pub slots: Vec<Slot>,
     /// The slots as filled before any span was fitted to the dial.
     pub before: Vec<Slot>,
     /// The totals of the days in Wh.
@@ -38,8 +37,7 @@ impl<'a> Month<'a> {
         Ok(Month {
             name,
             log,
-            slots: file.slots().collect(),
-            before: unread.slots().collect(),
+            before: unread.slots().to_vec(),
             totals: totals(&file)?,
             played,
             file,
@@ -48,6 +46,10 @@ impl<'a> Month<'a> {
 
     pub fn head(&self) -> Head {
         self.log.head()
+    }
+
+    pub fn slots(&self) -> &[Slot] {
+        self.file.slots()
     }
 
     pub fn times(&self) -> Times {
@@ -95,7 +97,7 @@ impl<'a> Month<'a> {
 
     pub fn cells(&self) -> impl Iterator<Item = Cell<'_>> {
         let size = self.slots_per_cell() as usize;
-        let parts = self.slots.chunks(size).zip(self.before.chunks(size));
+        let parts = self.slots().chunks(size).zip(self.before.chunks(size));
         (0..)
             .step_by(size)
             .zip(parts)

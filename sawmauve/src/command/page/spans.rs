@@ -3,19 +3,19 @@
 use super::cells::is_fitted;
 use super::html::{counted, grouped, table};
 use super::month::Month;
-use sawmauve::{Error, Span, state_word};
+use sawmauve::{Error, Span, State};
 
 const CAPTION: &str = "From 00:00 of one date to 00:00 of the other. The measured sum has what was measured and what was agreed.";
 
 /// A span's state in words.
-fn state_words(state: u8) -> String {
+fn state_words(state: State) -> String {
     let more = match state {
-        0 => "the measured sum is what the dial says",
-        1 => "what was filled is fitted to the dial",
-        2 => "a slot is missing, nothing is fitted",
-        _ => "the measured sum is not what the dial says",
+        State::Agrees => "the measured sum is what the dial says",
+        State::Scaled => "what was filled is fitted to the dial",
+        State::Open => "a slot is missing, nothing is fitted",
+        State::Disagrees => "the measured sum is not what the dial says",
     };
-    format!("<b>{}</b>: {more}", state_word(state))
+    format!("<b>{state}</b>: {more}")
 }
 
 /// The advance in Wh, or its range.
@@ -29,7 +29,10 @@ pub fn advance(span: &Span) -> String {
 /// What was shared out over the fitted slots of a span, which begins at this slot.
 fn shared(month: &Month, span: &Span, begin: u32) -> Result<String, Error> {
     let end = span.last * month.head().slots_per_day();
-    let slots = month.slots.get(begin as usize..end as usize).unwrap_or(&[]);
+    let slots = month
+        .slots()
+        .get(begin as usize..end as usize)
+        .unwrap_or(&[]);
     let Some((slot, _)) = (begin..).zip(slots).find(|(_, slot)| is_fitted(slot)) else {
         return Ok("nothing".to_string());
     };
@@ -60,7 +63,12 @@ fn row(month: &Month, span: &Span) -> Result<String, Error> {
 
 /// The table of the spans.
 pub fn spans(month: &Month) -> Result<String, Error> {
-    let rows: Result<String, Error> = month.file.spans().map(|span| row(month, &span)).collect();
+    let rows: Result<String, Error> = month
+        .file
+        .spans()
+        .iter()
+        .map(|span| row(month, span))
+        .collect();
     let rows = rows?;
     if rows.is_empty() {
         return Ok(

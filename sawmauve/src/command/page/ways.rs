@@ -24,7 +24,7 @@ pub struct Ways {
 
 impl Ways {
     pub fn of(month: &Month) -> Ways {
-        let slots = (0..).zip(&month.slots);
+        let slots = (0..).zip(month.slots());
         Ways {
             slots: slots
                 .filter(|(_, slot)| Kind::of(slot) != Kind::Measured)
@@ -112,7 +112,7 @@ where
 /// A way below its slot; the anchor stands inside, so that a link to it unfolds it.
 fn item(month: &Month, slot: u32, text: &str) -> Result<String, Error> {
     let record = month
-        .slots
+        .slots()
         .get(slot as usize)
         .ok_or(Error::Refused(sawmauve::Refusal::Place))?;
     let (kind, size) = (Kind::of(record), month.slots_per_cell());
