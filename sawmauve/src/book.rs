@@ -31,23 +31,29 @@ pub enum Accepted {
     Repeat,
 }
 
-/// What stands for a slot: the delivery, and the agreed value; a version is 0 where nothing came.
+/// What stands for a slot: the delivery, and the agreed value.
 #[derive(Clone, Copy, Debug, PartialEq, Eq)]
-#[allow(missing_docs, reason = "they are their names")]
 pub struct Cell {
+    /// The delivery's version; 0 where none came.
     pub version: u32,
+    /// The delivered value in Wh.
     pub value: u32,
+    /// The delivery's status: 1 time change, 2 power outage, 4 partial interval.
     pub status: u8,
+    /// The agreed value's version; 0 where none came.
     pub agreed_version: u32,
+    /// The value agreed with the skipper, in Wh.
     pub agreed: u32,
 }
 
-/// What stands for a boundary; the version is 0 where nothing came.
+/// What stands for a boundary.
 #[derive(Clone, Copy, Debug, PartialEq, Eq)]
-#[allow(missing_docs, reason = "they are their names")]
 pub struct Reading {
+    /// The register read's version; 0 where none came.
     pub version: u32,
+    /// The lowest that the dial can have stood at, in Wh.
     pub reading: u32,
+    /// How much higher it can have stood, in Wh.
     pub width: u16,
 }
 

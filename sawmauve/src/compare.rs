@@ -5,45 +5,52 @@ use std::collections::BTreeMap;
 
 /// What both sides have.
 #[derive(Clone, Copy, Debug, Default, PartialEq, Eq)]
-#[allow(missing_docs, reason = "they are their names")]
 pub struct Pair<T> {
+    /// Of the side that is named first.
     pub ours: T,
+    /// Of the other side.
     pub theirs: T,
 }
 
-/// An unbroken run of slots that differ: the first one's number, and the records on both sides.
+/// An unbroken run of slots that differ.
 #[derive(Clone, Debug, PartialEq, Eq)]
-#[allow(missing_docs, reason = "said above")]
 pub struct Differing {
+    /// The number of its first slot.
     pub first: u32,
+    /// The records of both sides, slot by slot.
     pub slots: Vec<Pair<Slot>>,
 }
 
-/// A day that has a slot which differs, counted from 0 in the book, and its sums in Wh.
+/// A day that has a slot which differs.
 #[derive(Clone, Copy, Debug, PartialEq, Eq)]
-#[allow(missing_docs, reason = "said above")]
 pub struct DaySums {
+    /// The day, counted from 0 in the book.
     pub day: u32,
+    /// The sums of its slots in Wh.
     pub sums: Pair<u64>,
 }
 
-/// What differs between two files, beside the figures of both: spans, those of the same boundaries together; runs of slots; and the days
-/// that hold these. Where first day, days or interval differ the slots are other times, and no span and no slot is listed.
+/// What differs between two files. Where first day, days or interval differ the slots are other times, and no span and no slot is listed.
 #[derive(Clone, Debug, PartialEq, Eq)]
-#[allow(missing_docs, reason = "said above")]
 pub struct Comparison {
+    /// The figures of both, whether they differ or not.
     pub figures: Pair<Figures>,
+    /// The spans that differ, those of the same boundaries together.
     pub spans: Vec<Pair<Option<Span>>>,
+    /// The slots that differ.
     pub runs: Vec<Differing>,
+    /// The days that hold these slots.
     pub days: Vec<DaySums>,
 }
 
-/// What a file lacks: missing slots, open spans and disagreeing ones. An equality can hold these too.
+/// What a file lacks. Equal files can lack these too.
 #[derive(Clone, Copy, Debug, PartialEq, Eq)]
-#[allow(missing_docs, reason = "said above")]
 pub struct Lacks {
+    /// Missing slots.
     pub missing: u64,
+    /// Open spans.
     pub open: usize,
+    /// Spans that disagree with their dial.
     pub disagreeing: usize,
 }
 

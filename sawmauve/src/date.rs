@@ -8,10 +8,12 @@ pub const DAYS: u32 = 36_525;
 
 /// A year, a month and a day, which need not be a date of the calendar.
 #[derive(Clone, Copy, Debug, PartialEq, Eq, PartialOrd, Ord, Hash)]
-#[allow(missing_docs, reason = "they are their names")]
 pub struct Date {
+    /// All four digits.
     pub year: u32,
+    /// 1 for January.
     pub month: u32,
+    /// 1 for the first of the month.
     pub day: u32,
 }
 

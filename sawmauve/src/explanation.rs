@@ -6,90 +6,119 @@ use std::fmt;
 
 /// The first test of a slot that applied.
 #[derive(Clone, Copy, Debug, PartialEq, Eq)]
-#[allow(missing_docs, reason = "the paper's names")]
 pub enum Cause {
+    /// The slot is good.
     Nothing,
+    /// Nothing came.
     Gap,
+    /// The status has the bit of a time change.
     TimeChange,
+    /// The status has the bit of a partial interval.
     Partial,
+    /// The value is above the demand limit.
     Demand,
 }
 
 /// The rule that gave a slot its outcome before scaling.
 #[derive(Clone, Copy, Debug, PartialEq, Eq)]
-#[allow(missing_docs, reason = "the paper's names")]
 pub enum Rule {
+    /// The slot is good and stays as it came.
     Delivered,
+    /// A gap beside a delivered slot with the outage bit is 0.
     OutageZero,
+    /// The straight line between the neighbours of a run.
     Linear,
+    /// The mean of the references.
     SameDay,
+    /// No rule applied: the slot is missing.
     Nothing,
+    /// The value agreed with the skipper.
     Agreed,
 }
 
-/// A value, a quality and a method.
+/// What a slot comes to.
 #[derive(Clone, Copy, Debug, PartialEq, Eq)]
-#[allow(missing_docs, reason = "the paper's names")]
 pub struct Outcome {
+    /// The value in Wh.
     pub value: u64,
+    /// What the value is.
     pub quality: Quality,
+    /// How it came about.
     pub method: Method,
 }
 
-/// The values before and after a run, the slot's place in it from 1, and the run's slots.
+/// The line that a slot lies on.
 #[derive(Clone, Copy, Debug, PartialEq, Eq)]
-#[allow(missing_docs, reason = "the paper's names")]
 pub struct Line {
+    /// The value before the run, in Wh.
     pub left: u64,
+    /// The value after the run, in Wh.
     pub right: u64,
+    /// The slot's place in the run, from 1.
     pub place: u64,
+    /// How many slots the run has.
     pub length: u64,
 }
 
-/// A reference: its day, counted from 0 in the book, and its value.
+/// A slot of an earlier day that a mean is made of.
 #[derive(Clone, Copy, Debug, PartialEq, Eq)]
-#[allow(missing_docs, reason = "they are their names")]
 pub struct Reference {
+    /// Its day, counted from 0 in the book.
     pub day: u32,
+    /// Its value in Wh.
     pub value: u64,
 }
 
-/// The span that a slot lies in: its boundaries, its lowest and highest advance, the advance R that it is held to, the sum V of its A and F
-/// slots, and its state.
+/// The span that a slot lies in.
 #[derive(Clone, Copy, Debug, PartialEq, Eq)]
-#[allow(missing_docs, reason = "the paper's names")]
 pub struct Held {
+    /// Its first boundary.
     pub first: u32,
+    /// Its last boundary.
     pub last: u32,
+    /// The lowest advance of the dial, in Wh.
     pub lowest: u64,
+    /// The highest advance of the dial, in Wh.
     pub highest: u64,
+    /// R: the advance that it is held to, in Wh.
     pub advance: u64,
+    /// V: the sum of its A and F slots, in Wh.
     pub actual: u64,
+    /// How V lies to R.
     pub state: State,
 }
 
-/// T, which is shared out, E, the sum of the shapes, P, that of those before the slot, and C, that up to and with it.
+/// How a scaled span is shared out. A shape is what a filled slot counts with.
 #[derive(Clone, Copy, Debug, PartialEq, Eq)]
-#[allow(missing_docs, reason = "the paper's names")]
 pub struct Shares {
+    /// What is shared out, in Wh.
     pub t: u64,
+    /// The sum of the shapes of the span.
     pub e: u64,
+    /// The sum of the shapes before the slot.
     pub p: u64,
+    /// The sum of the shapes up to and with the slot.
     pub c: u64,
 }
 
-/// The way of a slot: its cause, the rule that applied with its line or references, the outcome before scaling, the span, the shares where
-/// it is scaled, and the outcome as published.
+/// The way of a slot.
 #[derive(Clone, Debug, PartialEq, Eq)]
-#[allow(missing_docs, reason = "said above")]
 pub struct Explanation {
+    /// Why what came does not stand.
     pub cause: Cause,
+    /// The rule that applied.
     pub rule: Rule,
+    /// The outcome before scaling.
     pub filled: Outcome,
+    /// Where the rule is linear.
     pub line: Option<Line>,
+    /// Where the rule is same day, the nearest first.
     pub references: Vec<Reference>,
+    /// Where the slot lies in one.
     pub span: Option<Held>,
+    /// Where the slot is scaled.
     pub shares: Option<Shares>,
+    /// The outcome as published.
     pub outcome: Outcome,
 }
 

@@ -30,36 +30,50 @@ pub struct File {
 
 /// The figures of a file's trailer.
 #[derive(Clone, Copy, Debug, PartialEq, Eq)]
-#[allow(missing_docs, reason = "the paper's names")]
 pub struct Figures {
+    /// The number of the first day, 0 for 2000-01-01.
     pub first: u32,
+    /// D, 1 to 400.
     pub days: u32,
+    /// L in minutes: 5, 15 or 30.
     pub interval: u32,
+    /// M: how many spans there are.
     pub spans: usize,
+    /// How many slots are A.
     pub actual: u64,
+    /// How many slots are S or F.
     pub substituted: u64,
+    /// How many slots are N.
     pub none: u64,
+    /// The sum of all values in Wh.
     pub sum: u64,
+    /// 3 in every file published now; 1 or 2 in older ones.
     pub layout: u8,
 }
 
 /// A slot's record.
 #[derive(Clone, Copy, Debug, PartialEq, Eq)]
-#[allow(missing_docs, reason = "the paper's names")]
 pub struct Slot {
+    /// The value in Wh.
     pub value: u32,
+    /// What the value is.
     pub quality: Quality,
+    /// How it came about.
     pub method: Method,
 }
 
-/// A span's record; in the layouts 1 and 2 both ends of the advance are R.
+/// A span's record.
 #[derive(Clone, Copy, Debug, PartialEq, Eq)]
-#[allow(missing_docs, reason = "the paper's names")]
 pub struct Span {
+    /// The first boundary, counted in days from the book's start.
     pub first: u32,
+    /// The last boundary.
     pub last: u32,
+    /// The lowest advance of the dial, in Wh; R in the layouts 1 and 2.
     pub lowest: u32,
+    /// The highest advance of the dial, in Wh; R in the layouts 1 and 2.
     pub highest: u32,
+    /// How it lies to its advance.
     pub state: State,
 }
 

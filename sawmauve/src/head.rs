@@ -3,16 +3,22 @@
 use crate::codes::READINGS;
 use crate::{Date, Error, calls};
 
-/// What every call of a book is given: first day, days, interval in minutes, demand limit in W, tolerance in Wh.
+/// What every call of a book is given.
 #[derive(Clone, Copy, Debug, Default, PartialEq, Eq)]
-#[allow(missing_docs, reason = "the paper's names")]
 pub struct Head {
+    /// The first day's year, 2000 to 2099.
     pub year: u32,
+    /// The first day's month, 1 to 12.
     pub month: u32,
+    /// The first day in its month, from 1.
     pub day: u32,
+    /// D, 1 to 400.
     pub days: u32,
+    /// L in minutes: 5, 15 or 30.
     pub interval: u32,
+    /// The demand limit in W, 1 to 1,000,000.
     pub limit: u32,
+    /// The tolerance in Wh, 0 to 1,000,000.
     pub tolerance: u32,
 }
 

@@ -37,35 +37,58 @@ pub struct Played {
 
 /// A line of a log as a call.
 #[derive(Clone, Copy, Debug, PartialEq, Eq, Hash)]
-#[allow(missing_docs, reason = "the paper's names")]
 pub enum Call {
+    /// An empty line or a comment.
     Nothing,
+    /// A table of demand limits.
     Limits,
+    /// The opening.
     Opening {
+        /// The first day.
         first: Date,
+        /// D.
         days: u32,
+        /// L in minutes.
         interval: u32,
+        /// The place in the table of demand limits, from 1.
         kind: u32,
+        /// The tolerance in Wh.
         tolerance: u32,
     },
+    /// A delivery for a slot.
     Delivery {
+        /// The slot, from 0.
         slot: u32,
+        /// The version, from 1.
         version: u32,
+        /// The value in Wh.
         value: u32,
+        /// 1 time change, 2 power outage, 4 partial interval.
         status: u32,
     },
+    /// A value agreed with the skipper for a slot.
     Agreed {
+        /// The slot, from 0.
         slot: u32,
+        /// The version, from 1.
         version: u32,
+        /// The value in Wh.
         value: u32,
     },
+    /// A holiday.
     Holiday {
+        /// The day, from 0.
         day: u32,
     },
+    /// A register read at a boundary.
     Register {
+        /// The boundary, 0 for the start of the first day.
         boundary: u32,
+        /// The version, from 1.
         version: u32,
+        /// The lowest that the dial can have stood at, in Wh.
         reading: u32,
+        /// How much higher it can have stood, in Wh; 0 where the log has none.
         width: u32,
     },
 }

@@ -3,25 +3,40 @@
 use crate::book::written;
 use crate::{Error, Refusal, calls};
 
-/// The texts of the records 100 and 200 that a file leaves, the reason code, the creation time, and the codes of the methods.
+/// What a file leaves to the office that exports it.
 #[derive(Clone, Debug, Default, PartialEq, Eq)]
-#[allow(missing_docs, reason = "the header's names")]
 pub struct Fields {
+    /// The meter identifier, ten characters.
     pub identifier: Vec<u8>,
+    /// Record 100: the participant that the file comes from.
     pub from: Vec<u8>,
+    /// Record 100: the participant that it goes to.
     pub to: Vec<u8>,
+    /// Record 200: the meter's configuration.
     pub configuration: Vec<u8>,
+    /// Record 200: the register's identifier.
     pub register: Vec<u8>,
+    /// Record 200: the suffix of the meter identifier.
     pub suffix: Vec<u8>,
+    /// Record 200: the data stream's identifier.
     pub stream: Vec<u8>,
+    /// Record 200: the meter's serial number.
     pub serial: Vec<u8>,
+    /// Record 200: the date of the next read.
     pub next_read: Vec<u8>,
+    /// The reason code of substituted and agreed slots.
     pub reason: Vec<u8>,
+    /// The creation time, 14 digits.
     pub created: Vec<u8>,
+    /// The code of method 2, up to 99.
     pub method_2: u32,
+    /// The code of method 3, up to 99.
     pub method_3: u32,
+    /// The code of method 5, up to 99.
     pub method_5: u32,
+    /// The code of method 18, up to 99.
     pub method_18: u32,
+    /// The code of method 19, up to 99.
     pub method_19: u32,
 }
 

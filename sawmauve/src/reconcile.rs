@@ -6,46 +6,52 @@ use crate::{
 };
 use std::collections::{HashMap, HashSet};
 
-/// Where the other log has a call refused: its first such line, why, and whether the call has the highest version of its cell there. A
-/// conflict (10) at the highest version is when order matters.
+/// Where the other log has a call refused. A conflict (10) at the highest version is when order matters.
 #[derive(Clone, Copy, Debug, PartialEq, Eq)]
-#[allow(missing_docs, reason = "said above")]
 pub struct Elsewhere {
+    /// The first such line.
     pub line: u64,
+    /// Why it was refused.
     pub refusal: Refusal,
+    /// Whether the call has the highest version of its cell there.
     pub highest: bool,
 }
 
-/// A call that one log accepted and the other did not: the lines that were accepted, and the version that its cell has after the last line,
-/// none for a holiday.
+/// A call that one log accepted and the other did not.
 #[derive(Clone, Debug, PartialEq, Eq)]
-#[allow(missing_docs, reason = "said above")]
 pub struct Listed {
+    /// The call.
     pub call: Call,
+    /// The lines that were accepted.
     pub lines: Vec<u64>,
+    /// The version that its cell has after the last line; none for a holiday.
     pub cell: Option<u32>,
+    /// Where the other log has it, refused.
     pub refused: Option<Elsewhere>,
 }
 
 /// A slot or a boundary of which both sides have other contents and the same outcome.
 #[derive(Clone, Copy, Debug, PartialEq, Eq)]
-#[allow(missing_docs, reason = "said above")]
 pub struct Behind<T> {
+    /// The slot or the boundary.
     pub at: u32,
+    /// What stands there on both sides.
     pub cells: Pair<T>,
 }
 
-/// What two logs do not have in common: their heads; the calls that one accepted and the other did not, by line number; the slots and spans
-/// whose outcome differs; and where the outcomes are equal, the slots and boundaries whose cells have other contents.
-///
-/// Where first day, days or interval differ the slots are other times, and nothing but the heads is compared.
+/// What two logs do not have in common. Where first day, days or interval differ the slots are other times, and nothing but the heads is
+/// compared.
 #[derive(Clone, Debug, PartialEq, Eq)]
-#[allow(missing_docs, reason = "said above")]
 pub struct Reconciliation {
+    /// The heads of both, whether they differ or not.
     pub heads: Pair<Head>,
+    /// The calls that one alone accepted, by line number.
     pub calls: Pair<Vec<Listed>>,
+    /// The slots and spans whose outcome differs; none where the slots are other times.
     pub moved: Option<Comparison>,
+    /// The slots whose cells have other contents although the outcomes are equal.
     pub slots: Vec<Behind<Cell>>,
+    /// The boundaries whose readings differ although the outcomes are equal.
     pub readings: Vec<Behind<Reading>>,
 }
 

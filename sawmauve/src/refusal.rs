@@ -2,32 +2,53 @@
 
 use std::fmt;
 
-/// Why a call was refused: 01's number under `Numbers of a refusal`, and 02's.
+/// Why a call was refused: 01's number under `Numbers of a refusal`, and 02's. `words` has each in full.
 #[derive(Clone, Copy, Debug, PartialEq, Eq, PartialOrd, Ord)]
 #[repr(u8)]
-#[allow(missing_docs, reason = "`words` says it")]
 pub enum Refusal {
+    /// The head.
     Head = 1,
+    /// The length of a lent list.
     Length,
+    /// The slot, day or boundary.
     Place,
+    /// The version.
     Version,
+    /// The status.
     Status,
+    /// The reading.
     Reading,
+    /// The output buffer.
     Buffer,
+    /// The file's length, distance, head or layout.
     Layout,
+    /// A record, count or sum of the file.
     Broken,
+    /// An equal version with other content.
     Conflict,
+    /// A cell or count.
     Cell,
+    /// The agreed value.
     Agreed,
+    /// The table of demand limits.
     Table,
+    /// The meter identifier of an export.
     Identifier,
+    /// A text, the creation time or a method code of an export.
     Text,
+    /// A half byte of packed decimal.
     HalfByte,
+    /// The width.
     Width,
+    /// The number of stays.
     Pairs,
+    /// A stay's days.
     Pair,
+    /// The seed of a simulation.
     Seed,
+    /// The loss rate of a simulation.
     Loss,
+    /// The length of a table or of its strips.
     Strips,
 }
 

@@ -5,12 +5,14 @@ use crate::file::{SLOT_BYTES, SPAN_BYTES, TRAILER_BYTES};
 use crate::{Book, Error, File, Head, State, calls};
 use std::fmt;
 
-/// What a run came to: the span's state, the published total minus the true one, and the true one, in Wh.
+/// What a run came to.
 #[derive(Clone, Copy, Debug, PartialEq, Eq)]
-#[allow(missing_docs, reason = "said above")]
 pub struct Run {
+    /// The span's state.
     pub state: State,
+    /// The published total minus the true one, in Wh.
     pub difference: i64,
+    /// The true total in Wh.
     pub total: u64,
 }
 

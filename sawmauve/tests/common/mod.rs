@@ -1,7 +1,6 @@
 //! What the tests of the command share: running it, and folders that go when they are done with.
 
 #![allow(dead_code, reason = "not every test uses all of it")]
-#![allow(missing_docs)]
 
 use std::ffi::OsStr;
 use std::fs;
