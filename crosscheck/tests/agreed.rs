@@ -239,14 +239,14 @@ fn eleven_in_the_two_lists() {
 fn the_plain_book_keeps_agreed_calls_apart() {
     let mut plain = Plain::default();
     plain.open(HEAD).unwrap();
-    assert_eq!(plain.agree(HEAD, 5, 2, 9), Ok(Filed::Stored));
-    assert_eq!(plain.deliver(HEAD, 5, 1, 9, 0), Ok(Filed::Stored));
-    assert_eq!(plain.agree(HEAD, 5, 1, 8), Ok(Filed::Late));
-    assert_eq!(plain.agree(HEAD, 5, 2, 9), Ok(Filed::Repeat));
-    assert_eq!(plain.agree(HEAD, 5, 2, 8), Err(10));
-    assert_eq!(plain.agree(HEAD, 48, 0, MAX), Err(3));
-    assert_eq!(plain.agree(HEAD, 5, 0, MAX), Err(4));
-    assert_eq!(plain.agree(HEAD, 5, 3, MOST + 1), Err(12));
+    assert_eq!(plain.agree(HEAD, [5, 2, 9].into()), Ok(Filed::Stored));
+    assert_eq!(plain.deliver(HEAD, [5, 1, 9, 0].into()), Ok(Filed::Stored));
+    assert_eq!(plain.agree(HEAD, [5, 1, 8].into()), Ok(Filed::Late));
+    assert_eq!(plain.agree(HEAD, [5, 2, 9].into()), Ok(Filed::Repeat));
+    assert_eq!(plain.agree(HEAD, [5, 2, 8].into()), Err(10));
+    assert_eq!(plain.agree(HEAD, [48, 0, MAX].into()), Err(3));
+    assert_eq!(plain.agree(HEAD, [5, 0, MAX].into()), Err(4));
+    assert_eq!(plain.agree(HEAD, [5, 3, MOST + 1].into()), Err(12));
     assert_eq!(plain.agreed(5), (9, 2));
     assert_eq!(plain.slot(5), (9, 1, 0));
 }

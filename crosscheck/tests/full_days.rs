@@ -202,10 +202,10 @@ fn the_plain_book_counts_kept_deliveries() {
     let mut plain = Plain::default();
     plain.open(THREE).unwrap();
     for (slot, version) in [(47, 1), (48, 1), (48, 2), (48, 1), (95, 1)] {
-        plain.deliver(THREE, slot, version, 5, 0).unwrap();
+        plain.deliver(THREE, [slot, version, 5, 0].into()).unwrap();
     }
-    plain.deliver(THREE, 48, 2, 6, 0).unwrap_err();
-    plain.agree(THREE, 50, 1, 5).unwrap();
+    plain.deliver(THREE, [48, 2, 6, 0].into()).unwrap_err();
+    plain.agree(THREE, [50, 1, 5].into()).unwrap();
     let counts = [0, 1, 2].map(|day| plain.count(day, 48));
     assert_eq!(counts, [1, 2, 0]);
     plain.open(THREE).unwrap();

@@ -4,7 +4,7 @@ use crosscheck::compare::rng::Rng;
 use crosscheck::second::log::Filling;
 use crosscheck::tries::Tally;
 use crosscheck::tries::reconcile::offices::line;
-use crosscheck::tries::reconcile::side::Side;
+use crosscheck::tries::reconcile::played::Played;
 use crosscheck::tries::reconcile::{CLASSES, SAWMAUVE, Verbs, one};
 use sawmauve::{Comparison, Error, File, Log, Pair, Reconciliation};
 
@@ -111,19 +111,19 @@ fn slips_of_reconcile() {
 const LOG: &str = "open 2024-05-01 1 30 1 0\ndelivery 0 1 5 0\ndelivery 0 1 6 0\ndelivery 0 2 7 0\ndelivery 0 1 6 0\n";
 
 #[test]
-fn a_side_by_hand() {
+fn a_log_by_hand() {
     let (five, six) = ([0, 1, 5, 0], [0, 1, 6, 0]);
-    let side = Side::of(LOG.as_bytes()).unwrap();
-    assert_eq!(side.accepted().len(), 3);
-    assert_eq!(side.refused(Filling::Delivery(six)), Some((3, 10)));
-    assert!(side.has_other_content(Filling::Delivery(five)));
-    assert!(!side.has_other_content(Filling::Delivery([0, 2, 7, 0])));
-    let empty = Side::of(b"open 2024-05-01 1 30 1 0\n").unwrap();
-    let listed = side.alone(&empty);
+    let log = Played::of(LOG.as_bytes()).unwrap();
+    assert_eq!(log.accepted().len(), 3);
+    assert_eq!(log.refused(Filling::Delivery(six)), Some((3, 10)));
+    assert!(log.has_other_content(Filling::Delivery(five)));
+    assert!(!log.has_other_content(Filling::Delivery([0, 2, 7, 0])));
+    let empty = Played::of(b"open 2024-05-01 1 30 1 0\n").unwrap();
+    let listed = log.alone(&empty);
     let lines: Vec<Vec<u64>> = listed.iter().map(|one| one.lines.clone()).collect();
     assert_eq!(lines, [vec![2], vec![4], vec![5]]);
     assert_eq!(
-        side.without(Filling::Delivery(six)),
+        log.without(Filling::Delivery(six)),
         b"open 2024-05-01 1 30 1 0\ndelivery 0 1 5 0\ndelivery 0 2 7 0\n"
     );
     assert_eq!(line(Filling::Register([1, 2, 3, 0])), "register 1 2 3 0");

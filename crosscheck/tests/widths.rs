@@ -307,12 +307,18 @@ fn what_a_refused_file_gives() {
 fn the_plain_book_keeps_widths() {
     let mut plain = Plain::default();
     plain.open(HEAD).unwrap();
-    assert_eq!(plain.register(HEAD, 1, 2, 9, 30), Ok(Filed::Stored));
-    assert_eq!(plain.register(HEAD, 1, 2, 9, 30), Ok(Filed::Repeat));
-    assert_eq!(plain.register(HEAD, 1, 2, 9, 31), Err(10));
-    assert_eq!(plain.register(HEAD, 1, 1, 9, 31), Ok(Filed::Late));
-    assert_eq!(plain.register(HEAD, 1, 3, DIAL, 10_000), Err(6));
-    assert_eq!(plain.register(HEAD, 1, 3, 9, 10_000), Err(17));
-    assert_eq!(plain.register(HEAD, 1, 3, 9, 65_536), Err(17));
+    assert_eq!(
+        plain.register(HEAD, [1, 2, 9, 30].into()),
+        Ok(Filed::Stored)
+    );
+    assert_eq!(
+        plain.register(HEAD, [1, 2, 9, 30].into()),
+        Ok(Filed::Repeat)
+    );
+    assert_eq!(plain.register(HEAD, [1, 2, 9, 31].into()), Err(10));
+    assert_eq!(plain.register(HEAD, [1, 1, 9, 31].into()), Ok(Filed::Late));
+    assert_eq!(plain.register(HEAD, [1, 3, DIAL, 10_000].into()), Err(6));
+    assert_eq!(plain.register(HEAD, [1, 3, 9, 10_000].into()), Err(17));
+    assert_eq!(plain.register(HEAD, [1, 3, 9, 65_536].into()), Err(17));
     assert_eq!(plain.boundary(1), (9, 2, 30));
 }

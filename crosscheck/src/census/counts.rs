@@ -10,7 +10,7 @@ use crate::compare::calls::{Act, Book};
 use crate::compare::side::Answer;
 use crate::second::book::{Filed, MOST_AGREED};
 use crate::second::head::{Head, Shape};
-use crate::second::lists::{List, Lists};
+use crate::second::lists::{Agreement, Delivery, List, Lists};
 use crate::second::reader::{Fault, Figures};
 use crate::second::refusal;
 
@@ -461,10 +461,10 @@ impl Counts {
     pub fn answer(&mut self, act: &Act, answer: Answer) {
         let group = match act {
             Act::Open => "answer to open",
-            Act::Deliver { .. } => "answer to deliver",
+            Act::Deliver(_) => "answer to deliver",
             Act::Holiday { .. } => "answer to holiday",
-            Act::Register { .. } => "answer to register",
-            Act::Agree { .. } => "answer to agree",
+            Act::Register(_) => "answer to register",
+            Act::Agree(_) => "answer to agree",
             Act::Publish { .. } => "answer to publish",
             Act::Write { .. } => return,
         };
@@ -477,7 +477,7 @@ impl Counts {
             Answer::Refused(number) => NUMBERS.get(number as usize).unwrap_or(&"odd number"),
         };
         self.add(group, name);
-        if matches!(act, Act::Deliver { status: 256.., .. }) {
+        if matches!(act, Act::Deliver(Delivery { status: 256.., .. })) {
             let by_status = answer == Answer::Refused(refusal::STATUS.into());
             let name = if by_status { "5" } else { "lower number" };
             self.add("status over 255", name);
@@ -487,7 +487,7 @@ impl Counts {
     /// Why the agreed lists, and no other cell, gave 11.
     pub fn impossible_agreed(&mut self, act: &Act, lists: &Lists) {
         let slots = match *act {
-            Act::Agree { slot, .. } => slot as usize..slot as usize + 1,
+            Act::Agree(Agreement { slot, .. }) => slot as usize..slot as usize + 1,
             Act::Publish { .. } => 0..lists.agreed.len(),
             _ => return,
         };
@@ -496,7 +496,7 @@ impl Counts {
             .into_iter()
             .any(|i| lists.agreed[i] != 0 && lists.agreed_versions[i] == 0);
         let names = match act {
-            Act::Agree { .. } => [
+            Act::Agree(_) => [
                 "agree refused 11, over 99,999,999",
                 "agree refused 11, beside version 0",
             ],

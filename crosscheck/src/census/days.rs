@@ -4,7 +4,7 @@ use crate::census::counts::Counts;
 use crate::compare::calls::{Act, Call};
 use crate::compare::side::{Answer, Second, apply};
 use crate::second::book::Filed;
-use crate::second::lists::Lists;
+use crate::second::lists::{Delivery, Lists};
 
 /// A delivery's slot and its day, before the call.
 pub struct Before {
@@ -22,7 +22,7 @@ pub struct Before {
 impl Before {
     /// None where the call is no delivery, or has no slot in these lists.
     pub fn of(call: &Call, lists: &Lists) -> Option<Before> {
-        let Act::Deliver { slot, .. } = call.act else {
+        let Act::Deliver(Delivery { slot, .. }) = call.act else {
             return None;
         };
         let shape = call.head.shape().ok()?;

@@ -5,7 +5,7 @@ use crate::compare::calls::{Act, Call};
 use crate::compare::side::{Answer, Second, apply};
 use crate::second::book::{Filed, MOST_WIDTH};
 use crate::second::head::{DIAL, Shape};
-use crate::second::lists::{List, Lists};
+use crate::second::lists::{List, Lists, RegisterRead};
 use crate::second::rules::{self, Cells, Quality, Slot, Span, State};
 
 pub const RANGES: &str = "range";
@@ -197,27 +197,21 @@ pub fn answered(call: &Call, lists: &Lists, answer: Answer, counts: &mut Counts)
 fn wrong_length(call: &Call) -> &'static str {
     match call.act {
         Act::Open => "open refused 2, widths",
-        Act::Register { .. } => "register refused 2, widths",
+        Act::Register(_) => "register refused 2, widths",
         _ => "publish refused 2, widths",
     }
 }
 
 /// A read beside the content of its cell.
 fn content(call: &Call, lists: &Lists, answer: Answer, counts: &mut Counts) {
-    let Act::Register {
-        boundary,
-        reading,
-        width,
-        ..
-    } = call.act
-    else {
+    let Act::Register(read) = call.act else {
         return;
     };
-    let at = boundary as usize;
+    let (at, width) = (read.boundary as usize, read.width);
     let (Some(&kept), Some(&kept_width)) = (lists.readings.get(at), lists.widths.get(at)) else {
         return;
     };
-    let (same, same_width) = (kept == reading, u32::from(kept_width) == width);
+    let (same, same_width) = (kept == read.reading, u32::from(kept_width) == width);
     let name = match answer {
         Answer::Filed(Filed::Stored) => match width {
             0 => "stored, 0",
@@ -235,7 +229,7 @@ fn content(call: &Call, lists: &Lists, answer: Answer, counts: &mut Counts) {
 
 /// A width over 9,999.
 fn refused(call: &Call, lists: &Lists, counts: &mut Counts) {
-    let Act::Register { width, .. } = call.act else {
+    let Act::Register(RegisterRead { width, .. }) = call.act else {
         return;
     };
     let name = match width {
@@ -252,8 +246,8 @@ fn refused(call: &Call, lists: &Lists, counts: &mut Counts) {
 /// The same read without a width.
 fn narrow(call: &Call) -> Call {
     let mut narrow = *call;
-    if let Act::Register { width, .. } = &mut narrow.act {
-        *width = 0;
+    if let Act::Register(read) = &mut narrow.act {
+        read.width = 0;
     }
     narrow
 }
@@ -267,7 +261,7 @@ fn possible_without_widths(call: &Call, lists: &Lists) -> bool {
 /// Why the widths, and no other cell, gave 11.
 fn impossible(call: &Call, lists: &Lists, counts: &mut Counts) {
     let (cells, names) = match call.act {
-        Act::Register { boundary, .. } => (
+        Act::Register(RegisterRead { boundary, .. }) => (
             boundary as usize..boundary as usize + 1,
             [
                 "register refused 11, over 9,999",
@@ -289,13 +283,10 @@ fn impossible(call: &Call, lists: &Lists, counts: &mut Counts) {
         .any(|i| lists.widths[i] != 0 && lists.read_versions[i] == 0);
     counts.add_if(over, READS, names[0]);
     counts.add_if(beside, READS, names[1]);
-    if let Act::Register {
-        version, reading, ..
-    } = call.act
-    {
+    if let Act::Register(read) = call.act {
         // Another content than the cell's whatever the width, so 10 would apply too.
-        let ten =
-            version == lists.read_versions[cells.start] && reading != lists.readings[cells.start];
+        let ten = read.version == lists.read_versions[cells.start]
+            && read.reading != lists.readings[cells.start];
         counts.add_if(ten, READS, "11 before 10, by the width");
     }
 }

@@ -1,7 +1,7 @@
 //! A list of calls on one book, as data.
 
 use crate::second::head::Head;
-use crate::second::lists::List;
+use crate::second::lists::{Agreement, Delivery, List, RegisterRead};
 
 /// How long the output buffer of a publishing is, beside the file it would take.
 #[derive(Clone, Copy, Debug, PartialEq, Eq)]
@@ -15,27 +15,12 @@ pub enum Room {
 #[derive(Clone, Copy, Debug, PartialEq, Eq)]
 pub enum Act {
     Open,
-    Deliver {
-        slot: u32,
-        version: u32,
-        value: u32,
-        status: u32,
-    },
+    Deliver(Delivery),
     Holiday {
         day: u32,
     },
-    Register {
-        boundary: u32,
-        version: u32,
-        reading: u32,
-        /// Any number, in bounds or not.
-        width: u32,
-    },
-    Agree {
-        slot: u32,
-        version: u32,
-        value: u32,
-    },
+    Register(RegisterRead),
+    Agree(Agreement),
     Publish {
         room: Room,
     },
@@ -52,10 +37,10 @@ impl Act {
     pub fn lent(&self) -> &'static [List] {
         match self {
             Act::Open | Act::Publish { .. } => &List::ALL,
-            Act::Deliver { .. } => &[List::Values, List::Versions, List::Statuses, List::Counts],
+            Act::Deliver(_) => &[List::Values, List::Versions, List::Statuses, List::Counts],
             Act::Holiday { .. } => &[List::Holidays],
-            Act::Register { .. } => &[List::Readings, List::ReadVersions, List::Widths],
-            Act::Agree { .. } => &[List::Agreed, List::AgreedVersions],
+            Act::Register(_) => &[List::Readings, List::ReadVersions, List::Widths],
+            Act::Agree(_) => &[List::Agreed, List::AgreedVersions],
             Act::Write { .. } => &[],
         }
     }

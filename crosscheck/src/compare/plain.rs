@@ -4,6 +4,7 @@ use std::collections::{BTreeMap, BTreeSet};
 
 use crate::second::book::{Filed, MOST_AGREED, status_of};
 use crate::second::head::{DIAL, Head};
+use crate::second::lists::{Agreement, Delivery, RegisterRead};
 use crate::second::refusal;
 
 /// A kept delivery, register read or agreed value: its version and its content.
@@ -31,14 +32,13 @@ impl Plain {
         Ok(())
     }
 
-    pub fn deliver(
-        &mut self,
-        head: Head,
-        slot: u32,
-        version: u32,
-        value: u32,
-        status: u32,
-    ) -> Result<Filed, u8> {
+    pub fn deliver(&mut self, head: Head, delivery: Delivery) -> Result<Filed, u8> {
+        let Delivery {
+            slot,
+            version,
+            value,
+            status,
+        } = delivery;
         let shape = head.shape()?;
         if slot as usize >= shape.slots {
             return Err(refusal::PLACE);
@@ -66,14 +66,13 @@ impl Plain {
         }
     }
 
-    pub fn register(
-        &mut self,
-        head: Head,
-        boundary: u32,
-        version: u32,
-        reading: u32,
-        width: u32,
-    ) -> Result<Filed, u8> {
+    pub fn register(&mut self, head: Head, read: RegisterRead) -> Result<Filed, u8> {
+        let RegisterRead {
+            boundary,
+            version,
+            reading,
+            width,
+        } = read;
         let shape = head.shape()?;
         if boundary as usize > shape.days {
             return Err(refusal::PLACE);
@@ -95,7 +94,12 @@ impl Plain {
     }
 
     /// As a delivery, with a highest version of its own.
-    pub fn agree(&mut self, head: Head, slot: u32, version: u32, value: u32) -> Result<Filed, u8> {
+    pub fn agree(&mut self, head: Head, agreement: Agreement) -> Result<Filed, u8> {
+        let Agreement {
+            slot,
+            version,
+            value,
+        } = agreement;
         let shape = head.shape()?;
         if slot as usize >= shape.slots {
             return Err(refusal::PLACE);

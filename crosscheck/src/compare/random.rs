@@ -5,7 +5,7 @@ use crate::compare::heads;
 use crate::compare::rng::Rng;
 use crate::compare::side::{Answer, Second, apply};
 use crate::second::head::{DIAL, Head, MOST_LIMIT, Shape};
-use crate::second::lists::{List, Lists};
+use crate::second::lists::{Agreement, Delivery, List, Lists, RegisterRead};
 use crate::second::rules::{
     self, Cause, FARTHEST, FARTHEST_SUNDAY, LINE_MINUTES, OUTAGE, PARTIAL, Quality, Slot,
     TIME_CHANGE,
@@ -186,23 +186,23 @@ impl Maker {
         self.push(Act::Open);
         for slot in 0..early * n {
             let less = u32::from(self.rng.one_in(lower));
-            let act = Act::Deliver {
+            let act = Act::Deliver(Delivery {
                 slot: slot as u32,
                 version: 1,
                 value: self.most() - less,
                 status: 0,
-            };
+            });
             self.push(act);
         }
         let reading = self.rng.word() % DIAL;
         let advance = DIAL - 1 - self.rng.between(0, 9);
         for (boundary, reading) in [(early, reading), (days, (reading + advance) % DIAL)] {
-            let act = Act::Register {
+            let act = Act::Register(RegisterRead {
                 boundary: boundary as u32,
                 version: 1,
                 reading,
                 width: 0,
-            };
+            });
             self.push(act);
         }
         self.push(Act::Publish { room: Room::Exact });
@@ -274,12 +274,12 @@ impl Maker {
                 Wanted::Failed(cause) => (value, status) = self.failed(cause, value),
             }
             let version = self.rng.pick(&[1, 1, 1, 2, 3, 7, u32::MAX]);
-            let act = Act::Deliver {
+            let act = Act::Deliver(Delivery {
                 slot: slot as u32,
                 version,
                 value,
                 status,
-            };
+            });
             self.push(act);
             acts.push((slot, act));
             if self.rng.one_in(repeating) {
@@ -548,38 +548,38 @@ impl Maker {
         let same = matches!(way, Again::Repeat | Again::OtherRest);
         let other_rest = u32::from(way == Again::OtherRest);
         match act {
-            Act::Deliver {
+            Act::Deliver(Delivery {
                 slot,
                 version,
                 value,
                 status,
-            } => Act::Deliver {
+            }) => Act::Deliver(Delivery {
                 slot,
                 version: again(version),
                 value: if same { value } else { value ^ 2 },
                 status: status ^ other_rest,
-            },
-            Act::Register {
+            }),
+            Act::Register(RegisterRead {
                 boundary,
                 version,
                 reading,
                 width,
-            } => Act::Register {
+            }) => Act::Register(RegisterRead {
                 boundary,
                 version: again(version),
                 reading: if same { reading } else { reading ^ 1 },
                 // 9,999 is odd, so this stays in bounds.
                 width: width ^ other_rest,
-            },
-            Act::Agree {
+            }),
+            Act::Agree(Agreement {
                 slot,
                 version,
                 value,
-            } => Act::Agree {
+            }) => Act::Agree(Agreement {
                 slot,
                 version: again(version),
                 value: if same { value } else { value ^ 1 },
-            },
+            }),
             other => other,
         }
     }
@@ -610,11 +610,11 @@ impl Maker {
             if !self.rng.one_in(times) {
                 continue;
             }
-            let act = Act::Agree {
+            let act = Act::Agree(Agreement {
                 slot: slot as u32,
                 version: self.rng.pick(&[1, 1, 1, 2, 9, u32::MAX]),
                 value: self.agreed_value(way),
-            };
+            });
             acts.push(act);
             if self.rng.one_in(12) {
                 acts.push(self.again(act));
@@ -694,12 +694,12 @@ impl Maker {
                 let g = self.aimed(aim, earlier, width);
                 reading = (reading + g) % DIAL;
             }
-            let act = Act::Register {
+            let act = Act::Register(RegisterRead {
                 boundary: boundary as u32,
                 version: self.rng.pick(&[1, 1, 2, 5, u32::MAX]),
                 reading,
                 width,
-            };
+            });
             acts.push(act);
             if self.rng.one_in(6) {
                 acts.push(self.again(act));
@@ -757,7 +757,7 @@ impl Maker {
             let usual = call.head == self.head && call.resized.is_none();
             let fills = matches!(
                 call.act,
-                Act::Deliver { .. } | Act::Holiday { .. } | Act::Agree { .. }
+                Act::Deliver(_) | Act::Holiday { .. } | Act::Agree(_)
             );
             if usual && fills {
                 apply(&Second, call, &mut lists, &mut []);
@@ -890,12 +890,12 @@ impl Maker {
         match rng.below(10) {
             0..=2 => {
                 let slot = rng.below(slots as usize) as u32;
-                Act::Deliver {
+                Act::Deliver(Delivery {
                     slot: rng.pick(&[slot, slot, 0, slots - 1, slots, slots + 1, u32::MAX]),
                     version,
                     value: rng.pick(&[0, 1, 100, 40_000, u32::MAX]),
                     status: rng.pick(&[0, 0, 1, 2, 4, 7, 8, 9, 255, 256, 257, u32::MAX]),
-                }
+                })
             }
             3 | 4 => {
                 let day = rng.below(days as usize) as u32;
@@ -905,20 +905,20 @@ impl Maker {
             }
             5 | 6 => {
                 let boundary = rng.below(days as usize + 1) as u32;
-                Act::Register {
+                Act::Register(RegisterRead {
                     boundary: rng.pick(&[boundary, boundary, days, days + 1, u32::MAX]),
                     version,
                     reading: rng.pick(&[0, 5, DIAL - 1, DIAL, DIAL + 1, u32::MAX]),
                     width: wild_width(rng),
-                }
+                })
             }
             7 | 8 => {
                 let slot = rng.below(slots as usize) as u32;
-                Act::Agree {
+                Act::Agree(Agreement {
                     slot: rng.pick(&[slot, slot, 0, slots - 1, slots, slots + 1, u32::MAX]),
                     version,
                     value: rng.pick(&[0, 1, 100, DIAL - 1, DIAL, DIAL + 1, u32::MAX]),
-                }
+                })
             }
             _ => Act::Publish {
                 room: rng.pick(&[Room::Exact, Room::Under(1), Room::Of(0), Room::Over(9)]),
@@ -999,24 +999,26 @@ impl Maker {
         let reading = self.rng.pick(&[0, 1, DIAL]);
         let width = self.rng.pick(&[0, 0, 1, MOST_WIDTH + 1]);
         match list {
-            List::Values | List::Versions | List::Statuses | List::Counts => Act::Deliver {
-                slot: at,
-                version,
-                value,
-                status,
-            },
+            List::Values | List::Versions | List::Statuses | List::Counts => {
+                Act::Deliver(Delivery {
+                    slot: at,
+                    version,
+                    value,
+                    status,
+                })
+            }
             List::Holidays => Act::Holiday { day: at },
-            List::Readings | List::ReadVersions | List::Widths => Act::Register {
+            List::Readings | List::ReadVersions | List::Widths => Act::Register(RegisterRead {
                 boundary: at,
                 version,
                 reading,
                 width,
-            },
-            List::Agreed | List::AgreedVersions => Act::Agree {
+            }),
+            List::Agreed | List::AgreedVersions => Act::Agree(Agreement {
                 slot: at,
                 version,
                 value: reading,
-            },
+            }),
         }
     }
 
@@ -1093,12 +1095,12 @@ impl Maker {
         for slot in slots {
             let version = lists.versions[slot];
             let any = self.rng.word();
-            let act = Act::Deliver {
+            let act = Act::Deliver(Delivery {
                 slot: slot as u32,
                 version: self.rng.pick(&[version.saturating_add(1), 1, any]),
                 value: self.rng.pick(&[0, 5, lists.values[slot]]),
                 status: self.rng.pick(&[0, 0, 0, lists.statuses[slot].into(), 8]),
-            };
+            });
             self.push(act);
         }
     }

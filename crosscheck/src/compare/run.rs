@@ -13,7 +13,7 @@ use crate::second::book::Filed;
 use crate::second::contents::Contents;
 use crate::second::file::{self, Frame};
 use crate::second::head::Shape;
-use crate::second::lists::{List, Lists};
+use crate::second::lists::{Agreement, Delivery, List, Lists, RegisterRead};
 use crate::second::reader::{self, Figures};
 use crate::second::rules::{self, Cells, Quality, Slot, Span};
 
@@ -189,28 +189,10 @@ impl Run<'_> {
         }
         let plain = self.plain.as_mut()?;
         match call.act {
-            Act::Deliver {
-                slot,
-                version,
-                value,
-                status,
-            } => Some(filed_answer(
-                plain.deliver(call.head, slot, version, value, status),
-            )),
+            Act::Deliver(delivery) => Some(filed_answer(plain.deliver(call.head, delivery))),
             Act::Holiday { day } => Some(filed_answer(plain.holiday(call.head, day))),
-            Act::Register {
-                boundary,
-                version,
-                reading,
-                width,
-            } => Some(filed_answer(
-                plain.register(call.head, boundary, version, reading, width),
-            )),
-            Act::Agree {
-                slot,
-                version,
-                value,
-            } => Some(filed_answer(plain.agree(call.head, slot, version, value))),
+            Act::Register(read) => Some(filed_answer(plain.register(call.head, read))),
+            Act::Agree(agreement) => Some(filed_answer(plain.agree(call.head, agreement))),
             Act::Publish { .. } => {
                 let length = file_length(&shape, &self.expected);
                 Some(if room < length {
@@ -227,73 +209,67 @@ impl Run<'_> {
         let stored = answer == Answer::Filed(Filed::Stored);
         match call.act {
             Act::Open if answer == Answer::Done => self.expected.clear(),
-            Act::Deliver {
-                slot,
-                version,
-                value,
-                status,
-            } => {
-                let cell = match &self.plain {
-                    Some(plain) => plain.slot(slot),
-                    None if stored => (value, version, status as u8),
-                    None => return,
-                };
-                if let Some((day, count)) = self.expected_count(call, answer) {
-                    self.expected.write(List::Counts, day, count.into());
-                }
-                let at = slot as usize;
-                self.expected.write(List::Values, at, cell.0);
-                self.expected.write(List::Versions, at, cell.1);
-                self.expected.write(List::Statuses, at, cell.2.into());
-            }
-            Act::Holiday { day } => {
-                let cell = match &self.plain {
-                    Some(plain) => plain.day(day),
-                    None if stored => 1,
-                    None => return,
-                };
-                self.expected
-                    .write(List::Holidays, day as usize, cell.into());
-            }
-            Act::Register {
-                boundary,
-                version,
-                reading,
-                width,
-            } => {
-                let cell = match &self.plain {
-                    Some(plain) => plain.boundary(boundary),
-                    None if stored => (reading, version, width),
-                    None => return,
-                };
-                let at = boundary as usize;
-                self.expected.write(List::Readings, at, cell.0);
-                self.expected.write(List::ReadVersions, at, cell.1);
-                self.expected.write(List::Widths, at, cell.2);
-            }
-            Act::Agree {
-                slot,
-                version,
-                value,
-            } => {
-                let cell = match &self.plain {
-                    Some(plain) => plain.agreed(slot),
-                    None if stored => (value, version),
-                    None => return,
-                };
-                let at = slot as usize;
-                self.expected.write(List::Agreed, at, cell.0);
-                self.expected.write(List::AgreedVersions, at, cell.1);
-            }
+            Act::Deliver(delivery) => self.expect_delivery(call, delivery, answer),
+            Act::Holiday { day } => self.expect_holiday(day, stored),
+            Act::Register(read) => self.expect_register(read, stored),
+            Act::Agree(agreement) => self.expect_agreement(agreement, stored),
             Act::Open | Act::Publish { .. } | Act::Write { .. } => {}
         }
     }
 
-    /// The day and its count after an accepted delivery; before it, the cells are as they were.
-    fn expected_count(&self, call: &Call, answer: Answer) -> Option<(usize, u16)> {
-        let Act::Deliver { slot, .. } = call.act else {
-            return None;
+    fn expect_delivery(&mut self, call: &Call, delivery: Delivery, answer: Answer) {
+        let cell = match &self.plain {
+            Some(plain) => plain.slot(delivery.slot),
+            // A status that was stored is at most 7.
+            None if answer == Answer::Filed(Filed::Stored) => {
+                (delivery.value, delivery.version, delivery.status as u8)
+            }
+            None => return,
         };
+        if let Some((day, count)) = self.expected_count(call, delivery.slot, answer) {
+            self.expected.write(List::Counts, day, count.into());
+        }
+        let at = delivery.slot as usize;
+        self.expected.write(List::Values, at, cell.0);
+        self.expected.write(List::Versions, at, cell.1);
+        self.expected.write(List::Statuses, at, cell.2.into());
+    }
+
+    fn expect_holiday(&mut self, day: u32, stored: bool) {
+        let cell = match &self.plain {
+            Some(plain) => plain.day(day),
+            None if stored => 1,
+            None => return,
+        };
+        self.expected
+            .write(List::Holidays, day as usize, cell.into());
+    }
+
+    fn expect_register(&mut self, read: RegisterRead, stored: bool) {
+        let cell = match &self.plain {
+            Some(plain) => plain.boundary(read.boundary),
+            None if stored => (read.reading, read.version, read.width),
+            None => return,
+        };
+        let at = read.boundary as usize;
+        self.expected.write(List::Readings, at, cell.0);
+        self.expected.write(List::ReadVersions, at, cell.1);
+        self.expected.write(List::Widths, at, cell.2);
+    }
+
+    fn expect_agreement(&mut self, agreement: Agreement, stored: bool) {
+        let cell = match &self.plain {
+            Some(plain) => plain.agreed(agreement.slot),
+            None if stored => (agreement.value, agreement.version),
+            None => return,
+        };
+        let at = agreement.slot as usize;
+        self.expected.write(List::Agreed, at, cell.0);
+        self.expected.write(List::AgreedVersions, at, cell.1);
+    }
+
+    /// The day and its count after an accepted delivery; before it, the cells are as they were.
+    fn expected_count(&self, call: &Call, slot: u32, answer: Answer) -> Option<(usize, u16)> {
         let Answer::Filed(filed) = answer else {
             return None;
         };
@@ -448,16 +424,11 @@ fn wrong_length(shape: &Shape, act: &Act, lists: &Lists) -> bool {
 fn impossible_count(shape: &Shape, act: &Act, lists: &Lists) -> bool {
     let n = shape.slots_a_day;
     match *act {
-        Act::Deliver {
-            slot,
-            version,
-            status,
-            ..
-        } => {
-            let slot = slot as usize;
+        Act::Deliver(delivery) => {
+            let slot = delivery.slot as usize;
             slot < shape.slots
-                && version > 0
-                && status < 8
+                && delivery.version > 0
+                && delivery.status < 8
                 && lists.versions[slot] == 0
                 && lists.counts[slot / n] as usize >= n
         }

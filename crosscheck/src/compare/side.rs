@@ -36,47 +36,10 @@ pub fn apply(side: &dyn Side, call: &Call, lists: &mut Lists, out: &mut [u8]) ->
     let head = call.head;
     match call.act {
         Act::Open => Some(side.open(head, lists)),
-        Act::Deliver {
-            slot,
-            version,
-            value,
-            status,
-        } => {
-            let delivery = Delivery {
-                slot,
-                version,
-                value,
-                status,
-            };
-            Some(side.deliver(head, lists, delivery))
-        }
+        Act::Deliver(delivery) => Some(side.deliver(head, lists, delivery)),
         Act::Holiday { day } => Some(side.holiday(head, lists, day)),
-        Act::Register {
-            boundary,
-            version,
-            reading,
-            width,
-        } => {
-            let read = RegisterRead {
-                boundary,
-                version,
-                reading,
-                width,
-            };
-            Some(side.register(head, lists, read))
-        }
-        Act::Agree {
-            slot,
-            version,
-            value,
-        } => {
-            let agreement = Agreement {
-                slot,
-                version,
-                value,
-            };
-            Some(side.agree(head, lists, agreement))
-        }
+        Act::Register(read) => Some(side.register(head, lists, read)),
+        Act::Agree(agreement) => Some(side.agree(head, lists, agreement)),
         Act::Publish { .. } => Some(side.publish(head, lists, out)),
         Act::Write { list, index, value } => {
             lists.write(list, index, value);

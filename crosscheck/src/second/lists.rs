@@ -28,6 +28,40 @@ pub struct Agreement {
     pub value: u32,
 }
 
+// From the numbers of a line of a log, in its order.
+
+impl From<[u32; 4]> for Delivery {
+    fn from([slot, version, value, status]: [u32; 4]) -> Delivery {
+        Delivery {
+            slot,
+            version,
+            value,
+            status,
+        }
+    }
+}
+
+impl From<[u32; 4]> for RegisterRead {
+    fn from([boundary, version, reading, width]: [u32; 4]) -> RegisterRead {
+        RegisterRead {
+            boundary,
+            version,
+            reading,
+            width,
+        }
+    }
+}
+
+impl From<[u32; 3]> for Agreement {
+    fn from([slot, version, value]: [u32; 3]) -> Agreement {
+        Agreement {
+            slot,
+            version,
+            value,
+        }
+    }
+}
+
 /// The ten lists, owned by the caller, each in pages of its own.
 #[derive(Clone, Debug, Default, PartialEq, Eq)]
 pub struct Lists {

@@ -3,7 +3,7 @@
 use crate::second::book::Filed;
 use crate::second::head::Head;
 use crate::second::limits::{self, MOST_PLACES};
-use crate::second::lists::{Agreement, Delivery, Lists, RegisterRead};
+use crate::second::lists::Lists;
 use crate::second::refusal;
 
 /// The longest line that is a call, without its CR.
@@ -293,33 +293,10 @@ impl Log {
     fn made(&self, lists: &mut Lists, call: Filling) -> Result<Filed, u8> {
         let head = self.head;
         match call {
-            Filling::Delivery([slot, version, value, status]) => {
-                let delivery = Delivery {
-                    slot,
-                    version,
-                    value,
-                    status,
-                };
-                lists.deliver(head, delivery)
-            }
-            Filling::Agreed([slot, version, value]) => {
-                let agreement = Agreement {
-                    slot,
-                    version,
-                    value,
-                };
-                lists.agree(head, agreement)
-            }
+            Filling::Delivery(numbers) => lists.deliver(head, numbers.into()),
+            Filling::Agreed(numbers) => lists.agree(head, numbers.into()),
             Filling::Holiday(day) => lists.holiday(head, day),
-            Filling::Register([boundary, version, reading, width]) => {
-                let read = RegisterRead {
-                    boundary,
-                    version,
-                    reading,
-                    width,
-                };
-                lists.register(head, read)
-            }
+            Filling::Register(numbers) => lists.register(head, numbers.into()),
         }
     }
 }

@@ -186,13 +186,11 @@ pub fn play(log: &[u8], lists: &mut Lists, answers: &mut [u8]) -> u32 {
 
 fn made(plain: &mut Plain, head: Head, code: u32, numbers: &[u32]) -> Result<Filed, u8> {
     match (code, numbers) {
-        (110, &[slot, version, value, status]) => plain.deliver(head, slot, version, value, status),
-        (111, &[slot, version, value]) => plain.agree(head, slot, version, value),
+        (110, &[a, b, c, d]) => plain.deliver(head, [a, b, c, d].into()),
+        (111, &[a, b, c]) => plain.agree(head, [a, b, c].into()),
         (112, &[day]) => plain.holiday(head, day),
-        (113, &[boundary, version, reading]) => plain.register(head, boundary, version, reading, 0),
-        (113, &[boundary, version, reading, width]) => {
-            plain.register(head, boundary, version, reading, width)
-        }
+        (113, &[a, b, c]) => plain.register(head, [a, b, c, 0].into()),
+        (113, &[a, b, c, d]) => plain.register(head, [a, b, c, d].into()),
         _ => unreachable!("a filling call's numbers"),
     }
 }

@@ -6,6 +6,7 @@ use crate::compare::random;
 use crate::compare::rng::Rng;
 use crate::second::head::{DIAL, Head, MOST_LIMIT};
 use crate::second::limits::MOST_PLACES;
+use crate::second::lists::{Agreement, Delivery, RegisterRead};
 
 /// A log, line by line, each with its end.
 pub type Lines = Vec<Vec<u8>>;
@@ -127,24 +128,24 @@ fn joined(rng: &mut Rng, keyword: &str, numbers: &[u32]) -> String {
 /// A filling call's line; none for another call.
 fn text(rng: &mut Rng, act: Act) -> Option<String> {
     let line = match act {
-        Act::Deliver {
+        Act::Deliver(Delivery {
             slot,
             version,
             value,
             status,
-        } => joined(rng, "delivery", &[slot, version, value, status]),
-        Act::Agree {
+        }) => joined(rng, "delivery", &[slot, version, value, status]),
+        Act::Agree(Agreement {
             slot,
             version,
             value,
-        } => joined(rng, "agreed", &[slot, version, value]),
+        }) => joined(rng, "agreed", &[slot, version, value]),
         Act::Holiday { day } => joined(rng, "holiday", &[day]),
-        Act::Register {
+        Act::Register(RegisterRead {
             boundary,
             version,
             reading,
             width,
-        } => {
+        }) => {
             let some = if width == 0 && rng.one_in(2) { 3 } else { 4 };
             joined(
                 rng,

@@ -3,7 +3,7 @@
 
 pub mod files;
 pub mod offices;
-pub mod side;
+pub mod played;
 
 use sawmauve::{Comparison, Error, File, Log, Reconciliation};
 
@@ -12,7 +12,7 @@ use crate::second::contents;
 use crate::second::head::Head;
 use crate::second::log::Filling;
 use crate::tries::Tally;
-use crate::tries::reconcile::side::{Listed, Side};
+use crate::tries::reconcile::played::{Listed, Played};
 
 /// The functions that are compared.
 #[derive(Clone, Copy)]
@@ -112,7 +112,7 @@ fn logs(
     tally: &mut Tally,
 ) -> Result<(), String> {
     let found = reconciled(verbs, ours, theirs)?;
-    let (ours, theirs) = (Side::of(ours)?, Side::of(theirs)?);
+    let (ours, theirs) = (Played::of(ours)?, Played::of(theirs)?);
     files::compared(verbs, &ours.file, &theirs.file, tally)?;
     let times = |head: Head| {
         let date = (head.year, head.month, head.day);
@@ -129,8 +129,11 @@ fn logs(
         return must(nothing, "other times: more is listed");
     }
     let listed = (ours.alone(&theirs), theirs.alone(&ours));
-    must(side::given(&found.calls.ours) == listed.0, "ours alone")?;
-    must(side::given(&found.calls.theirs) == listed.1, "theirs alone")?;
+    must(played::given(&found.calls.ours) == listed.0, "ours alone")?;
+    must(
+        played::given(&found.calls.theirs) == listed.1,
+        "theirs alone",
+    )?;
     sets(&found, &ours, &theirs, tally)?;
     moved(verbs, &found, &ours, &theirs, tally)?;
     count(&listed.0, &ours, tally);
@@ -145,8 +148,8 @@ fn logs(
 /// files are equal.
 fn sets(
     found: &Reconciliation,
-    ours: &Side,
-    theirs: &Side,
+    ours: &Played,
+    theirs: &Played,
     tally: &mut Tally,
 ) -> Result<(), String> {
     let same = ours.accepted() == theirs.accepted();
@@ -180,8 +183,8 @@ fn sets(
 fn moved(
     verbs: Verbs,
     found: &Reconciliation,
-    ours: &Side,
-    theirs: &Side,
+    ours: &Played,
+    theirs: &Played,
     tally: &mut Tally,
 ) -> Result<(), String> {
     let moved = found.moved.as_ref().ok_or("nothing is compared")?;
@@ -199,7 +202,7 @@ fn moved(
     files::compared(verbs, &ours.file, &before, tally)
 }
 
-fn count(listed: &[Listed], side: &Side, tally: &mut Tally) {
+fn count(listed: &[Listed], log: &Played, tally: &mut Tally) {
     for one in listed {
         tally.add(match one.call {
             Filling::Delivery(_) => "listed delivery",
@@ -210,13 +213,13 @@ fn count(listed: &[Listed], side: &Side, tally: &mut Tally) {
         let width = matches!(one.call, Filling::Register([.., width]) if width > 0);
         tally.add_if(width, "listed read with a width");
         tally.add_if(one.lines.len() > 1, "listed on several lines");
-        let stands = one.cell == side::version(one.call);
+        let stands = one.cell == played::version(one.call);
         tally.add(if stands {
             "listed, stands"
         } else {
             "listed, superseded"
         });
-        let refused = side.refused(one.call).is_some();
+        let refused = log.refused(one.call).is_some();
         tally.add_if(refused, "listed, refused before it was accepted");
         if let Some((_, 10, highest)) = one.refused {
             tally.add(match highest {
@@ -232,7 +235,7 @@ fn count(listed: &[Listed], side: &Side, tally: &mut Tally) {
 fn changed(
     rng: &mut Rng,
     verbs: Verbs,
-    (ours, theirs): (&Side, &Side),
+    (ours, theirs): (&Played, &Played),
     listed: &[Listed],
     tally: &mut Tally,
 ) -> Result<(), String> {
@@ -240,7 +243,7 @@ fn changed(
         let one = &listed[rng.below(listed.len())];
         let is_listed = |ours: &[u8], theirs: &[u8]| {
             let found = reconciled(verbs, ours, theirs)?;
-            let listed = side::given(&found.calls.ours);
+            let listed = played::given(&found.calls.ours);
             Ok::<bool, String>(listed.iter().any(|other| other.call == one.call))
         };
         let left = ours.without(one.call);

@@ -20,8 +20,8 @@ struct Lines {
     refused: Vec<(u64, u8)>,
 }
 
-/// One side of a pair.
-pub struct Side {
+/// A log that was played.
+pub struct Played {
     pub text: Vec<u8>,
     log: Log,
     plain: Plain,
@@ -92,14 +92,10 @@ pub fn given(listed: &[sawmauve::Listed]) -> Vec<Listed> {
 
 fn fed(plain: &mut Plain, head: Head, call: Filling) -> Result<Filed, u8> {
     match call {
-        Filling::Delivery([slot, version, value, status]) => {
-            plain.deliver(head, slot, version, value, status)
-        }
-        Filling::Agreed([slot, version, value]) => plain.agree(head, slot, version, value),
+        Filling::Delivery(numbers) => plain.deliver(head, numbers.into()),
+        Filling::Agreed(numbers) => plain.agree(head, numbers.into()),
         Filling::Holiday(day) => plain.holiday(head, day),
-        Filling::Register([boundary, version, reading, width]) => {
-            plain.register(head, boundary, version, reading, width)
-        }
+        Filling::Register(numbers) => plain.register(head, numbers.into()),
     }
 }
 
@@ -115,8 +111,8 @@ fn published(text: &[u8], log: &Log) -> Result<Vec<u8>, u8> {
     Ok(file)
 }
 
-impl Side {
-    pub fn of(text: &[u8]) -> Result<Side, String> {
+impl Played {
+    pub fn of(text: &[u8]) -> Result<Played, String> {
         let refused = |number: u8| format!("the second build refuses {number}");
         let log = log::read(text).map_err(|fault| refused(fault.answer))?;
         let mut plain = Plain::default();
@@ -129,7 +125,7 @@ impl Side {
             }
         }
         let file = published(text, &log).map_err(refused)?;
-        Ok(Side {
+        Ok(Played {
             text: text.to_vec(),
             contents: Contents::of(&file).map_err(refused)?,
             log,
@@ -166,7 +162,7 @@ impl Side {
     }
 
     /// The calls that it accepted and the other did not, by their first lines.
-    pub fn alone(&self, other: &Side) -> Vec<Listed> {
+    pub fn alone(&self, other: &Played) -> Vec<Listed> {
         let (ours, theirs) = (self.accepted(), other.accepted());
         let mut alone: Vec<Listed> = ours
             .difference(&theirs)
@@ -213,10 +209,10 @@ impl Side {
     }
 
     /// The slots with other contents and one outcome.
-    pub fn slots_behind(&self, other: &Side) -> Vec<u32> {
-        let content = |side: &Side, slot: u32| {
-            let (value, version, status) = side.plain.slot(slot);
-            let (agreed, agreed_version) = side.plain.agreed(slot);
+    pub fn slots_behind(&self, other: &Played) -> Vec<u32> {
+        let content = |log: &Played, slot: u32| {
+            let (value, version, status) = log.plain.slot(slot);
+            let (agreed, agreed_version) = log.plain.agreed(slot);
             let came = (version != 0, agreed_version != 0);
             (came, value, status, agreed)
         };
@@ -231,9 +227,9 @@ impl Side {
     }
 
     /// The boundaries with other readings that no span with another outcome begins or ends at.
-    pub fn readings_behind(&self, other: &Side) -> Vec<u32> {
-        let content = |side: &Side, boundary: u32| {
-            let (reading, version, width) = side.plain.boundary(boundary);
+    pub fn readings_behind(&self, other: &Played) -> Vec<u32> {
+        let content = |log: &Played, boundary: u32| {
+            let (reading, version, width) = log.plain.boundary(boundary);
             (version != 0, reading, width)
         };
         let (ours, theirs) = (&self.contents.spans, &other.contents.spans);
