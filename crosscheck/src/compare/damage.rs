@@ -218,7 +218,8 @@ fn record_bytes(file: &[u8]) -> usize {
     file::span_bytes(layout(file))
 }
 
-fn layout(file: &[u8]) -> u8 {
+/// The layout byte.
+pub fn layout(file: &[u8]) -> u8 {
     field(file, LAYOUT) as u8
 }
 
