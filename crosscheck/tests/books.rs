@@ -295,6 +295,16 @@ fn name_agreed(head: Head, lists: &Lists, file: &mut [u8]) {
     }
 }
 
+/// Whether a line of g slots falls between these records and drops a fraction.
+fn rounds_down(left: &[u8; 6], right: &[u8; 6], g: usize) -> bool {
+    let value = |record: &[u8; 6]| {
+        let [a, b, c, d, ..] = *record;
+        i64::from(u32::from_le_bytes([a, b, c, d]))
+    };
+    let fall = value(left) - value(right);
+    fall > 0 && fall % (g as i64 + 1) != 0
+}
+
 /// Changes the runs of S and N records that a build with this slip would fill otherwise.
 fn meddle_lines(meddling: Meddling, head: Head, table: &mut [u8]) {
     let longest = (120 / head.interval) as usize;
@@ -304,7 +314,6 @@ fn meddle_lines(meddling: Meddling, head: Head, table: &mut [u8]) {
     let is = |end: Option<&[u8; 6]>, letter, method| {
         end.is_some_and(|record| record[4..] == [letter, method])
     };
-    let value = |record: &[u8; 6]| u32::from_le_bytes([record[0], record[1], record[2], record[3]]);
     let marks: Vec<bool> = records.iter().map(|r| b"SN".contains(&r[4])).collect();
     for run in rules::runs(&marks) {
         let g = run.len();
@@ -325,10 +334,7 @@ fn meddle_lines(meddling: Meddling, head: Head, table: &mut [u8]) {
             Meddling::LineFromZeroed => from(b'A', 1),
             Meddling::LineEndsAtMidnight => line && run.start / day < (run.end - 1) / day,
             Meddling::LineRoundsUpWhenFalling => match ends {
-                [Some(l), Some(r)] if line && records[run.start][5] == 2 => {
-                    let fall = i64::from(value(l)) - i64::from(value(r));
-                    fall > 0 && fall % (g as i64 + 1) != 0
-                }
+                [Some(l), Some(r)] if records[run.start][5] == 2 => rounds_down(l, r, g),
                 _ => false,
             },
             _ => false,
@@ -336,6 +342,20 @@ fn meddle_lines(meddling: Meddling, head: Head, table: &mut [u8]) {
         if changed {
             table[6 * run.start] ^= 1;
         }
+    }
+}
+
+/// How many days back the nearest and the farthest reference lie; none where the slip changes nothing.
+fn meddled_days(meddling: Meddling, holiday: bool, k: usize) -> Option<(usize, usize)> {
+    match meddling {
+        Meddling::HolidayKeepsItsWeekday if holiday => Some((7, 364)),
+        Meddling::AllDaysLookLikeSundays if !holiday => Some((k, 370)),
+        Meddling::SundaysADayOff if holiday => Some((k % 7 + 1, 370)),
+        Meddling::HolidaySundaysCount if holiday => Some((k, 370)),
+        Meddling::SundaysOf364Days if holiday => Some((k, 364)),
+        Meddling::SundaysOf371Days if holiday => Some((k, 371)),
+        Meddling::SundaysOf372Days if holiday => Some((k, 372)),
+        _ => None,
     }
 }
 
@@ -355,15 +375,8 @@ fn meddle_references(meddling: Meddling, head: Head, lists: &Lists, table: &mut 
         let day = slot / n;
         let holiday = cells.holidays[day] != 0;
         let k = rules::sunday_back(shape.first_day as usize + day);
-        let (nearest, farthest) = match meddling {
-            Meddling::HolidayKeepsItsWeekday if holiday => (7, 364),
-            Meddling::AllDaysLookLikeSundays if !holiday => (k, 370),
-            Meddling::SundaysADayOff if holiday => (k % 7 + 1, 370),
-            Meddling::HolidaySundaysCount if holiday => (k, 370),
-            Meddling::SundaysOf364Days if holiday => (k, 364),
-            Meddling::SundaysOf371Days if holiday => (k, 371),
-            Meddling::SundaysOf372Days if holiday => (k, 372),
-            _ => continue,
+        let Some((nearest, farthest)) = meddled_days(meddling, holiday, k) else {
+            continue;
         };
         let refers = |&earlier: &usize| {
             let counts = meddling == Meddling::HolidaySundaysCount;

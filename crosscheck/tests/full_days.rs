@@ -77,6 +77,24 @@ fn a_full_day_of_each_interval() {
     }
 }
 
+/// Counts beside 30, 1 and 48, which would be right.
+const WRONG: [[u16; 3]; 13] = [
+    [29, 1, 48],
+    [31, 1, 48],
+    [30, 0, 48],
+    [30, 2, 48],
+    [30, 1, 47],
+    [30, 1, 49],
+    // Right in sum, or in the low byte.
+    [31, 0, 48],
+    [30, 2, 47],
+    [48, 1, 30],
+    [30 + 256, 1, 48],
+    [30, 1, 48 + 256],
+    [30, u16::MAX, 48],
+    [0, 0, 0],
+];
+
 #[test]
 fn publishing_wants_each_count() {
     let mut test = Test::new(THREE);
@@ -86,22 +104,7 @@ fn publishing_wants_each_count() {
     assert_eq!(test.lists.counts, [30, 1, 48]);
     let length = 6 * 144 + 32;
     let mut out = vec![0xA5; length];
-    for counts in [
-        [29, 1, 48],
-        [31, 1, 48],
-        [30, 0, 48],
-        [30, 2, 48],
-        [30, 1, 47],
-        [30, 1, 49],
-        // Right in sum, or in the low byte.
-        [31, 0, 48],
-        [30, 2, 47],
-        [48, 1, 30],
-        [30 + 256, 1, 48],
-        [30, 1, 48 + 256],
-        [30, u16::MAX, 48],
-        [0, 0, 0],
-    ] {
+    for counts in WRONG {
         let mut lists = test.lists.clone();
         lists.counts = counts[..].into();
         // 11 goes before 7.

@@ -328,26 +328,27 @@ fn refused(file: &[u8], texts: &Texts, codes: Codes) -> u8 {
     number
 }
 
+const NO_IDENTIFIERS: [&[u8]; 14] = [
+    b"",
+    b"NEM120100",
+    b"NEM12010099",
+    b"NEMI201009",
+    b"NEM12O1009",
+    b"IEM1201009",
+    b"NEM120100O",
+    b"nEM1201009",
+    b"NEM 201009",
+    b"NEM,201009",
+    b"NEM1201@09",
+    b"NEM1201[09",
+    b"NEM120100/",
+    b"NEM120100\xFF",
+];
+
 #[test]
 fn fourteen_is_the_identifier() {
     let file = whole().file();
-    let bad: [&[u8]; 14] = [
-        b"",
-        b"NEM120100",
-        b"NEM12010099",
-        b"NEMI201009",
-        b"NEM12O1009",
-        b"IEM1201009",
-        b"NEM120100O",
-        b"nEM1201009",
-        b"NEM 201009",
-        b"NEM,201009",
-        b"NEM1201@09",
-        b"NEM1201[09",
-        b"NEM120100/",
-        b"NEM120100\xFF",
-    ];
-    for identifier in bad {
+    for identifier in NO_IDENTIFIERS {
         let texts = Texts {
             identifier,
             ..TEXTS

@@ -83,6 +83,30 @@ fn place(head: Head, lists: &Lists, slot: u32) -> Option<(u32, usize, usize)> {
     })
 }
 
+impl Miscounting {
+    /// Whether it answers 11 where the second build would not.
+    fn refuses(&self, delivery: Delivery, version: u32, count: usize, n: usize) -> bool {
+        let (first, full) = (version == 0, count >= n);
+        match self.0 {
+            Slip::FullAtNMinusOne => first && count + 1 == n,
+            Slip::FullRefusesLater => full && delivery.version > version && delivery.status < 8,
+            Slip::FullBeforeArguments => first && full,
+            _ => false,
+        }
+    }
+
+    /// Whether it takes a full day for one with room.
+    fn overlooks(&self, count: usize, n: usize) -> bool {
+        count >= n
+            && match self.0 {
+                Slip::FullUnchecked => true,
+                Slip::FullAtNOnly => count != n,
+                Slip::FullAboveN => count == n,
+                _ => false,
+            }
+    }
+}
+
 impl Side for Miscounting {
     fn open(&self, head: Head, lists: &mut Lists) -> Answer {
         let counts = lists.counts.clone();
@@ -105,30 +129,16 @@ impl Side for Miscounting {
         let Some((version, day, n)) = place(head, lists, delivery.slot) else {
             return Second.deliver(head, lists, delivery);
         };
-        let first = version == 0;
-        let count = lists.counts[day];
-        let full = usize::from(count) >= n;
-        let refused = match self.0 {
-            Slip::FullAtNMinusOne => first && usize::from(count) + 1 == n,
-            Slip::FullRefusesLater => full && delivery.version > version && delivery.status < 8,
-            Slip::FullBeforeArguments => first && full,
-            _ => false,
-        };
-        if refused {
+        let (first, count) = (version == 0, lists.counts[day]);
+        if self.refuses(delivery, version, count.into(), n) {
             return Answer::Refused(11);
         }
-        let overlooked = match self.0 {
-            Slip::FullUnchecked => true,
-            Slip::FullAtNOnly => usize::from(count) != n,
-            Slip::FullAboveN => usize::from(count) == n,
-            _ => false,
-        };
-        if overlooked && full {
+        if self.overlooks(count.into(), n) {
             lists.counts[day] = 0;
         }
         let answer = Second.deliver(head, lists, delivery);
-        let raised = count.wrapping_add((answer == Answer::Filed(Filed::Stored) && first).into());
         let stored = answer == Answer::Filed(Filed::Stored);
+        let raised = count.wrapping_add((stored && first).into());
         lists.counts[day] = match self.0 {
             Slip::NotRaised => count,
             Slip::RaisedEachTime if stored => count.wrapping_add(1),

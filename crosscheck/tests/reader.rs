@@ -162,30 +162,29 @@ fn layout_bytes() {
     assert_eq!(two, Err(Fault::NoneAgreedInLayout2));
 }
 
+/// With this record in slot 220, which lies outside any span.
+fn recorded(value: u32, letter: u8, method: u8) -> Result<(), Fault> {
+    after(&[slot(220, value, letter, method), Edit::Mend])
+}
+
+#[test]
+fn slot_records_of_no_kind() {
+    for (value, letter, method) in [
+        (0, b'A', 2),
+        (0, b'S', 0),
+        (0, b'S', 1),
+        (0, b'S', 17),
+        (0, b'N', 1),
+        (0, b'a', 0),
+        (1, b'A', 1),
+        (1, b'N', 0),
+    ] {
+        assert_eq!(recorded(value, letter, method), Err(Fault::Record));
+    }
+}
+
 #[test]
 fn slot_records() {
-    // Slot 0 lies in the span of state 0, slot 220 outside any span.
-    for (letter, method) in [
-        (b'A', 2),
-        (b'S', 0),
-        (b'S', 1),
-        (b'S', 17),
-        (b'N', 1),
-        (b'a', 0),
-    ] {
-        assert_eq!(
-            after(&[slot(220, 0, letter, method), Edit::Mend]),
-            Err(Fault::Record)
-        );
-    }
-    assert_eq!(
-        after(&[slot(220, 1, b'A', 1), Edit::Mend]),
-        Err(Fault::Record)
-    );
-    assert_eq!(
-        after(&[slot(220, 1, b'N', 0), Edit::Mend]),
-        Err(Fault::Record)
-    );
     for (value, letter, method) in [
         (0, b'A', 1),
         (0, b'N', 0),
@@ -193,19 +192,11 @@ fn slot_records() {
         (u32::MAX, b'S', 2),
         (u32::MAX, b'S', 3),
     ] {
-        assert_eq!(
-            after(&[slot(220, value, letter, method), Edit::Mend]),
-            Ok(())
-        );
+        assert_eq!(recorded(value, letter, method), Ok(()));
     }
-    assert_eq!(
-        after(&[slot(220, 1, b'S', 18), Edit::Mend]),
-        Err(Fault::ScaledOutside)
-    );
-    assert_eq!(
-        after(&[slot(220, 1, b'S', 19), Edit::Mend]),
-        Err(Fault::ScaledOutside)
-    );
+    assert_eq!(recorded(1, b'S', 18), Err(Fault::ScaledOutside));
+    assert_eq!(recorded(1, b'S', 19), Err(Fault::ScaledOutside));
+    // Slot 0 lies in the span of state 0.
     assert_eq!(after(&[slot(0, 11, b'A', 0), Edit::Mend]), Ok(()));
     assert_eq!(after(&[slot(0, 11, b'A', 0)]), Err(Fault::Sum));
     assert_eq!(after(&[slot(220, 10, b'S', 2)]), Err(Fault::Counts));

@@ -114,6 +114,16 @@ fn delivered(versions: &[u32]) -> usize {
     versions.iter().filter(|&&version| version > 0).count()
 }
 
+/// The place of a day in the first or the second four of `PUBLISH_NAMES`.
+fn place(day: usize, days: usize) -> usize {
+    match (day, days) {
+        (_, 1) => 3,
+        (0, _) => 0,
+        (day, days) if day + 1 == days => 2,
+        _ => 1,
+    }
+}
+
 /// A publishing of these lists, answered with a length or 11.
 pub fn published(call: &Call, lists: &Lists, answer: Answer, room: usize, counts: &mut Counts) {
     let Ok(shape) = call.head.shape() else {
@@ -140,13 +150,8 @@ pub fn published(call: &Call, lists: &Lists, answer: Answer, room: usize, counts
         .filter(|&(_, off)| off != 0)
         .collect();
     if let [(day, off @ (1 | -1))] = off[..] {
-        let place = match (day, shape.days) {
-            (_, 1) => 3,
-            (0, _) => 0,
-            (day, days) if day + 1 == days => 2,
-            _ => 1,
-        };
-        counts.add(PUBLISH, PUBLISH_NAMES[place + if off > 0 { 0 } else { 4 }]);
+        let place = place(day, shape.days) + if off > 0 { 0 } else { 4 };
+        counts.add(PUBLISH, PUBLISH_NAMES[place]);
     }
     let low = off.iter().all(|&(_, off)| off % 256 == 0);
     let in_sum = off.iter().map(|&(_, off)| off).sum::<i64>() == 0;

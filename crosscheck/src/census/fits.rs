@@ -64,16 +64,10 @@ impl Fits<'_> {
         let filled = &self.filled.slots[range.clone()];
         let (shapes, slots) = (&self.filled.e[range.clone()], &self.slots[range]);
         let total: u64 = shapes.iter().sum();
-        let rounded: Vec<u64> = filled
-            .iter()
-            .map(|slot| match slot.quality {
-                Quality::Substituted => slot.value.into(),
-                _ => 0,
-            })
-            .collect();
-        let mut by_means = filled.to_vec();
+        let rounded = rounded_means(filled);
         let v = rules::settled_sum(filled);
         let r = span.advances.fitted(v);
+        let mut by_means = filled.to_vec();
         rules::scale(&mut by_means, &rounded, r);
         let apart = |least: u32| {
             let mut pairs = slots.iter().zip(&by_means);
@@ -81,12 +75,11 @@ impl Fits<'_> {
         };
         let has = |method: u8| slots.iter().any(|slot| slot.method == method + SCALED);
         let (lines, references) = (has(2), has(3));
-        let dropped = rounded
-            .iter()
-            .zip(shapes)
-            .any(|(&value, &e)| 12 * value != e);
+        let mut means = rounded.iter().zip(shapes);
+        let dropped = means.any(|(&value, &e)| 12 * value != e);
         let zero_means = rounded.iter().all(|&value| value == 0);
         let t = u128::from(r) - u128::from(v);
+        let wide = t * u128::from(total) > i64::MAX as u128;
         let occurred = [
             (apart(1), "fitted otherwise than by rounded means"),
             (apart(2), "two Wh apart from rounded means"),
@@ -99,13 +92,19 @@ impl Fits<'_> {
             (total == 0 && references && !lines, "E 0 of references"),
             (total == 0 && lines && !references, "E 0 of lines"),
             (total == 0 && lines && references, "E 0 of both"),
-            (
-                t * u128::from(total) > i64::MAX as u128,
-                "T × E over 63 bits",
-            ),
+            (wide, "T × E over 63 bits"),
         ];
         for (occurred, name) in occurred {
             counts.add_if(occurred, "shape", name);
         }
     }
+}
+
+/// The shapes that the rounded values would have.
+fn rounded_means(filled: &[Slot]) -> Vec<u64> {
+    let shape = |slot: &Slot| match slot.quality {
+        Quality::Substituted => slot.value.into(),
+        _ => 0,
+    };
+    filled.iter().map(shape).collect()
 }

@@ -59,24 +59,31 @@ pub fn take(shape: &Shape, cells: &Cells, (slots, spans): (&[Slot], &[Span]), co
         e,
         counts,
     };
-    for (slot, outcome) in slots.iter().enumerate() {
-        census.slot(slot, outcome);
-    }
-    for span in spans {
-        census.span(span);
-    }
+    census.slots(slots);
+    spans.iter().for_each(|span| census.span(span));
     census.agreed_outside(spans);
-    let covered: usize = spans.iter().map(|span| span.last - span.first).sum();
-    let name = match file::layout_before(slots) {
-        file::LAYOUT_PLAIN => "3 published without an F",
-        _ => "3 published with an F",
-    };
-    counts.add("layout", name);
-    let outside = !spans.is_empty() && covered < shape.days;
-    counts.add_if(outside, "span", "slots outside");
+    census.whole(slots, spans);
 }
 
 impl Census<'_> {
+    fn slots(&mut self, slots: &[Slot]) {
+        for (slot, outcome) in slots.iter().enumerate() {
+            self.slot(slot, outcome);
+        }
+    }
+
+    /// What the file is as a whole.
+    fn whole(&mut self, slots: &[Slot], spans: &[Span]) {
+        let covered: usize = spans.iter().map(|span| span.last - span.first).sum();
+        let name = match file::layout_before(slots) {
+            file::LAYOUT_PLAIN => "3 published without an F",
+            _ => "3 published with an F",
+        };
+        self.counts.add("layout", name);
+        let outside = !spans.is_empty() && covered < self.shape.days;
+        self.counts.add_if(outside, "span", "slots outside");
+    }
+
     fn outage(&self, slot: usize) -> bool {
         self.cells.versions[slot] != 0 && self.cells.statuses[slot] & rules::OUTAGE != 0
     }
@@ -271,14 +278,24 @@ impl Census<'_> {
         self.causes[slot].is_none() && !self.outage(slot) && !self.holiday(slot)
     }
 
+    /// Good, on a holiday or on none, and no reference all the same.
+    fn is_passed(&self, slot: usize, holiday: bool) -> bool {
+        self.causes[slot].is_none() && self.holiday(slot) == holiday && !self.refers(slot)
+    }
+
+    /// How many references a holiday has whose last Sunday is k days back.
+    fn sundays_found(&mut self, k: usize, day: usize, many: usize) {
+        self.counts.add(HOLIDAYS[k - 1], NUMBERS[many]);
+        if day >= FARTHEST_SUNDAY {
+            self.counts.add(LATE_HOLIDAYS[k - 1], NUMBERS[many]);
+        }
+    }
+
     /// A holiday's slot, with the references found.
     fn sundays(&mut self, slot: usize, found: &[usize]) {
         let (n, day) = (self.shape.slots_a_day, slot / self.shape.slots_a_day);
         let k = rules::sunday_back(self.shape.first_day as usize + day);
-        self.counts.add(HOLIDAYS[k - 1], NUMBERS[found.len()]);
-        if day >= FARTHEST_SUNDAY {
-            self.counts.add(LATE_HOLIDAYS[k - 1], NUMBERS[found.len()]);
-        }
+        self.sundays_found(k, day, found.len());
         let earlier = |days: usize| slot.checked_sub(days * n);
         let refers = |days: usize| earlier(days).is_some_and(|other| self.refers(other));
         let used = |days: usize| earlier(days).is_some_and(|other| found.contains(&other));
@@ -290,10 +307,7 @@ impl Census<'_> {
         };
         let passed = |holiday: bool| {
             let mut sundays = (k..=searched).step_by(7).filter_map(earlier);
-            sundays.any(|other| match self.causes[other] {
-                None => self.holiday(other) == holiday && !self.refers(other),
-                Some(_) => false,
-            })
+            sundays.any(|other| self.is_passed(other, holiday))
         };
         let occurred = [
             (used(370), "370 days back"),

@@ -7,6 +7,7 @@ use crate::second::reader::Figures;
 
 #[derive(Clone, Copy, Default)]
 struct Tally {
+    actual: u64,
     none: u64,
     substituted: u64,
     scaled: u64,
@@ -81,37 +82,65 @@ fn contents_hold(
     if !bounds || !chain {
         return false;
     }
-    // The span each day lies in; the one more at the end takes the days outside.
-    let mut owner = vec![spans.len(); days];
-    for (i, span) in spans.iter().enumerate() {
-        owner[span.first.into()..span.last.into()].fill(i);
-    }
-    let mut tallies = vec![Tally::default(); spans.len() + 1];
-    let mut actual = 0;
-    for (slot, record) in slot_table.chunks_exact(6).enumerate() {
-        let value = u32::from_le_bytes([record[0], record[1], record[2], record[3]]);
-        let tally = &mut tallies[owner[slot / slots_a_day]];
-        match (record[4] as char, record[5], value) {
-            ('A', 0, _) | ('A', 1, 0) => actual += 1,
-            ('S', 2 | 3, _) => tally.substituted += 1,
-            ('S', 18 | 19, _) => {
-                tally.substituted += 1;
-                tally.scaled += 1;
-            }
-            ('N', 0, 0) => tally.none += 1,
-            ('F', 5, 0..100_000_000) => tally.agreed += 1,
-            _ => return false,
-        }
-        tally.sum += u64::from(value);
-    }
+    let Some(tallies) = tallies(slot_table, slots_a_day, &spans, days) else {
+        return false;
+    };
     let outside = tallies[spans.len()];
-    let total = |part: fn(&Tally) -> u64| tallies.iter().map(part).sum::<u64>();
     spans
         .iter()
         .zip(&tallies)
         .all(|(span, tally)| span_holds(span, tally))
         && outside.scaled == 0
-        && actual == figures.actual
+        && counts_hold(&tallies, figures)
+}
+
+/// The tally of each span, and one more for the days outside; none where a record is no record.
+fn tallies(
+    slot_table: &[u8],
+    slots_a_day: usize,
+    spans: &[Span],
+    days: usize,
+) -> Option<Vec<Tally>> {
+    let owner = owners(spans, days);
+    let mut tallies = vec![Tally::default(); spans.len() + 1];
+    for (slot, record) in slot_table.chunks_exact(6).enumerate() {
+        tallies[owner[slot / slots_a_day]].add(record)?;
+    }
+    Some(tallies)
+}
+
+/// The span each day lies in; the one more at the end takes the days outside.
+fn owners(spans: &[Span], days: usize) -> Vec<usize> {
+    let mut owner = vec![spans.len(); days];
+    for (i, span) in spans.iter().enumerate() {
+        owner[span.first.into()..span.last.into()].fill(i);
+    }
+    owner
+}
+
+impl Tally {
+    fn add(&mut self, record: &[u8]) -> Option<()> {
+        let value = u32::from_le_bytes([record[0], record[1], record[2], record[3]]);
+        match (record[4] as char, record[5], value) {
+            ('A', 0, _) | ('A', 1, 0) => self.actual += 1,
+            ('S', 2 | 3, _) => self.substituted += 1,
+            ('S', 18 | 19, _) => {
+                self.substituted += 1;
+                self.scaled += 1;
+            }
+            ('N', 0, 0) => self.none += 1,
+            ('F', 5, 0..100_000_000) => self.agreed += 1,
+            _ => return None,
+        }
+        self.sum += u64::from(value);
+        Some(())
+    }
+}
+
+/// The trailer's counts and sum, and what its layout says of F.
+fn counts_hold(tallies: &[Tally], figures: &Figures) -> bool {
+    let total = |part: fn(&Tally) -> u64| tallies.iter().map(part).sum::<u64>();
+    total(|tally| tally.actual) == figures.actual
         && total(|tally| tally.substituted + tally.agreed) == figures.substituted
         && match figures.layout {
             1 => total(|tally| tally.agreed) == 0,

@@ -123,31 +123,15 @@ pub fn edited(base: &[u8], edits: &[Edit]) -> Vec<u8> {
 fn apply(file: &mut Vec<u8>, edit: &Edit) {
     match edit {
         Edit::Truncate(len) => file.truncate(*len),
-        Edit::Cut { at, len } => {
-            let end = (at + len).min(file.len());
-            file.drain(*at.min(&end)..end);
-        }
+        Edit::Cut { at, len } => cut(file, *at, *len),
         Edit::Extend(bytes) => file.extend(bytes),
-        Edit::Prepend(bytes) => {
-            file.splice(0..0, bytes.iter().copied());
-        }
-        Edit::Flip { at, bit } => {
-            if let Some(byte) = file.get_mut(*at) {
-                *byte ^= 1 << (bit & 7);
-            }
-        }
+        Edit::Prepend(bytes) => drop(file.splice(0..0, bytes.iter().copied())),
+        Edit::Flip { at, bit } => flip(file, *at, *bit),
         Edit::Byte { at, value } => put(file, *at, &[*value]),
-        Edit::Trailer(bytes) => {
-            if let Some(start) = trailer_start(file) {
-                put(file, start, bytes);
-            }
-        }
+        Edit::Trailer(bytes) => put_trailer(file, bytes),
         Edit::TrailerField { field, value } => set_field(file, *field, *value),
         Edit::SwapSlots(one, two) => swap(file, 0, SLOT_BYTES, *one, *two),
-        Edit::SwapSpans(one, two) => {
-            let (start, bytes) = (span_table(file).0, record_bytes(file));
-            swap(file, start, bytes, *one, *two);
-        }
+        Edit::SwapSpans(one, two) => swap_spans(file, *one, *two),
         Edit::Slot {
             at,
             value,
@@ -157,27 +141,49 @@ fn apply(file: &mut Vec<u8>, edit: &Edit) {
             let record = [&value.to_le_bytes()[..], &[*letter, *method]].concat();
             put(file, at * SLOT_BYTES, &record);
         }
-        Edit::SpanField {
-            span,
-            field: (offset, len),
-            value,
-        } => {
-            let (start, _) = span_table(file);
-            let at = start + span * record_bytes(file) + offset;
-            put(file, at, &value.to_le_bytes()[..*len]);
-        }
+        Edit::SpanField { span, field, value } => set_span_field(file, *span, *field, *value),
         Edit::DropSpan(span) => change_spans(file, *span, false),
         Edit::CopySpan(span) => change_spans(file, *span, true),
         Edit::AllZero => file.fill(0),
         Edit::Bytes(bytes) => file.clone_from(bytes),
         Edit::Mend => mend(file),
-        Edit::MendLayout => {
-            let wanted = if has_agreed(file) { 2 } else { 1 };
-            if layout(file) != file::LAYOUT {
-                set_field(file, LAYOUT, wanted);
-            }
-        }
+        Edit::MendLayout => mend_layout(file),
         Edit::Relayout(layout) => relayout(file, *layout),
+    }
+}
+
+fn cut(file: &mut Vec<u8>, at: usize, len: usize) {
+    let end = (at + len).min(file.len());
+    file.drain(at.min(end)..end);
+}
+
+fn flip(file: &mut [u8], at: usize, bit: u8) {
+    if let Some(byte) = file.get_mut(at) {
+        *byte ^= 1 << (bit & 7);
+    }
+}
+
+fn put_trailer(file: &mut [u8], bytes: &[u8]) {
+    if let Some(start) = trailer_start(file) {
+        put(file, start, bytes);
+    }
+}
+
+fn swap_spans(file: &mut [u8], one: usize, two: usize) {
+    let (start, bytes) = (span_table(file).0, record_bytes(file));
+    swap(file, start, bytes, one, two);
+}
+
+fn set_span_field(file: &mut [u8], span: usize, (offset, len): Field, value: u64) {
+    let (start, _) = span_table(file);
+    let at = start + span * record_bytes(file) + offset;
+    put(file, at, &value.to_le_bytes()[..len]);
+}
+
+fn mend_layout(file: &mut [u8]) {
+    let wanted = if has_agreed(file) { 2 } else { 1 };
+    if layout(file) != file::LAYOUT {
+        set_field(file, LAYOUT, wanted);
     }
 }
 
@@ -337,29 +343,7 @@ impl Bases {
         let slots = slot_end / SLOT_BYTES;
         let span = rng.below(spans.max(1));
         match rng.below(44) {
-            0 => Edit::Truncate(rng.below(base.len() + 1)),
-            1 => Edit::Truncate(rng.pick(&[0, 1, 31, 32, 33, base.len() - 1])),
-            2 => Edit::Cut {
-                at: rng.below(base.len()),
-                len: rng.pick(&[1, 6, 10, 14, 32]),
-            },
-            3 => Edit::Extend(noise(rng, 40)),
-            4 => Edit::Prepend(noise(rng, 12)),
-            5 | 6 => Edit::Flip {
-                at: rng.below(base.len()),
-                bit: rng.byte(),
-            },
-            7 => Edit::Byte {
-                at: rng.below(base.len()),
-                value: rng.byte(),
-            },
-            8 => {
-                // A bit of the trailer.
-                Edit::Flip {
-                    at: base.len() - 1 - rng.below(TRAILER_BYTES),
-                    bit: rng.byte(),
-                }
-            }
+            way @ 0..=8 => bytes_edit(rng, base.len(), way),
             9 => {
                 let other = &self.0[rng.below(self.0.len())];
                 Edit::Trailer(other[other.len() - TRAILER_BYTES..].to_vec())
@@ -369,8 +353,6 @@ impl Bases {
             14 => Edit::SwapSpans(rng.below(spans + 1), rng.below(spans + 1)),
             15..=19 => slot_edit(rng, base, slots),
             20..=25 => span_edit(rng, base, span),
-            36..=41 => ends_edit(rng, base, span),
-            42 | 43 => Edit::Relayout(rng.pick(&[1, 2, 3, 3])),
             26 => Edit::DropSpan(rng.pick(&[span, 0, spans.max(1) - 1])),
             27 => Edit::CopySpan(span),
             28 => Edit::AllZero,
@@ -379,8 +361,37 @@ impl Bases {
                 field: LAYOUT,
                 value: rng.pick(&[0, 1, 1, 2, 2, 3, 3, 4, 255]),
             },
+            36..=41 => ends_edit(rng, base, span),
+            42 | 43 => Edit::Relayout(rng.pick(&[1, 2, 3, 3])),
             _ => Edit::Bytes(noise(rng, 700)),
         }
+    }
+}
+
+/// Bytes cut off, put in or changed, whatever they are in the file.
+fn bytes_edit(rng: &mut Rng, len: usize, way: usize) -> Edit {
+    match way {
+        0 => Edit::Truncate(rng.below(len + 1)),
+        1 => Edit::Truncate(rng.pick(&[0, 1, 31, 32, 33, len - 1])),
+        2 => Edit::Cut {
+            at: rng.below(len),
+            len: rng.pick(&[1, 6, 10, 14, 32]),
+        },
+        3 => Edit::Extend(noise(rng, 40)),
+        4 => Edit::Prepend(noise(rng, 12)),
+        5 | 6 => Edit::Flip {
+            at: rng.below(len),
+            bit: rng.byte(),
+        },
+        7 => Edit::Byte {
+            at: rng.below(len),
+            value: rng.byte(),
+        },
+        // A bit of the trailer.
+        _ => Edit::Flip {
+            at: len - 1 - rng.below(TRAILER_BYTES),
+            bit: rng.byte(),
+        },
     }
 }
 

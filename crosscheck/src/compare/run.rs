@@ -373,20 +373,28 @@ pub fn compare_readers(
     other: Option<&dyn Side>,
     counts: &mut Counts,
 ) -> Result<(), String> {
-    let checked = reader::check(file);
-    counts.reader(checked);
+    counts.reader(reader::check(file));
     let read = Second.read(file);
+    hold_reader(file, read)?;
+    match other {
+        Some(other) => compare_reader(file, read, other),
+        None => Ok(()),
+    }
+}
+
+/// The reader against the definition, its tables and its own writing.
+fn hold_reader(file: &[u8], read: Result<Figures, u64>) -> Result<(), String> {
     let defined = acceptance::read(file).map_err(u64::from);
     if read != defined {
+        let checked = reader::check(file);
         return Err(format!(
             "reader: {read:?} ({checked:?}), by definition {defined:?}"
         ));
     }
     let tables = reader::tables(file);
-    let wanted = if read.is_ok() {
-        &file[..file.len() - file::TRAILER_BYTES]
-    } else {
-        &[]
+    let wanted = match read {
+        Ok(_) => &file[..file.len() - file::TRAILER_BYTES],
+        Err(_) => &[],
     };
     if tables != wanted {
         return Err(format!("tables: {} bytes, read {read:?}", tables.len()));
@@ -394,18 +402,21 @@ pub fn compare_readers(
     if Contents::of(file).is_ok_and(|contents| contents.file() != file) {
         return Err("what the file gives is written otherwise".to_string());
     }
-    let Some(other) = other else {
-        return Ok(());
-    };
+    Ok(())
+}
+
+/// The other build's reader against what the second build's read.
+fn compare_reader(file: &[u8], read: Result<Figures, u64>, other: &dyn Side) -> Result<(), String> {
     let others_read = other.read(file);
     if read != others_read {
+        let checked = reader::check(file);
         return Err(format!(
             "reader: {read:?} ({checked:?}), other {others_read:?}"
         ));
     }
-    let others_tables = other.tables(file);
-    if tables.len() as u64 != others_tables {
-        return Err(format!("tables: {}, other {others_tables}", tables.len()));
+    let (tables, others_tables) = (Second.tables(file), other.tables(file));
+    if tables != others_tables {
+        return Err(format!("tables: {tables}, other {others_tables}"));
     }
     if !other.keeps_convention(file) {
         return Err("reader: a wrong list of figures is not refused, 2".to_string());

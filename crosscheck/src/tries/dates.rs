@@ -313,63 +313,64 @@ mod tests {
         };
     }
 
+    const MEDDLED: [Books; 8] = [
+        // Every year has a 29 February.
+        meddled!(|head: Head| match (head.month, head.day) {
+            (2, 29) => Head { day: 28, ..head },
+            _ => head,
+        }),
+        // 2096 has none.
+        meddled!(|head: Head| match (head.year, head.month, head.day) {
+            (2096, 2, 29) => Head { day: 30, ..head },
+            _ => head,
+        }),
+        // An entry of the table is one too few in leap years.
+        meddled!(|head: Head| match (head.year % 4, head.month, head.day) {
+            (0, 10, 1) => Head {
+                month: 9,
+                day: 30,
+                ..head
+            },
+            (0, 10, day @ 2..) => Head {
+                day: day - 1,
+                ..head
+            },
+            _ => head,
+        }),
+        // Month 13 is the last.
+        meddled!(|head: Head| Head {
+            month: if head.month == 13 { 12 } else { head.month },
+            ..head
+        }),
+        // Day 0 is the first.
+        meddled!(|head: Head| Head {
+            day: head.day.max(1),
+            ..head
+        }),
+        // A day's number in a byte.
+        meddled!(|head: Head| Head {
+            day: head.day % 256,
+            ..head
+        }),
+        // The year 2100 is like 2096.
+        meddled!(|head: Head| Head {
+            year: if head.year == 2100 { 2096 } else { head.year },
+            ..head
+        }),
+        // The last day's book may have two days.
+        meddled!(|head: Head| Head {
+            days: if head.year == 2099 && head.month == 12 {
+                1
+            } else {
+                head.days
+            },
+            ..head
+        }),
+    ];
+
     #[test]
     fn meddled_builds_are_found() {
-        let meddled = [
-            // Every year has a 29 February.
-            meddled!(|head: Head| match (head.month, head.day) {
-                (2, 29) => Head { day: 28, ..head },
-                _ => head,
-            }),
-            // 2096 has none.
-            meddled!(|head: Head| match (head.year, head.month, head.day) {
-                (2096, 2, 29) => Head { day: 30, ..head },
-                _ => head,
-            }),
-            // An entry of the table is one too few in leap years.
-            meddled!(|head: Head| match (head.year % 4, head.month, head.day) {
-                (0, 10, 1) => Head {
-                    month: 9,
-                    day: 30,
-                    ..head
-                },
-                (0, 10, day @ 2..) => Head {
-                    day: day - 1,
-                    ..head
-                },
-                _ => head,
-            }),
-            // Month 13 is the last.
-            meddled!(|head: Head| Head {
-                month: if head.month == 13 { 12 } else { head.month },
-                ..head
-            }),
-            // Day 0 is the first.
-            meddled!(|head: Head| Head {
-                day: head.day.max(1),
-                ..head
-            }),
-            // A day's number in a byte.
-            meddled!(|head: Head| Head {
-                day: head.day % 256,
-                ..head
-            }),
-            // The year 2100 is like 2096.
-            meddled!(|head: Head| Head {
-                year: if head.year == 2100 { 2096 } else { head.year },
-                ..head
-            }),
-            // The last day's book may have two days.
-            meddled!(|head: Head| Head {
-                days: if head.year == 2099 && head.month == 12 {
-                    1
-                } else {
-                    head.days
-                },
-                ..head
-            }),
-        ];
-        for (slip, other) in meddled.into_iter().enumerate() {
+        for (slip, other) in MEDDLED.into_iter().enumerate() {
             assert!(run(other).is_err(), "{slip}");
         }
     }

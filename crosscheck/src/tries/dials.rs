@@ -311,52 +311,54 @@ mod tests {
         assert_eq!(tally.missing(), Vec::<&str>::new());
     }
 
+    const MEDDLED_PACK: [fn(u32, &mut [u8]) -> u32; 4] = [
+        |_, _| 6,
+        // Takes one reading too many.
+        |reading, bytes| match reading {
+            DIAL => 0,
+            _ => dial::pack_code(reading, bytes),
+        },
+        // 6 before 2.
+        |reading, bytes| match reading {
+            DIAL.. => 6,
+            _ => dial::pack_code(reading, bytes),
+        },
+        // Writes on refusal.
+        |reading, bytes| {
+            let code = dial::pack_code(reading, bytes);
+            if code == 6 {
+                bytes.fill(0);
+            }
+            code
+        },
+    ];
+
+    const MEDDLED_UNPACK: [fn(&[u8]) -> u32; 3] = [
+        // A half byte above 9 counts with its value.
+        |bytes| match bytes {
+            [a, b, c, d] => [d, c, b, a].into_iter().fold(0, |high, &byte| {
+                high * 100 + u32::from(byte >> 4) * 10 + u32::from(byte & 15)
+            }),
+            _ => 100_000_002,
+        },
+        // 16 before 2.
+        |bytes| match bytes.iter().any(|byte| byte >> 4 > 9) {
+            true => 100_000_016,
+            false => dial::unpack_code(bytes),
+        },
+        // Highest byte first.
+        |bytes| {
+            let turned: Vec<u8> = bytes.iter().rev().copied().collect();
+            dial::unpack_code(&turned)
+        },
+    ];
+
     #[test]
     fn meddled_builds_are_found() {
-        let pack: [fn(u32, &mut [u8]) -> u32; 4] = [
-            |_, _| 6,
-            // Takes one reading too many.
-            |reading, bytes| match reading {
-                DIAL => 0,
-                _ => dial::pack_code(reading, bytes),
-            },
-            // 6 before 2.
-            |reading, bytes| match reading {
-                DIAL.. => 6,
-                _ => dial::pack_code(reading, bytes),
-            },
-            // Writes on refusal.
-            |reading, bytes| {
-                let code = dial::pack_code(reading, bytes);
-                if code == 6 {
-                    bytes.fill(0);
-                }
-                code
-            },
-        ];
-        for pack in pack {
+        for pack in MEDDLED_PACK {
             assert!(run(Dials { pack, ..SECOND }).is_err());
         }
-        let unpack: [fn(&[u8]) -> u32; 3] = [
-            // A half byte above 9 counts with its value.
-            |bytes| match bytes {
-                [a, b, c, d] => [d, c, b, a].into_iter().fold(0, |high, &byte| {
-                    high * 100 + u32::from(byte >> 4) * 10 + u32::from(byte & 15)
-                }),
-                _ => 100_000_002,
-            },
-            // 16 before 2.
-            |bytes| match bytes.iter().any(|byte| byte >> 4 > 9) {
-                true => 100_000_016,
-                false => dial::unpack_code(bytes),
-            },
-            // Highest byte first.
-            |bytes| {
-                let turned: Vec<u8> = bytes.iter().rev().copied().collect();
-                dial::unpack_code(&turned)
-            },
-        ];
-        for unpack in unpack {
+        for unpack in MEDDLED_UNPACK {
             assert!(run(Dials { unpack, ..SECOND }).is_err());
         }
     }

@@ -272,54 +272,55 @@ mod tests {
         table.get(place).copied().unwrap_or(100_000_001)
     }
 
+    const MEDDLED: [Limit; 10] = [
+        // The table isn't looked at.
+        taken,
+        |_, _| 40_000,
+        // Places are counted from 0.
+        |table, kind| SECOND(table, kind.wrapping_add(1)),
+        // 25 places.
+        |table, kind| match table.len() {
+            25 if SECOND(&table[..24], 1) < 100_000_000 => taken(table, kind),
+            _ => SECOND(table, kind),
+        },
+        // Equal neighbours.
+        |table, kind| {
+            let mut other = table.to_vec();
+            other.dedup();
+            match SECOND(&other, 1) < 100_000_000 && table.len() <= 24 {
+                true => taken(table, kind),
+                false => SECOND(table, kind),
+            }
+        },
+        // The last limit isn't looked at.
+        |table, kind| match table.split_last() {
+            Some((_, rest)) if SECOND(rest, 1) < 100_000_000 && table.len() <= 24 => {
+                taken(table, kind)
+            }
+            _ => SECOND(table, kind),
+        },
+        // A first limit of 0.
+        |table, kind| match table.first() {
+            Some(0) if SECOND(&table[1..], 1) < 100_000_000 => taken(table, kind),
+            _ => SECOND(table, kind),
+        },
+        // 1 before 13.
+        |table, kind| match (1..=table.len()).contains(&(kind as usize)) {
+            true => SECOND(table, kind),
+            false => 100_000_001,
+        },
+        // 2 for a table of none.
+        |table, kind| match table.is_empty() {
+            true => 100_000_002,
+            false => SECOND(table, kind),
+        },
+        // The kind in a byte.
+        |table, kind| SECOND(table, kind % 256),
+    ];
+
     #[test]
     fn meddled_builds_are_found() {
-        let meddled: [Limit; 10] = [
-            // The table isn't looked at.
-            taken,
-            |_, _| 40_000,
-            // Places are counted from 0.
-            |table, kind| SECOND(table, kind.wrapping_add(1)),
-            // 25 places.
-            |table, kind| match table.len() {
-                25 if SECOND(&table[..24], 1) < 100_000_000 => taken(table, kind),
-                _ => SECOND(table, kind),
-            },
-            // Equal neighbours.
-            |table, kind| {
-                let mut other = table.to_vec();
-                other.dedup();
-                match SECOND(&other, 1) < 100_000_000 && table.len() <= 24 {
-                    true => taken(table, kind),
-                    false => SECOND(table, kind),
-                }
-            },
-            // The last limit isn't looked at.
-            |table, kind| match table.split_last() {
-                Some((_, rest)) if SECOND(rest, 1) < 100_000_000 && table.len() <= 24 => {
-                    taken(table, kind)
-                }
-                _ => SECOND(table, kind),
-            },
-            // A first limit of 0.
-            |table, kind| match table.first() {
-                Some(0) if SECOND(&table[1..], 1) < 100_000_000 => taken(table, kind),
-                _ => SECOND(table, kind),
-            },
-            // 1 before 13.
-            |table, kind| match (1..=table.len()).contains(&(kind as usize)) {
-                true => SECOND(table, kind),
-                false => 100_000_001,
-            },
-            // 2 for a table of none.
-            |table, kind| match table.is_empty() {
-                true => 100_000_002,
-                false => SECOND(table, kind),
-            },
-            // The kind in a byte.
-            |table, kind| SECOND(table, kind % 256),
-        ];
-        for (slip, other) in meddled.into_iter().enumerate() {
+        for (slip, other) in MEDDLED.into_iter().enumerate() {
             assert!(run(other).is_err(), "{slip}");
         }
     }

@@ -390,40 +390,36 @@ impl Count<'_> {
         let bad_pair = question.pairs().any(|(a, b)| a >= b || b > days);
         let tally = &mut self.tally;
         tally.add_if(question.totals > 0, "stays refused, totals unchanged");
+        tally.add(&format!("stays refused {code}"));
         match code {
-            8 => {
-                tally.add("stays refused 8");
-                tally.add_if(lists, "8 before 18");
-                tally.add_if(!lists && bad_pair, "8 before 19");
-            }
-            9 => {
-                tally.add("stays refused 9");
-                tally.add_if(lists, "9 before 18");
-                tally.add_if(!lists && bad_pair, "9 before 19");
+            8 | 9 => {
+                tally.add_if(lists, &format!("{code} before 18"));
+                tally.add_if(!lists && bad_pair, &format!("{code} before 19"));
             }
             18 => {
-                tally.add("stays refused 18");
                 tally.add_if(bad_pair, "18 before 19");
                 tally.add_if(odd, "odd list refused");
                 tally.add_if(many == 65 && !odd && !other_totals, "65 pairs refused");
                 tally.add_if(!odd && question.totals < many, "fewer totals refused");
                 tally.add_if(!odd && question.totals > many, "more totals refused");
             }
-            _ => {
-                let any = |holds: &dyn Fn(u32, u32) -> bool| {
-                    question.pairs().any(|(first, second)| holds(first, second))
-                };
-                tally.add("stays refused 19");
-                tally.add_if(
-                    any(&|a, b| a < b && b == days + 1),
-                    "second = D + 1 refused",
-                );
-                tally.add_if(any(&|a, b| a == b && b <= days), "first = second refused");
-                tally.add_if(any(&|a, b| a > b && a <= days), "first > second refused");
-                let most = any(&|_, second| second == u32::MAX);
-                tally.add_if(most, "pair of 4,294,967,295 refused");
-            }
+            _ => self.refused_pair(),
         }
+    }
+
+    fn refused_pair(&mut self) {
+        let (question, days) = (self.question, self.days);
+        let any = |holds: &dyn Fn(u32, u32) -> bool| {
+            question.pairs().any(|(first, second)| holds(first, second))
+        };
+        let beyond = any(&|a, b| a < b && b == days + 1);
+        self.tally.add_if(beyond, "second = D + 1 refused");
+        let equal = any(&|a, b| a == b && b <= days);
+        self.tally.add_if(equal, "first = second refused");
+        let falling = any(&|a, b| a > b && a <= days);
+        self.tally.add_if(falling, "first > second refused");
+        let most = any(&|_, second| second == u32::MAX);
+        self.tally.add_if(most, "pair of 4,294,967,295 refused");
     }
 }
 
@@ -446,56 +442,57 @@ mod tests {
         assert!(tally.missing().len() < 4, "{:?}", tally.missing());
     }
 
+    const MEDDLED: [Stays; 6] = [
+        // Takes 65 pairs.
+        |file, pairs, totals| match pairs.len() {
+            130 => 0,
+            _ => SECOND(file, pairs, totals),
+        },
+        // 19 before 18.
+        |file, pairs, totals| match pairs {
+            [first, second, ..] if first >= second && SECOND(file, &[], &mut []) == 0 => 19,
+            _ => SECOND(file, pairs, totals),
+        },
+        // 18 before 8 and 9.
+        |file, pairs, totals| match pairs.len() % 2 {
+            1 => 18,
+            _ => SECOND(file, pairs, totals),
+        },
+        // Writes on refusal.
+        |file, pairs, totals| {
+            let code = SECOND(file, pairs, totals);
+            if code == 19 {
+                totals.fill(0);
+            }
+            code
+        },
+        // The day after the last counts too.
+        |file, pairs, totals| {
+            let code = SECOND(file, pairs, totals);
+            let days = days_of(file);
+            let longer: Vec<u32> = pairs
+                .chunks(2)
+                .flat_map(|pair| [pair[0], days.min(*pair.last().unwrap_or(&0) + 1)])
+                .collect();
+            if code == 0 {
+                SECOND(file, &longer, totals);
+            }
+            code
+        },
+        // A stay that was asked before is not totalled again.
+        |file, pairs, totals| {
+            let code = SECOND(file, pairs, totals);
+            if code == 0 && pairs.len() > 2 && pairs[..2] == pairs[2..4] {
+                totals[1] = 0;
+            }
+            code
+        },
+    ];
+
     #[test]
     fn meddled_builds_are_found() {
-        let meddled: [Stays; 6] = [
-            // Takes 65 pairs.
-            |file, pairs, totals| match pairs.len() {
-                130 => 0,
-                _ => SECOND(file, pairs, totals),
-            },
-            // 19 before 18.
-            |file, pairs, totals| match pairs {
-                [first, second, ..] if first >= second && SECOND(file, &[], &mut []) == 0 => 19,
-                _ => SECOND(file, pairs, totals),
-            },
-            // 18 before 8 and 9.
-            |file, pairs, totals| match pairs.len() % 2 {
-                1 => 18,
-                _ => SECOND(file, pairs, totals),
-            },
-            // Writes on refusal.
-            |file, pairs, totals| {
-                let code = SECOND(file, pairs, totals);
-                if code == 19 {
-                    totals.fill(0);
-                }
-                code
-            },
-            // The day after the last counts too.
-            |file, pairs, totals| {
-                let code = SECOND(file, pairs, totals);
-                let days = days_of(file);
-                let longer: Vec<u32> = pairs
-                    .chunks(2)
-                    .flat_map(|pair| [pair[0], days.min(*pair.last().unwrap_or(&0) + 1)])
-                    .collect();
-                if code == 0 {
-                    SECOND(file, &longer, totals);
-                }
-                code
-            },
-            // A stay that was asked before is not totalled again.
-            |file, pairs, totals| {
-                let code = SECOND(file, pairs, totals);
-                if code == 0 && pairs.len() > 2 && pairs[..2] == pairs[2..4] {
-                    totals[1] = 0;
-                }
-                code
-            },
-        ];
         let files = Files::new(1);
-        for (i, meddled) in meddled.into_iter().enumerate() {
+        for (i, meddled) in MEDDLED.into_iter().enumerate() {
             assert!(run(&files, meddled).is_err(), "{i}");
         }
     }

@@ -34,6 +34,14 @@ const SCALED: [(u8, u8); 5] = [(b'A', 0), (b'A', 1), (b'S', 18), (b'S', 19), (b'
 
 const MOST_AGREED: u32 = 99_999_999;
 
+/// The other method that a record's value and letter allow.
+fn other_method(record: Record) -> u8 {
+    match record {
+        (_, b'S', method) | (0, b'A', method) => method ^ 1,
+        (.., method) => method,
+    }
+}
+
 impl Made {
     pub fn random(rng: &mut Rng) -> Made {
         let days = rng.pick(&[1, 1, 1, 2, 2, 3, 5, 31]);
@@ -85,23 +93,11 @@ impl Made {
                 let (letter, method) = rng.pick(kinds);
                 made.slots[at] = (value(rng, letter, method, in_scaled), letter, method);
             }
-            4 => {
-                // All slots of the letter, one method to the other.
-                for slot in &mut made.slots {
-                    slot.2 = match *slot {
-                        (_, b'S', method) => method ^ 1,
-                        (0, b'A', method) => method ^ 1,
-                        (.., method) => method,
-                    };
-                }
-            }
-            5 | 6 => {
-                let other = match (was, letter) {
-                    (_, b'S') | (0, b'A') => method ^ 1,
-                    _ => method,
-                };
-                made.slots[at].2 = other;
-            }
+            4 => made
+                .slots
+                .iter_mut()
+                .for_each(|slot| slot.2 = other_method(*slot)),
+            5 | 6 => made.slots[at].2 = other_method(made.slots[at]),
             _ if !matches!((letter, method), (b'A', 1) | (b'N', 0)) => {
                 let most = if letter == b'F' {
                     MOST_AGREED

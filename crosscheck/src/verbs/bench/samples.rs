@@ -79,43 +79,55 @@ impl Sample {
             tolerance: 10,
         };
         let shape = head.shape().expect("a head in bounds");
-        let day = shape.slots_a_day;
-        let deliveries: Vec<Delivery> = (0..shape.slots)
-            .filter(|&slot| kind.delivered(slot, interval))
-            .map(|slot| Delivery {
-                slot: slot as u32,
-                version: 1,
-                value: value(slot, day),
-                status: 0,
-            })
-            .collect();
-        let mut lists = Lists::zeroed(shape.slots, shape.days);
-        for &delivery in &deliveries {
-            Second.deliver(head, &mut lists, delivery);
+        let mut sample = Sample {
+            head,
+            slots: shape.slots,
+            days: shape.days,
+            deliveries: Vec::new(),
+            lists: Lists::zeroed(shape.slots, shape.days),
+            file: Vec::new(),
+        };
+        sample.deliver(kind);
+        sample.agree(kind);
+        if matches!(kind, Kind::Ordinary | Kind::SomeAgreed | Kind::AllAgreed) {
+            read_weekly(head, &mut sample.lists, shape.slots_a_day);
         }
-        for slot in (0..shape.slots).filter(|&slot| kind.agreed(slot, interval)) {
+        sample.publish();
+        sample
+    }
+
+    fn deliver(&mut self, kind: Kind) {
+        let day = self.slots / self.days;
+        let slots = (0..self.slots).filter(|&slot| kind.delivered(slot, self.head.interval));
+        let delivery = |slot: usize| Delivery {
+            slot: slot as u32,
+            version: 1,
+            value: value(slot, day),
+            status: 0,
+        };
+        self.deliveries = slots.map(delivery).collect();
+        for &delivery in &self.deliveries {
+            Second.deliver(self.head, &mut self.lists, delivery);
+        }
+    }
+
+    fn agree(&mut self, kind: Kind) {
+        let (day, interval) = (self.slots / self.days, self.head.interval);
+        for slot in (0..self.slots).filter(|&slot| kind.agreed(slot, interval)) {
             let agreement = Agreement {
                 slot: slot as u32,
                 version: 1,
                 value: value(slot, day),
             };
-            Second.agree(head, &mut lists, agreement);
+            Second.agree(self.head, &mut self.lists, agreement);
         }
-        if matches!(kind, Kind::Ordinary | Kind::SomeAgreed | Kind::AllAgreed) {
-            read_weekly(head, &mut lists, day);
-        }
-        let mut file = vec![0; 6 * shape.slots + 14 * shape.days + 32];
-        match Second.publish(head, &lists, &mut file) {
-            Answer::Length(length) => file.truncate(length as usize),
+    }
+
+    fn publish(&mut self) {
+        self.file = vec![0; 6 * self.slots + 14 * self.days + 32];
+        match Second.publish(self.head, &self.lists, &mut self.file) {
+            Answer::Length(length) => self.file.truncate(length as usize),
             other => panic!("a sample is not published: {other:?}"),
-        }
-        Sample {
-            head,
-            slots: shape.slots,
-            days: shape.days,
-            deliveries,
-            lists,
-            file,
         }
     }
 }
