@@ -5,11 +5,12 @@ mod common;
 use common::*;
 use std::fmt::Write;
 use std::fs;
-use std::process::Stdio;
+use std::path::Path;
+use std::process::{Command, Stdio};
 use std::thread::sleep;
-use std::time::{Instant, SystemTime, UNIX_EPOCH};
+use std::time::{Duration, Instant, SystemTime, UNIX_EPOCH};
 
-const KILLS: u32 = 50;
+const KILLS: usize = 50;
 
 /// A log of 400 days of five minutes, all delivered.
 fn large_log(value: u32) -> String {
@@ -35,48 +36,47 @@ fn draws() -> impl FnMut() -> u32 {
     }
 }
 
+fn publish(log: &Path, file: &Path) -> Command {
+    let [log, file] = [log, file].map(|path| path.to_str().unwrap());
+    let mut command = command(&["publish", log, "-o", file]);
+    command.stdout(Stdio::null()).stderr(Stdio::null());
+    command
+}
+
+/// The file of a log, and how long its publishing takes.
+fn published(log: &Path, file: &Path) -> (Vec<u8>, Duration) {
+    let begin = Instant::now();
+    assert!(publish(log, file).status().unwrap().success());
+    (fs::read(file).unwrap(), begin.elapsed())
+}
+
+/// Whether a publish that is killed after some time got as far as the file that is wanted.
+fn is_there_when_killed(log: &Path, file: &Path, wanted: &[u8], after: Duration) -> bool {
+    let before = fs::read(file).unwrap();
+    let mut child = publish(log, file).spawn().unwrap();
+    sleep(after);
+    child.kill().unwrap();
+    child.wait().unwrap();
+    let left = fs::read(file).unwrap();
+    assert!(left == before || left == wanted, "half a file");
+    left == wanted
+}
+
 #[test]
 fn killed_at_random_moments() {
     let folder = Folder::new();
-    let logs = [
-        folder.write("a.log", large_log(100)),
-        folder.write("b.log", large_log(200)),
-    ];
+    let logs = [("a.log", 100), ("b.log", 200)];
+    let logs = logs.map(|(name, value)| folder.write(name, large_log(value)));
     let file = folder.path("a.file");
-    let publish = |log: usize| {
-        let words = [
-            "publish",
-            logs[log].to_str().unwrap(),
-            "-o",
-            file.to_str().unwrap(),
-        ];
-        let mut command = command(&words);
-        command.stdout(Stdio::null()).stderr(Stdio::null());
-        command
-    };
-    let begin = Instant::now();
-    assert!(publish(0).status().unwrap().success());
-    let whole = begin.elapsed();
-    let old = fs::read(&file).unwrap();
-    assert!(publish(1).status().unwrap().success());
-    let new = fs::read(&file).unwrap();
+    let (old, whole) = published(&logs[0], &file);
+    let (new, _) = published(&logs[1], &file);
     assert_ne!(old, new);
     let (mut draw, mut ended) = (draws(), [0; 2]);
-    for kill in 0..KILLS {
-        let (before, wanted) = (
-            fs::read(&file).unwrap(),
-            if kill % 2 == 0 { &old } else { &new },
-        );
-        let mut child = publish(kill as usize % 2).spawn().unwrap();
-        sleep(whole.mul_f64(1.25 * f64::from(draw()) / f64::from(u32::MAX)));
-        child.kill().unwrap();
-        child.wait().unwrap();
-        let after = fs::read(&file).unwrap();
-        assert!(
-            after == before || after == *wanted,
-            "half a file after kill {kill}"
-        );
-        ended[usize::from(after == *wanted)] += 1;
+    let turns = logs.iter().zip([&old, &new]).cycle().take(KILLS);
+    for (log, wanted) in turns {
+        let after = whole.mul_f64(1.25 * f64::from(draw()) / f64::from(u32::MAX));
+        let there = is_there_when_killed(log, &file, wanted, after);
+        ended[usize::from(there)] += 1;
     }
     println!(
         "after {KILLS} kills: {} times the old file, {} times the new one",
