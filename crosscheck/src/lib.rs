@@ -6,5 +6,6 @@ pub mod census;
 pub mod compare;
 pub mod guard;
 pub mod host;
+pub mod number;
 pub mod second;
 pub mod tries;

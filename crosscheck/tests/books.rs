@@ -4,6 +4,7 @@ use crosscheck::census::counts::Counts;
 use crosscheck::compare::random;
 use crosscheck::compare::run::run;
 use crosscheck::compare::side::{Answer, Second, Side};
+use crosscheck::number::narrowed;
 use crosscheck::second::book::Filed;
 use crosscheck::second::head::Head;
 use crosscheck::second::lists::Lists;
@@ -168,7 +169,7 @@ impl Side for Meddled {
             }
             return answer;
         };
-        let (file, behind) = out.split_at_mut(length as usize);
+        let (file, behind) = out.split_at_mut(narrowed(length));
         match self.0 {
             Meddling::FillsNothing => {
                 for record in file[..6 * lists.values.len()].chunks_mut(6) {
@@ -182,10 +183,10 @@ impl Side for Meddled {
                 let agreed = file[..6 * lists.values.len()]
                     .chunks(6)
                     .any(|r| r[4] == b'F');
-                file[length as usize - 27] = 1 + u8::from(agreed);
+                file[narrowed::<usize>(length) - 27] = 1 + u8::from(agreed);
             }
             Meddling::AgreedIsNeighbourAndReference => name_agreed(head, lists, file),
-            Meddling::MadeUpCounts => file[length as usize - 24] ^= 1,
+            Meddling::MadeUpCounts => file[narrowed::<usize>(length) - 24] ^= 1,
             Meddling::WritesBehindTheFile => behind.fill(0),
             _ => {
                 let table = &mut file[..6 * lists.values.len()];
@@ -291,7 +292,7 @@ fn name_agreed(head: Head, lists: &Lists, file: &mut [u8]) {
         let count = records
             .filter(|record| letters.contains(&record[4]))
             .count();
-        file[trailer + at..trailer + at + 4].copy_from_slice(&(count as u32).to_le_bytes());
+        file[trailer + at..trailer + at + 4].copy_from_slice(&narrowed::<u32>(count).to_le_bytes());
     }
 }
 

@@ -1,5 +1,6 @@
 //! 02, W9: dials in packed decimal.
 
+use crosscheck::number::narrowed;
 use crosscheck::second::dial::{pack, pack_code, unpack, unpack_code};
 
 const MAX: u32 = u32::MAX;
@@ -44,7 +45,7 @@ fn every_byte_in_every_place() {
             let mut bytes = [0x12; 4];
             bytes[place] = byte;
             let (upper, lower) = (u32::from(byte) / 16, u32::from(byte) % 16);
-            let scale = 100_u32.pow(place as u32);
+            let scale = 100_u32.pow(narrowed(place));
             let expected = if upper > 9 || lower > 9 {
                 Err(16)
             } else {

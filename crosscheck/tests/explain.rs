@@ -1,5 +1,6 @@
 //! How one slot came to its outcome: figures of 01 and 02, field by field.
 
+use crosscheck::number::narrowed;
 use crosscheck::second::explain::{
     DAYS, FIELDS, FILLED, Fields, LINE, NUMBER, OUTCOME, RULE, SCALED, SPAN, VALUES, explain,
     explain_code,
@@ -19,7 +20,7 @@ const S: u64 = 83;
 const UNWRITTEN: u64 = 77;
 
 fn fields(test: &Test, slot: usize) -> Fields {
-    let fields = explain(test.head, &test.lists, slot as u32).unwrap();
+    let fields = explain(test.head, &test.lists, narrowed(slot)).unwrap();
     let (value, letter, method) = test.slot(slot);
     let published = [value.into(), letter as u64, method.into()];
     assert_eq!(fields[OUTCOME..], published, "slot {slot}");
@@ -99,7 +100,7 @@ fn an_agreed_slot_ends_a_run() {
 /// none where that week's slot is lost.
 fn weeks(references: &[Option<u32>]) -> (Test, usize) {
     let last = 7 * references.len();
-    let mut test = days(last as u32 + 1);
+    let mut test = days(narrowed::<u32>(last) + 1);
     for (back, value) in references.iter().enumerate() {
         if let &Some(value) = value {
             test.deliver((last - 7 * (back + 1)) * 48 + 10, value, 0);

@@ -1,5 +1,6 @@
 //! 02, W7: the dropped fraction.
 
+use crosscheck::number::narrowed;
 use crosscheck::second::head::Head;
 use crosscheck::second::reader;
 use crosscheck::second::rules::{Mean, mean};
@@ -13,7 +14,7 @@ fn five_lost(references: [&[u32]; 5], advance: u32) -> Test {
     let weeks = references[0].len();
     let last = 7 * weeks;
     let mut test = Test::new(Head {
-        days: last as u32 + 1,
+        days: narrowed::<u32>(last) + 1,
         ..HEAD
     });
     for (position, values) in (10..15).zip(references) {
@@ -24,8 +25,8 @@ fn five_lost(references: [&[u32]; 5], advance: u32) -> Test {
     for position in (0..48).filter(|position| !(10..15).contains(position)) {
         test.deliver(last * 48 + position, 0, 0);
     }
-    test.register(last as u32, 50);
-    test.register(last as u32 + 1, 50 + advance);
+    test.register(narrowed(last), 50);
+    test.register(narrowed::<u32>(last) + 1, 50 + advance);
     test
 }
 
@@ -207,12 +208,12 @@ fn the_largest_products_fit() {
     test.register(36, 1);
     test.register(400, 0);
     let t = 99_999_999_u64;
-    assert_eq!(test.spans(), [(36, 400, t as u32, 1)]);
+    assert_eq!(test.spans(), [(36, 400, narrowed(t), 1)]);
     // All shapes alike, 6,000,000: E is 364 × 48 of them and T × E over 63 bits.
     let many = 364 * 48;
     assert!(u128::from(t) * 6_000_000 * u128::from(many) > i64::MAX as u128);
     let file = test.file();
-    let records = file[6 * 36 * 48..].chunks(6).take(many as usize);
+    let records = file[6 * 36 * 48..].chunks(6).take(narrowed(many));
     for (at, record) in (0_u64..).zip(records) {
         let value = u32::from_le_bytes(record[..4].try_into().unwrap());
         let expected = t * (at + 1) / many - t * at / many;

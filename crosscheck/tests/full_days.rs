@@ -1,6 +1,7 @@
 //! 02, W6: full days on the office screen.
 
 use crosscheck::compare::plain::Plain;
+use crosscheck::number::narrowed;
 use crosscheck::second::book::{self, Filed};
 use crosscheck::second::head::Head;
 use crosscheck::second::lists::{List, Lists};
@@ -69,10 +70,10 @@ fn a_full_day_of_each_interval() {
             assert_eq!(usize::from(test.lists.counts[1]), slot - n);
             test.deliver(slot, 1, 0);
         }
-        assert_eq!(test.lists.counts, [0, n as u16]);
+        assert_eq!(test.lists.counts, [0, narrowed(n)]);
         // Later versions on a full day are stored.
         test.redeliver(n, 2, 0);
-        assert_eq!(test.lists.counts, [0, n as u16]);
+        assert_eq!(test.lists.counts, [0, narrowed(n)]);
         assert_eq!(test.file().len(), 12 * n + 32);
     }
 }
@@ -131,30 +132,30 @@ fn a_first_delivery_wants_room_in_its_day() {
         let slot = n + 7;
         for count in [n, n + 1, 255 + n, 256 + n, 65_535] {
             let mut lists = Lists::zeroed(3 * n, 3);
-            lists.counts[1] = count as u16;
+            lists.counts[1] = narrowed(count);
             let before = lists.clone();
-            let delivery = (slot as u32, 1, 5, 0);
+            let delivery = (narrowed(slot), 1, 5, 0);
             assert_eq!(deliver(head, &mut lists, delivery), Err(11), "{count}");
-            assert_eq!(deliver(head, &mut lists, (n as u32, 1, 0, 0)), Err(11));
+            assert_eq!(deliver(head, &mut lists, (narrowed(n), 1, 0, 0)), Err(11));
             // 4 and 5 go first.
-            assert_eq!(deliver(head, &mut lists, (slot as u32, 0, 5, 8)), Err(4));
-            assert_eq!(deliver(head, &mut lists, (slot as u32, 1, 5, 8)), Err(5));
+            assert_eq!(deliver(head, &mut lists, (narrowed(slot), 0, 5, 8)), Err(4));
+            assert_eq!(deliver(head, &mut lists, (narrowed(slot), 1, 5, 8)), Err(5));
             assert_eq!(lists, before);
             // The other days have room.
-            for other in [n as u32 - 1, 2 * n as u32] {
+            for other in [narrowed::<u32>(n) - 1, 2 * narrowed::<u32>(n)] {
                 let stored = deliver(head, &mut lists, (other, 1, 5, 0));
                 assert_eq!(stored, Ok(Filed::Stored));
             }
-            assert_eq!(lists.counts, [1, count as u16, 1]);
+            assert_eq!(lists.counts, [1, narrowed(count), 1]);
         }
         // One less is room for one.
         let mut lists = Lists::zeroed(3 * n, 3);
-        lists.counts[1] = n as u16 - 1;
-        let first = deliver(head, &mut lists, (slot as u32, 1, 5, 0));
+        lists.counts[1] = narrowed::<u16>(n) - 1;
+        let first = deliver(head, &mut lists, (narrowed(slot), 1, 5, 0));
         assert_eq!(first, Ok(Filed::Stored));
         assert_eq!(usize::from(lists.counts[1]), n);
         assert_eq!(
-            deliver(head, &mut lists, (slot as u32 + 1, 1, 5, 0)),
+            deliver(head, &mut lists, (narrowed::<u32>(slot) + 1, 1, 5, 0)),
             Err(11)
         );
     }

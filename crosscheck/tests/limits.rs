@@ -1,5 +1,6 @@
 //! 02, W5: marinas with their own connections.
 
+use crosscheck::number::narrowed;
 use crosscheck::second::head::Head;
 use crosscheck::second::limits::{limit, limit_code};
 use crosscheck::second::lists::Lists;
@@ -174,7 +175,7 @@ fn a_file_does_not_tell_the_limit() {
     let file = |limit| {
         let mut test = Test::new(with_limit(limit, 30));
         for slot in (0..48).filter(|slot| slot % 7 != 3) {
-            test.deliver(slot, 300 * slot as u32, 0);
+            test.deliver(slot, 300 * narrowed::<u32>(slot), 0);
         }
         test.register(0, 0);
         test.register(1, 300_000);

@@ -1,5 +1,6 @@
 //! 02, W2: two hours of straight line.
 
+use crosscheck::number::narrowed;
 use crosscheck::second::head::Head;
 use crosscheck::second::rules::on_line;
 
@@ -57,9 +58,9 @@ fn two_hours_and_no_more() {
     for (interval, longest) in [(5, 24), (15, 8), (30, 4)] {
         let step = 3;
         for g in 1..=longest {
-            let rising: Vec<u32> = (1..=g as u32).map(|j| 100 + step * j).collect();
+            let rising: Vec<u32> = (1..=narrowed(g)).map(|j| 100 + step * j).collect();
             let falling: Vec<u32> = rising.iter().rev().copied().collect();
-            let far = 100 + step * (g as u32 + 1);
+            let far = 100 + step * (narrowed::<u32>(g) + 1);
             assert_eq!(run_of(interval, 100, g, far), line(&rising));
             assert_eq!(run_of(interval, far, g, 100), line(&falling));
         }

@@ -3,6 +3,7 @@
 use std::sync::LazyLock;
 
 use crosscheck::compare::rng::Rng;
+use crosscheck::number::narrowed;
 use crosscheck::second::head::Head;
 use crosscheck::second::line::line_code;
 use crosscheck::second::lists::{List, Lists};
@@ -42,7 +43,7 @@ fn after_opening(line: impl AsRef<[u8]>) -> u32 {
 fn played(log: impl AsRef<[u8]>) -> (Vec<u8>, Lists) {
     let log = log.as_ref();
     let mut lists = Lists::unopened(48, 1);
-    let mut answers = vec![77; figures(log)[7] as usize];
+    let mut answers = vec![77; narrowed(figures(log)[7])];
     assert_eq!(play_code(log, &mut lists, &mut answers), 0);
     (answers, lists)
 }
@@ -756,7 +757,7 @@ const OTHERS: [(&str, Logs); 14] = [
         Logs {
             line: |file, out| {
                 let length = line_code(file, out);
-                if let (24.., Some(after)) = (length, out.get_mut(length as usize)) {
+                if let (24.., Some(after)) = (length, out.get_mut(narrowed::<usize>(length))) {
                     *after = 0;
                 }
                 length

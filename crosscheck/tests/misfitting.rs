@@ -5,6 +5,7 @@ use crosscheck::compare::calls::Book;
 use crosscheck::compare::random;
 use crosscheck::compare::run::run;
 use crosscheck::compare::side::{Answer, Second, Side};
+use crosscheck::number::narrowed;
 use crosscheck::second::head::Head;
 use crosscheck::second::lists::Lists;
 use crosscheck::second::lists::{Agreement, Delivery, RegisterRead};
@@ -94,7 +95,7 @@ impl Slip {
                 _ => false,
             };
             if replaced && slot.quality == Quality::Substituted {
-                slot.value = by_itself as u32;
+                slot.value = narrowed(by_itself);
             }
         }
     }

@@ -7,6 +7,7 @@ use crosscheck::compare::damage::Bases;
 use crosscheck::compare::random;
 use crosscheck::compare::run::{compare_readers, run};
 use crosscheck::compare::side::{Answer, Second, Side};
+use crosscheck::number::narrowed;
 use crosscheck::second::book::{Filed, MOST_WIDTH};
 use crosscheck::second::contents::Contents;
 use crosscheck::second::file::Frame;
@@ -120,7 +121,7 @@ impl Slip {
             Slip::Swapped => (v, u),
             _ => (u, v),
         };
-        let right = Advances::between(g, u as u16, v as u16);
+        let right = Advances::between(g, narrowed(u), narrowed(v));
         let lowest = g.saturating_sub(u);
         match self {
             Slip::BelowZeroWraps if g < u => Advances {

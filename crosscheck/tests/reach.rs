@@ -1,6 +1,7 @@
 //! 02, W14: how far one late figure reaches. In each small book one clause's slots move
 //! and no others beside i, so a sentence without that clause is wrong.
 
+use crosscheck::number::narrowed;
 use crosscheck::second::book::Filed;
 use crosscheck::second::head::{Head, Shape};
 use crosscheck::second::lists::Lists;
@@ -21,7 +22,7 @@ struct Late {
 fn late(mut test: Test, i: usize, value: u32, status: u8) -> Late {
     let shape = test.head.shape().unwrap();
     let (before, file) = (test.lists.clone(), test.file());
-    let delivery = (i as u32, before.versions[i] + 1, value, status);
+    let delivery = (narrowed(i), before.versions[i] + 1, value, status);
     let stored = deliver(test.head, &mut test.lists, delivery);
     assert_eq!(stored, Ok(Filed::Stored));
     Late {

@@ -1,6 +1,7 @@
 //! 02, W11: a season of stays.
 
 use crosscheck::compare::damage::{Edit, edited};
+use crosscheck::number::narrowed;
 use crosscheck::second::head::Head;
 use crosscheck::second::stays::{stays, stays_code};
 
@@ -13,7 +14,7 @@ const UNWRITTEN: u64 = 0xA5A5;
 fn five_days() -> Vec<u8> {
     let mut test = Test::new(Head { days: 5, ..HEAD });
     for slot in 0..5 * 48 - 1 {
-        test.deliver(slot, 10_u32.pow(slot as u32 / 48), 0);
+        test.deliver(slot, 10_u32.pow(narrowed::<u32>(slot) / 48), 0);
     }
     test.agree(5 * 48 - 1, 99_999_999);
     test.file()
@@ -37,7 +38,7 @@ fn totals(pairs: &[u32]) -> Result<Vec<u64>, u8> {
 #[test]
 fn days_and_runs_of_days() {
     for (day, total) in DAYS.into_iter().enumerate() {
-        let day = day as u32;
+        let day = narrowed(day);
         assert_eq!(totals(&[day, day + 1]), Ok(vec![total]));
     }
     assert_eq!(totals(&[0, 5]), Ok(vec![DAYS.iter().sum()]));

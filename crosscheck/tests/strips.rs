@@ -1,5 +1,6 @@
 //! 02, W13: storage on the small box.
 
+use crosscheck::number::narrowed;
 use crosscheck::second::strips::{from_strips, from_strips_code, to_strips, to_strips_code};
 
 mod common;
@@ -54,7 +55,7 @@ fn two_days_by_hand() {
 
 #[test]
 fn the_first_day_is_only_laid_out() {
-    let bytes: Vec<u8> = (0..6 * 48).map(|i| (i % 256) as u8).collect();
+    let bytes: Vec<u8> = (0..6 * 48).map(|i| narrowed(i % 256)).collect();
     let strips = strips(30, &bytes);
     for slot in 0..48 {
         for k in 0..6 {
@@ -70,7 +71,7 @@ fn strips_are_summed_back() {
     strips[..96 * 3].fill(1);
     let table = back(15, &strips);
     for (slot, record) in table.chunks(6).enumerate() {
-        assert_eq!(record, [1 + (slot / 96) as u8, 0, 0, 0, 0, 0]);
+        assert_eq!(record, [1 + narrowed::<u8>(slot / 96), 0, 0, 0, 0, 0]);
     }
     // Strips of 0xFF: −1, −2, −3 modulo 4,294,967,296.
     let table = back(15, &[0xFF; 6 * 96 * 3]);
@@ -95,7 +96,7 @@ fn an_unchanged_day_is_zero() {
 fn there_and_back_from_either_side() {
     for (interval, days) in [(5, 1), (5, 3), (15, 2), (30, 7), (30, 400)] {
         let len = 6 * (1440 / interval as usize) * days;
-        let bytes: Vec<u8> = (0..len).map(|i| (i * i / 7 % 256) as u8).collect();
+        let bytes: Vec<u8> = (0..len).map(|i| narrowed(i * i / 7 % 256)).collect();
         assert_eq!(back(interval, &strips(interval, &bytes)), bytes);
         assert_eq!(strips(interval, &back(interval, &bytes)), bytes);
     }

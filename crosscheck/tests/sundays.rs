@@ -1,5 +1,6 @@
 //! 02, W3: holidays look like Sundays.
 
+use crosscheck::number::narrowed;
 use crosscheck::second::head::{Head, day_number};
 use crosscheck::second::rules::sunday_back;
 
@@ -53,19 +54,19 @@ fn a_holiday_on_each_weekday() {
     for target in 29..=35 {
         let mut test = from_sunday(36);
         for day in 0..target {
-            test.deliver(at(day), day as u32, 0);
+            test.deliver(at(day), narrowed(day), 0);
         }
         let k = target - 28;
-        let own = (4 * target - 7 - 14 - 21 - 28) as u32;
+        let own: u32 = narrowed(4 * target - 7 - 14 - 21 - 28);
         assert_eq!(test.slot(at(target)), (own / 4, 'S', 3), "no holiday, {k}");
-        test.holiday(target as u32);
+        test.holiday(narrowed(target));
         // 28, 21, 14 and 7, whatever the weekday: a mean of 17.5.
         assert_eq!(test.slot(at(target)), (17, 'S', 3), "{k} days back");
     }
     // The Sunday itself is no reference, delivered badly or not at all.
     let mut test = from_sunday(29);
     for day in [0, 7, 14, 21] {
-        test.deliver(at(day), day as u32, 0);
+        test.deliver(at(day), narrowed(day), 0);
     }
     test.deliver(at(28), 5000, 1);
     test.holiday(28);
@@ -158,7 +159,7 @@ fn alone(start: u32, first: usize, last: usize) -> (u32, char, u8) {
         ..HEAD
     });
     test.deliver(at(first), 77, 0);
-    test.holiday(last as u32);
+    test.holiday(narrowed(last));
     test.slot(at(last))
 }
 
@@ -189,7 +190,11 @@ fn all_of_one_year() {
     // Saturday, day 370: of 53 Sundays the four farthest count when the others are holidays.
     let mut test = from_sunday(371);
     for day in 0..370 {
-        test.deliver(at(day), if day % 7 == 0 { day as u32 } else { 20_000 }, 0);
+        test.deliver(
+            at(day),
+            if day % 7 == 0 { narrowed(day) } else { 20_000 },
+            0,
+        );
     }
     test.holiday(370);
     for day in (28..370).step_by(7) {

@@ -8,6 +8,7 @@ use crate::census::fits;
 use crate::census::ranges;
 use crate::compare::calls::{Act, Book};
 use crate::compare::side::Answer;
+use crate::number::narrowed;
 use crate::second::book::{Filed, MOST_AGREED};
 use crate::second::head::{Head, Shape};
 use crate::second::lists::{Agreement, Delivery, List, Lists};
@@ -474,7 +475,9 @@ impl Counts {
             Answer::Filed(Filed::Late) => "late",
             Answer::Filed(Filed::Repeat) => "repeat",
             Answer::Length(_) => "length",
-            Answer::Refused(number) => NUMBERS.get(number as usize).unwrap_or(&"odd number"),
+            Answer::Refused(number) => NUMBERS
+                .get(narrowed::<usize>(number))
+                .unwrap_or(&"odd number"),
         };
         self.add(group, name);
         if matches!(act, Act::Deliver(Delivery { status: 256.., .. })) {
@@ -590,7 +593,7 @@ fn limit_class(limit: u32) -> &'static str {
 
 fn first_day_class(shape: &Shape) -> &'static str {
     let (_, month, day) = crate::second::head::date(shape.first_day);
-    let last = shape.first_day + shape.days as u32 - 1;
+    let last = shape.first_day + narrowed::<u32>(shape.days) - 1;
     if last == crate::second::head::LAST_DAY {
         "ends 2099-12-31"
     } else if shape.first_day == 0 {

@@ -3,6 +3,7 @@
 //!
 //! One pass over the slots gives each span its tally; the clauses are then read off.
 
+use crate::number::narrowed;
 use crate::second::reader::Figures;
 
 #[derive(Clone, Copy, Default)]
@@ -74,7 +75,7 @@ fn contents_hold(
         3 => span_table.as_chunks().0.iter().map(span).collect(),
         _ => span_table.as_chunks().0.iter().map(span_before).collect(),
     };
-    let days = figures.days as usize;
+    let days = narrowed(figures.days);
     let bounds = spans
         .iter()
         .all(|span| span.first < span.last && usize::from(span.last) <= days);

@@ -3,6 +3,7 @@
 use crate::census::counts::Counts;
 use crate::compare::random;
 use crate::compare::rng::Rng;
+use crate::number::narrowed;
 use crate::second::contents;
 use crate::second::file::{self, SLOT_BYTES, TRAILER_BYTES};
 use crate::second::reader::{self, Fault};
@@ -214,7 +215,7 @@ fn set_field(file: &mut [u8], (offset, len): Field, value: u64) {
 
 /// Where the span table starts, and how many spans it has.
 fn span_table(file: &[u8]) -> (usize, usize) {
-    let spans = field(file, SPANS) as usize;
+    let spans = narrowed(field(file, SPANS));
     let end = trailer_start(file).unwrap_or(0);
     (end.saturating_sub(spans * record_bytes(file)), spans)
 }
@@ -226,7 +227,7 @@ fn record_bytes(file: &[u8]) -> usize {
 
 /// The layout byte.
 pub fn layout(file: &[u8]) -> u8 {
-    field(file, LAYOUT) as u8
+    narrowed(field(file, LAYOUT))
 }
 
 fn relayout(file: &mut Vec<u8>, layout: u8) {

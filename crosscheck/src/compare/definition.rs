@@ -6,6 +6,7 @@
 
 use std::ops::RangeInclusive;
 
+use crate::number::narrowed;
 use crate::second::head::{DIAL, Shape};
 use crate::second::rules::{Advances, Cells, Quality, Slot, Span, State};
 
@@ -184,8 +185,8 @@ impl<'a> Definition<'a> {
             }
         }
         let ends = Advances {
-            lowest: *advances.start() as u32,
-            highest: *advances.end() as u32,
+            lowest: narrowed(*advances.start()),
+            highest: narrowed(*advances.end()),
         };
         let t = i64::from(self.shape.tolerance);
         let r = least_from(advances.clone(), v);
@@ -218,7 +219,7 @@ impl<'a> Definition<'a> {
                 method: method + 16,
             },
             _ => Slot {
-                value: value as u32,
+                value: narrowed(value),
                 quality,
                 method,
             },
@@ -252,7 +253,7 @@ impl<'a> Definition<'a> {
         if e == 0 {
             (e, c, p) = (e1, c1, p1);
         }
-        (t * c / e - t * p / e) as u32
+        narrowed(t * c / e - t * p / e)
     }
 }
 

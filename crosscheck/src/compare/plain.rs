@@ -2,6 +2,7 @@
 
 use std::collections::{BTreeMap, BTreeSet};
 
+use crate::number::narrowed;
 use crate::second::book::{Filed, MOST_AGREED, status_of};
 use crate::second::head::{DIAL, Head};
 use crate::second::lists::{Agreement, Delivery, RegisterRead};
@@ -124,7 +125,7 @@ impl Plain {
     /// How many slots of a day have a kept delivery.
     pub fn count(&self, day: u32, slots_a_day: u32) -> u16 {
         let slots = day * slots_a_day..(day + 1) * slots_a_day;
-        self.deliveries.range(slots).count() as u16
+        narrowed(self.deliveries.range(slots).count())
     }
 
     /// Agreed value and version of a slot at the end; zeros if no call is kept.

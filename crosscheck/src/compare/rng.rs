@@ -1,5 +1,7 @@
 //! A small seeded generator (splitmix64).
 
+use crate::number::narrowed;
+
 #[derive(Clone, Debug)]
 pub struct Rng(u64);
 
@@ -31,12 +33,12 @@ impl Rng {
 
     /// 0 to `end - 1`; 0 when `end` is 0.
     pub fn below(&mut self, end: usize) -> usize {
-        ((u128::from(self.next()) * end as u128) >> 64) as usize
+        narrowed((u128::from(self.next()) * end as u128) >> 64)
     }
 
     /// `low` to `high`, both included.
     pub fn between(&mut self, low: u32, high: u32) -> u32 {
-        low + self.below((high - low) as usize + 1) as u32
+        low + narrowed::<u32>(self.below((high - low) as usize + 1))
     }
 
     /// True about once in `times`; never when `times` is 0.

@@ -9,6 +9,7 @@ use crate::compare::calls::{Act, Book, Call, Room};
 use crate::compare::definition::Definition;
 use crate::compare::plain::Plain;
 use crate::compare::side::{Answer, Second, Side, apply, filed_answer};
+use crate::number::narrowed;
 use crate::second::book::Filed;
 use crate::second::contents::Contents;
 use crate::second::file::{self, Frame};
@@ -222,7 +223,7 @@ impl Run<'_> {
             Some(plain) => plain.slot(delivery.slot),
             // A status that was stored is at most 7.
             None if answer == Answer::Filed(Filed::Stored) => {
-                (delivery.value, delivery.version, delivery.status as u8)
+                (delivery.value, delivery.version, narrowed(delivery.status))
             }
             None => return,
         };
@@ -276,7 +277,7 @@ impl Run<'_> {
         let n = call.head.shape().ok()?.slots_a_day;
         let day = slot as usize / n;
         let count = match &self.plain {
-            Some(plain) => plain.count(day as u32, n as u32),
+            Some(plain) => plain.count(narrowed(day), narrowed(n)),
             None => {
                 let first = filed == Filed::Stored && self.expected.versions[slot as usize] == 0;
                 self.expected.counts[day].wrapping_add(first.into())
@@ -295,7 +296,7 @@ impl Run<'_> {
     /// Bytes behind the file, or all on a refusal, are as they were.
     fn check_buffer(&self, answer: Answer, out: &[u8]) -> Result<(), String> {
         let written = match answer {
-            Answer::Length(length) => length as usize,
+            Answer::Length(length) => narrowed(length),
             _ => 0,
         };
         let before = pattern(out.len());
@@ -315,7 +316,7 @@ impl Run<'_> {
         let (Answer::Length(length), Ok(shape)) = (answer, call.head.shape()) else {
             return Ok(());
         };
-        let published = &out[..length as usize];
+        let published = &out[..narrowed(length)];
         let cells = self.expected.cells();
         let defined = defined(&shape, &cells);
         let file = defined.file();
@@ -478,5 +479,5 @@ fn room(call: &Call, lists: &Lists) -> usize {
 
 /// What a buffer holds before a call.
 fn pattern(len: usize) -> Vec<u8> {
-    (0..len).map(|i| (i % 251) as u8 ^ 0xA5).collect()
+    (0..len).map(|i| narrowed::<u8>(i % 251) ^ 0xA5).collect()
 }

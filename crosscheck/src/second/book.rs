@@ -2,6 +2,7 @@
 
 use std::cmp::Ordering;
 
+use crate::number::narrowed;
 use crate::second::file::{self, Frame};
 use crate::second::head::{DIAL, Head, Shape};
 use crate::second::refusal;
@@ -140,7 +141,7 @@ pub fn register(
     refuse_if(version == 0, refusal::VERSION)?;
     refuse_if(reading >= DIAL, refusal::READING)?;
     refuse_if(width > MOST_WIDTH.into(), refusal::WIDTH)?;
-    let width = width as u16;
+    let width = narrowed(width);
     let cell = (readings[boundary], widths[boundary]);
     refuse_if(
         !register_possible(cell.0, read_versions[boundary], cell.1),

@@ -1,5 +1,6 @@
 //! W10: what an accepted file of any layout gives, and its writing.
 
+use crate::number::narrowed;
 use crate::second::file::{self, Frame};
 use crate::second::reader::{self, SlotRecord, SpanRecord};
 use crate::second::rules::{self, Advances, Quality, Slot, Span, State};
@@ -17,10 +18,10 @@ impl Contents {
     pub fn of(file: &[u8]) -> Result<Contents, u8> {
         let (figures, slots, spans) = reader::records(file)?;
         let frame = Frame {
-            first_day: figures.first_day as u32,
-            days: figures.days as usize,
-            interval: figures.interval as u32,
-            layout: figures.layout as u8,
+            first_day: narrowed(figures.first_day),
+            days: narrowed(figures.days),
+            interval: narrowed(figures.interval),
+            layout: narrowed(figures.layout),
         };
         Ok(Contents {
             frame,
@@ -74,7 +75,7 @@ impl Contents {
 
 fn slot(record: &SlotRecord) -> Slot {
     Slot {
-        value: record.value as u32,
+        value: narrowed(record.value),
         quality: match record.letter {
             b'A' => Quality::Actual,
             b'S' => Quality::Substituted,
@@ -87,11 +88,11 @@ fn slot(record: &SlotRecord) -> Slot {
 
 fn span(record: &SpanRecord) -> Span {
     Span {
-        first: record.first as usize,
-        last: record.last as usize,
+        first: narrowed(record.first),
+        last: narrowed(record.last),
         advances: Advances {
-            lowest: record.lowest as u32,
-            highest: record.highest as u32,
+            lowest: narrowed(record.lowest),
+            highest: narrowed(record.highest),
         },
         state: match record.state {
             0 => State::Agrees,

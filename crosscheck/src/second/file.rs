@@ -1,5 +1,6 @@
 //! 01, The published file: the writer, of W10's layout and of the two before it.
 
+use crate::number::narrowed;
 use crate::second::head::Shape;
 use crate::second::rules::{Quality, Slot, Span, State};
 
@@ -85,8 +86,8 @@ fn slot_record(slot: &Slot) -> [u8; SLOT_BYTES] {
 
 fn span_record(layout: u8, span: &Span) -> Vec<u8> {
     let mut record = Vec::new();
-    record.extend((span.first as u16).to_le_bytes());
-    record.extend((span.last as u16).to_le_bytes());
+    record.extend(narrowed::<u16>(span.first).to_le_bytes());
+    record.extend(narrowed::<u16>(span.last).to_le_bytes());
     record.extend(span.advances.lowest.to_le_bytes());
     if layout == LAYOUT {
         record.extend(span.advances.highest.to_le_bytes());
@@ -105,17 +106,17 @@ pub fn layout_before(slots: &[Slot]) -> u8 {
 }
 
 fn trailer(frame: &Frame, slots: &[Slot], spans: usize) -> [u8; TRAILER_BYTES] {
-    let count = |quality| slots.iter().filter(|s| s.quality == quality).count() as u32;
+    let count = |quality| narrowed::<u32>(slots.iter().filter(|s| s.quality == quality).count());
     // F counts with S.
     let substituted = count(Quality::Substituted) + count(Quality::Agreed);
     let sum: u64 = slots.iter().map(|slot| u64::from(slot.value)).sum();
-    let distance = (span_bytes(frame.layout) * spans) as u32;
+    let distance: u32 = narrowed(span_bytes(frame.layout) * spans);
     let mut trailer = [0; TRAILER_BYTES];
-    trailer[0..2].copy_from_slice(&(frame.first_day as u16).to_le_bytes());
-    trailer[2..4].copy_from_slice(&(frame.days as u16).to_le_bytes());
-    trailer[4] = frame.interval as u8;
+    trailer[0..2].copy_from_slice(&narrowed::<u16>(frame.first_day).to_le_bytes());
+    trailer[2..4].copy_from_slice(&narrowed::<u16>(frame.days).to_le_bytes());
+    trailer[4] = narrowed(frame.interval);
     trailer[5] = frame.layout;
-    trailer[6..8].copy_from_slice(&(spans as u16).to_le_bytes());
+    trailer[6..8].copy_from_slice(&narrowed::<u16>(spans).to_le_bytes());
     trailer[8..12].copy_from_slice(&count(Quality::Actual).to_le_bytes());
     trailer[12..16].copy_from_slice(&substituted.to_le_bytes());
     trailer[16..20].copy_from_slice(&count(Quality::None).to_le_bytes());

@@ -1,5 +1,6 @@
 //! The head of a book and the days it covers: 01, Opening.
 
+use crate::number::narrowed;
 use crate::second::refusal;
 
 /// Day number of 2099-12-31; day 0 is 2000-01-01.
@@ -128,7 +129,7 @@ pub fn date(number: u32) -> (u32, u32, u32) {
     // The last month that has begun; the first begins with no days before it.
     let before = before_months(year);
     let month = before.iter().filter(|&&days| days <= left).count();
-    (year, month as u32, left - before[month - 1] + 1)
+    (year, narrowed(month), left - before[month - 1] + 1)
 }
 
 #[cfg(test)]

@@ -1,5 +1,6 @@
 //! 01, The published file: the one line a program writes of a file.
 
+use crate::number::narrowed;
 use crate::second::head::date;
 use crate::second::reader;
 use crate::second::refusal;
@@ -17,7 +18,7 @@ pub fn line(file: &[u8]) -> String {
 /// First day, D, L, the three counts and the sum, of a file of any length; or the refusal.
 pub fn of_any_length(file: &[u8]) -> Result<String, u8> {
     let f = reader::read(file)?;
-    let (year, month, day) = date(f.first_day as u32);
+    let (year, month, day) = date(narrowed(f.first_day));
     Ok(format!(
         "{year:04}-{month:02}-{day:02} {} {} {} {} {} {}",
         f.days, f.interval, f.actual, f.substituted, f.none, f.sum

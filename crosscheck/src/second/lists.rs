@@ -1,6 +1,7 @@
 //! The ten lists of a book, and the second build's calls over them.
 
 use crate::guard::Guarded;
+use crate::number::{low_half, narrowed};
 use crate::second::book::{self, Filed};
 use crate::second::head::{Head, Shape};
 use crate::second::rules::Cells;
@@ -119,10 +120,18 @@ impl List {
 impl Lists {
     /// Lists of `slots` and `days` with cells no opening has cleared yet.
     pub fn unopened(slots: usize, days: usize) -> Lists {
-        let word = |i: usize| (i as u32).wrapping_mul(0x9E37_79B9) | 1;
+        let word = |i: usize| narrowed::<u32>(i).wrapping_mul(0x9E37_79B9) | 1;
         let words = |len: usize| (0..len).map(word).collect::<Guarded<u32>>();
-        let bytes = |len: usize| (0..len).map(|i| word(i) as u8).collect::<Guarded<u8>>();
-        let halves = |len: usize| (0..len).map(|i| word(i) as u16).collect::<Guarded<u16>>();
+        let bytes = |len: usize| {
+            (0..len)
+                .map(|i| word(i).to_le_bytes()[0])
+                .collect::<Guarded<u8>>()
+        };
+        let halves = |len: usize| {
+            (0..len)
+                .map(|i| low_half(word(i)))
+                .collect::<Guarded<u16>>()
+        };
         Lists {
             values: words(slots),
             versions: words(slots),
@@ -169,7 +178,7 @@ impl Lists {
     pub fn recount(&mut self, slots_a_day: usize) {
         let days = self.versions.chunks(slots_a_day);
         for (count, day) in self.counts.iter_mut().zip(days) {
-            *count = day.iter().filter(|&&version| version != 0).count() as u16;
+            *count = narrowed(day.iter().filter(|&&version| version != 0).count());
         }
     }
 
@@ -217,14 +226,14 @@ impl Lists {
         match list {
             List::Values => self.values[index] = value,
             List::Versions => self.versions[index] = value,
-            List::Statuses => self.statuses[index] = value as u8,
-            List::Holidays => self.holidays[index] = value as u8,
+            List::Statuses => self.statuses[index] = narrowed(value),
+            List::Holidays => self.holidays[index] = narrowed(value),
             List::Readings => self.readings[index] = value,
             List::ReadVersions => self.read_versions[index] = value,
             List::Agreed => self.agreed[index] = value,
             List::AgreedVersions => self.agreed_versions[index] = value,
-            List::Counts => self.counts[index] = value as u16,
-            List::Widths => self.widths[index] = value as u16,
+            List::Counts => self.counts[index] = narrowed(value),
+            List::Widths => self.widths[index] = narrowed(value),
         }
     }
 

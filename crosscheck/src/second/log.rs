@@ -1,5 +1,6 @@
 //! A log: the calls of one book as lines of text, one call a line; what it is, and its playing.
 
+use crate::number::narrowed;
 use crate::second::book::Filed;
 use crate::second::head::Head;
 use crate::second::limits::{self, MOST_PLACES};
@@ -152,7 +153,7 @@ fn number(text: &[u8]) -> Option<(u32, &[u8])> {
         }
         digits += 1;
     }
-    (digits > 0).then(|| (number as u32, &text[digits..]))
+    (digits > 0).then(|| (narrowed(number), &text[digits..]))
 }
 
 /// Three numbers, and a width where there is one.

@@ -1,5 +1,6 @@
 //! 02, W8: an accepted file as the market's NEM12.
 
+use crate::number::narrowed;
 use crate::second::file::SLOT_BYTES;
 use crate::second::head;
 use crate::second::reader::{self, Figures};
@@ -113,8 +114,8 @@ impl<'a> Writer<'a> {
             interval.as_bytes(),
             t.next_read,
         ]);
-        let day_bytes = SLOT_BYTES * 1440 / figures.interval as usize;
-        for (day, number) in (0..figures.days as usize).zip(figures.first_day as u32..) {
+        let day_bytes = SLOT_BYTES * 1440 / narrowed::<usize>(figures.interval);
+        for (day, number) in (0..narrowed(figures.days)).zip(narrowed(figures.first_day)..) {
             self.day(number, &file[day * day_bytes..][..day_bytes]);
         }
         self.record(&[b"900"]);

@@ -1,6 +1,7 @@
 //! 01, The published file: the reader, which works from the end; W1's two layouts and
 //! W10's.
 
+use crate::number::narrowed;
 use crate::second::book::MOST_AGREED;
 use crate::second::file::{self, LAYOUT, LAYOUT_AGREED, LAYOUT_PLAIN, SLOT_BYTES, TRAILER_BYTES};
 use crate::second::head::{self, DIAL};
@@ -114,7 +115,7 @@ pub fn records(file: &[u8]) -> Result<(Figures, Vec<SlotRecord>, Vec<SpanRecord>
 
 fn checked(file: &[u8]) -> Result<(Figures, Vec<SlotRecord>, Vec<SpanRecord>), Fault> {
     let parts = Parts::of(file)?;
-    let layout = parts.figures.layout as u8;
+    let layout = narrowed(parts.figures.layout);
     let slots: Vec<SlotRecord> = parts
         .slot_table
         .chunks_exact(SLOT_BYTES)
@@ -158,11 +159,11 @@ impl Parts<'_> {
             sum: number(&trailer[20..28]),
             layout: number(&trailer[5..6]),
         };
-        let (first_day, days) = (figures.first_day as u32, figures.days as u32);
+        let (first_day, days) = (narrowed(figures.first_day), narrowed(figures.days));
         require(head::days_fit(first_day, 1), Fault::FirstDay)?;
         require(head::days_fit(first_day, days), Fault::Days)?;
         require(
-            head::interval_known(figures.interval as u32),
+            head::interval_known(narrowed(figures.interval)),
             Fault::Interval,
         )?;
         let layout = trailer[5];
@@ -175,7 +176,7 @@ impl Parts<'_> {
             tables.len() as u64 == slot_bytes + span_bytes,
             Fault::Length,
         )?;
-        let (slot_table, span_table) = tables.split_at(slot_bytes as usize);
+        let (slot_table, span_table) = tables.split_at(narrowed(slot_bytes));
         Ok(Parts {
             figures,
             slot_table,
@@ -266,7 +267,7 @@ impl SpanRecord {
 }
 
 fn check_spans(spans: &[SpanRecord], slots: &[SlotRecord], figures: &Figures) -> Result<(), Fault> {
-    let slots_a_day = 1440 / figures.interval as usize;
+    let slots_a_day = 1440 / narrowed::<usize>(figures.interval);
     // Spans follow on each other, so only slots before the first and after the last.
     let mut outside: Vec<&SlotRecord> = Vec::new();
     let mut end = 0;
@@ -276,9 +277,9 @@ fn check_spans(spans: &[SpanRecord], slots: &[SlotRecord], figures: &Figures) ->
             Fault::SpanBounds,
         )?;
         require(i == 0 || span.first == spans[i - 1].last, Fault::SpanChain)?;
-        let first = span.first as usize * slots_a_day;
+        let first = narrowed::<usize>(span.first) * slots_a_day;
         outside.extend(&slots[end..first]);
-        end = span.last as usize * slots_a_day;
+        end = narrowed::<usize>(span.last) * slots_a_day;
         check_span(span, &slots[first..end])?;
     }
     outside.extend(&slots[end..]);

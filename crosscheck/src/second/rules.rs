@@ -3,6 +3,7 @@
 
 use std::ops::Range;
 
+use crate::number::narrowed;
 use crate::second::head::{DIAL, Shape};
 
 pub const TIME_CHANGE: u8 = 1;
@@ -115,7 +116,7 @@ impl Advances {
 
     /// R: the least advance that is at least V; if there is none, the highest.
     pub fn fitted(&self, v: u64) -> u32 {
-        v.clamp(self.lowest.into(), self.highest.into()) as u32
+        narrowed(v.clamp(self.lowest.into(), self.highest.into()))
     }
 
     /// Whether some advance is within t of V.
@@ -298,7 +299,7 @@ pub fn good_ends(causes: &[Option<Cause>], run: &Range<usize>) -> Option<(usize,
 /// The j-th of g slots between l and r: l + (r − l) × j / (g + 1), rounded down.
 pub fn on_line(l: u32, r: u32, j: usize, g: usize) -> u32 {
     let rise = (i64::from(r) - i64::from(l)) * j as i64;
-    (i64::from(l) + rise.div_euclid(g as i64 + 1)) as u32
+    narrowed(i64::from(l) + rise.div_euclid(g as i64 + 1))
 }
 
 /// Rule 3: up to four values of the same position on earlier days, nearest day first.
@@ -350,9 +351,9 @@ pub fn mean(values: &[u32]) -> Option<Mean> {
     let sum: u64 = values.iter().map(|&value| u64::from(value)).sum();
     let number = values.len() as u64;
     (number > 0).then(|| Mean {
-        mean: (sum / number) as u32,
-        remainder: (sum % number) as u32,
-        number: number as u32,
+        mean: narrowed(sum / number),
+        remainder: narrowed(sum % number),
+        number: narrowed(number),
     })
 }
 
@@ -429,7 +430,7 @@ pub fn scale(slots: &mut [Slot], e: &[u64], advance: u32) {
     let mut before = 0;
     for (slot, e) in shares {
         let with = before + e;
-        slot.value = (t * with / total - t * before / total) as u32;
+        slot.value = narrowed(t * with / total - t * before / total);
         slot.method += SCALED;
         before = with;
     }

@@ -1,5 +1,6 @@
 //! 02, W12: a berth on paper.
 
+use crate::number::narrowed;
 use crate::second::contents::Contents;
 use crate::second::file;
 use crate::second::head::{DIAL, Head, Shape};
@@ -79,7 +80,7 @@ pub fn simulate(
 /// A step for each slot and the two register reads; the true total.
 fn fill(head: Head, shape: &Shape, seed: u32, loss: u32, lists: &mut Lists) -> u64 {
     let mut berth = Berth { x: seed, total: 0 };
-    for slot in 0..shape.slots as u32 {
+    for slot in 0..narrowed(shape.slots) {
         let (next, sent) = berth.step(shape, loss);
         berth = next;
         if let Some(value) = sent {
@@ -92,8 +93,8 @@ fn fill(head: Head, shape: &Shape, seed: u32, loss: u32, lists: &mut Lists) -> u
             lists.deliver(head, delivery).expect("a slot in bounds");
         }
     }
-    let last = (berth.total % u64::from(DIAL)) as u32;
-    for (boundary, reading) in [(0, 0), (shape.days as u32, last)] {
+    let last = narrowed(berth.total % u64::from(DIAL));
+    for (boundary, reading) in [(0, 0), (narrowed(shape.days), last)] {
         let read = RegisterRead {
             boundary,
             version: 1,

@@ -1,5 +1,6 @@
 //! 02, W11: up to 64 stays of a season totalled together.
 
+use crate::number::narrowed;
 use crate::second::file::SLOT_BYTES;
 use crate::second::reader::{self, Figures};
 use crate::second::refusal;
@@ -27,11 +28,11 @@ pub fn stays(file: &[u8], pairs: &[u32], totals: &mut [u64]) -> Result<(), u8> {
 
 /// The sum of all slots before each boundary, so that a stay is one subtraction.
 fn running_sums(file: &[u8], figures: &Figures) -> Vec<u64> {
-    let slots_a_day = 1440 / figures.interval as usize;
+    let slots_a_day = 1440 / narrowed::<usize>(figures.interval);
     let mut sums = vec![0];
     let mut sum = 0;
     let days = file.chunks_exact(SLOT_BYTES * slots_a_day);
-    for day in days.take(figures.days as usize) {
+    for day in days.take(narrowed(figures.days)) {
         sum += day.chunks_exact(SLOT_BYTES).map(value).sum::<u64>();
         sums.push(sum);
     }

@@ -5,6 +5,7 @@ use crate::compare::heads;
 use crate::compare::random;
 use crate::compare::rng::Rng;
 use crate::compare::side::{Answer, Second, Side, apply};
+use crate::number::narrowed;
 use crate::second::explain::{
     self, CAUSE, DAYS, FIELDS, FILLED, LINE, NUMBER, OUTCOME, RULE, SCALED, SPAN, VALUES,
 };
@@ -257,7 +258,7 @@ fn published(head: Head, lists: &Lists, side: Explains) -> Result<Published, Str
     let mut out = vec![0; room];
     match (side.publish)(head, lists, &mut out) {
         Answer::Length(length) => {
-            out.truncate(length as usize);
+            out.truncate(narrowed(length));
             Ok(Published::File(out))
         }
         Answer::Refused(number) => Ok(Published::Refused(number)),
@@ -310,14 +311,14 @@ impl Point {
             SLOTS
         });
         for _ in 0..many {
-            let question = self.question(records.slot(rng) as u32);
+            let question = self.question(narrowed(records.slot(rng)));
             let fields = question.answered(self.other)?.accepted()?;
             checked(&question, &fields, file)?;
             counted(&shape, &question, &fields, tally);
         }
         let spoilt = (most - many).min(SPOILT);
         for _ in 0..spoilt {
-            let mut question = self.question(rng.below(shape.slots) as u32);
+            let mut question = self.question(narrowed(rng.below(shape.slots)));
             let faults = question.spoilt(rng, &shape);
             let code = question.answered(self.other)?.code;
             refused(&question, &shape, &faults, code, tally);
@@ -334,7 +335,7 @@ impl Point {
         tally: &mut Tally,
     ) -> Result<u64, String> {
         let slots = self.head.shape().map_or(usize::MAX, |shape| shape.slots);
-        let question = self.question(rng.below(slots.min(1 << 32)) as u32);
+        let question = self.question(narrowed(rng.below(slots.min(1 << 32))));
         if most == 0 {
             return Ok(0);
         }
@@ -387,14 +388,14 @@ impl<'a> Records<'a> {
         let all: Vec<usize> = (0..slots)
             .filter(|slot| &self.table[SLOT_BYTES * slot + 4..][..2] == kind)
             .collect();
-        let all = narrowed(rng, all, |slot| day(slot) >= FARTHEST);
-        let all = narrowed(rng, all, |slot| self.holidays[day(slot)] == 1);
+        let all = often(rng, all, |slot| day(slot) >= FARTHEST);
+        let all = often(rng, all, |slot| self.holidays[day(slot)] == 1);
         rng.pick(&all)
     }
 }
 
 /// Half of the time, those that are kept, where there are any.
-fn narrowed(rng: &mut Rng, all: Vec<usize>, kept: impl Fn(&usize) -> bool) -> Vec<usize> {
+fn often(rng: &mut Rng, all: Vec<usize>, kept: impl Fn(&usize) -> bool) -> Vec<usize> {
     let few: Vec<usize> = all.iter().copied().filter(kept).collect();
     if few.is_empty() || rng.one_in(2) {
         return all;
@@ -567,7 +568,7 @@ impl Question {
             Fault::List => misfit(rng, &mut self.lists, shape),
             Fault::Fields => self.fields = rng.pick(&[0, FIELDS - 1, FIELDS + 1]),
             Fault::Slot => {
-                let slots = shape.slots as u32;
+                let slots = narrowed(shape.slots);
                 let any = rng.between(slots, u32::MAX);
                 self.slot = rng.pick(&[slots, u32::MAX, any]);
             }
@@ -668,7 +669,7 @@ fn counted(shape: &Shape, question: &Question, fields: &[u64], tally: &mut Tally
     });
     tally.add_if(slot == 0, "first slot");
     tally.add_if(slot + 1 == shape.slots, "last slot");
-    let letter = char::from(fields[OUTCOME + 1] as u8);
+    let letter = char::from(narrowed::<u8>(fields[OUTCOME + 1]));
     tally.add(&format!("{letter} {}", fields[OUTCOME + 2]));
     count_filling(question, fields, tally);
     match fields[RULE] {
@@ -697,8 +698,8 @@ fn count_filling(question: &Question, fields: &[u64], tally: &mut Tally) {
         "none",
         "agreed",
     ];
-    tally.add(causes[fields[CAUSE] as usize]);
-    tally.add(rules[fields[RULE] as usize]);
+    tally.add(causes[narrowed::<usize>(fields[CAUSE])]);
+    tally.add(rules[narrowed::<usize>(fields[RULE])]);
     let gap = fields[CAUSE] == 1;
     match fields[RULE] {
         0 => {
@@ -731,7 +732,7 @@ fn count_line(shape: &Shape, fields: &[u64], tally: &mut Tally) {
     });
     let rounded = l > r && !((l - r) * j).is_multiple_of(g + 1);
     tally.add_if(rounded, "line rounded down, falling");
-    let whole = g as usize * shape.interval as usize == LINE_MINUTES;
+    let whole = narrowed::<usize>(g) * shape.interval as usize == LINE_MINUTES;
     tally.add_if(whole, "line of two hours");
     tally.add(match j {
         1 if g == 1 => "line of one slot",
@@ -742,7 +743,7 @@ fn count_line(shape: &Shape, fields: &[u64], tally: &mut Tally) {
 }
 
 fn count_references(shape: &Shape, question: &Question, fields: &[u64], tally: &mut Tally) {
-    let number = fields[NUMBER] as usize;
+    let number = narrowed(fields[NUMBER]);
     let day = u64::from(question.slot) / shape.slots_a_day as u64;
     let days = &fields[DAYS..DAYS + number];
     let sum: u64 = fields[VALUES..SPAN].iter().sum();
@@ -754,7 +755,7 @@ fn count_references(shape: &Shape, question: &Question, fields: &[u64], tally: &
     });
     tally.add_if(!sum.is_multiple_of(number as u64), "mean rounded down");
     tally.add_if(days.contains(&0), "reference on day 0");
-    if question.lists.holidays[day as usize] == 1 {
+    if question.lists.holidays[narrowed::<usize>(day)] == 1 {
         tally.add("Sunday reference");
         let far = day - days[0] >= 7;
         tally.add_if(far, "Sunday reference, a week or more back");
@@ -772,7 +773,7 @@ fn count_references(shape: &Shape, question: &Question, fields: &[u64], tally: &
 }
 
 fn count_span(question: &Question, fields: &[u64], tally: &mut Tally) {
-    let (first, last) = (fields[SPAN + 1] as usize, fields[SPAN + 2] as usize);
+    let [first, last] = [SPAN + 1, SPAN + 2].map(|place| narrowed::<usize>(fields[place]));
     let (lowest, highest) = (fields[SPAN + 3], fields[SPAN + 4]);
     let (r, v, state) = (fields[SPAN + 5], fields[SPAN + 6], fields[SPAN + 7]);
     tally.add(&format!("state {state}"));
@@ -863,7 +864,7 @@ mod tests {
         meddled!(|fields| fields.swap(5, 6)),
         // Of two or more references the farthest first.
         meddled!(|fields| {
-            let number = fields[NUMBER] as usize;
+            let number: usize = narrowed(fields[NUMBER]);
             fields[DAYS..DAYS + number].reverse();
         }),
         // Sixteen more than the method before scaling, too.

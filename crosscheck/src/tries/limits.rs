@@ -1,6 +1,7 @@
 //! Compares the loading of a table of limits, W5, with a restatement and another build.
 
 use crate::compare::rng::Rng;
+use crate::number::narrowed;
 use crate::second::head::MOST_LIMIT;
 use crate::second::limits::{self, MOST_PLACES};
 use crate::tries::Tally;
@@ -58,7 +59,7 @@ pub fn one(
     if index % 16 == 3 {
         table = vec![40_000, 70_000];
     }
-    for kind in kinds(rng, table.len() as u32) {
+    for kind in kinds(rng, narrowed(table.len())) {
         answered(&table, kind, other)?;
         count(&table, kind, tally);
     }
@@ -192,7 +193,7 @@ fn faults(table: &[u32]) -> Vec<&'static str> {
 }
 
 fn count(table: &[u32], kind: u32, tally: &mut Tally) {
-    let places = table.len() as u32;
+    let places = narrowed(table.len());
     tally.add(match places {
         0 => "table of 0",
         1 => "table of 1",
@@ -230,7 +231,7 @@ fn count(table: &[u32], kind: u32, tally: &mut Tally) {
 }
 
 fn count_good(table: &[u32], kind: u32, tally: &mut Tally) {
-    let places = table.len() as u32;
+    let places = narrowed(table.len());
     tally.add_if(table[0] == 1, "first limit 1");
     tally.add_if(table[table.len() - 1] == MOST_LIMIT, "last limit 1,000,000");
     tally.add_if(table == [40_000, 70_000], "table 40,000, 70,000");
@@ -240,7 +241,7 @@ fn count_good(table: &[u32], kind: u32, tally: &mut Tally) {
     tally.add_if(1 < kind && kind < places, "kind between");
     let past = kind == places + 1;
     tally.add_if(past, "one past the last, refused 1");
-    let longer = kind > places && kind <= MOST_PLACES as u32;
+    let longer = kind > places && kind <= narrowed(MOST_PLACES);
     tally.add_if(longer, "kind of a longer table, refused 1");
     let most = kind == u32::MAX;
     tally.add_if(most, "kind 4,294,967,295, refused 1");

@@ -5,6 +5,7 @@ use std::ops::Range;
 use crate::compare::heads;
 use crate::compare::rng::Rng;
 use crate::compare::side::{Answer, Second, Side};
+use crate::number::narrowed;
 use crate::second::book::Filed;
 use crate::second::file;
 use crate::second::head::{DIAL, Head, Shape};
@@ -205,7 +206,7 @@ impl<'a> Maker<'a> {
             // Far holidays, for the Sundays of a year before.
             let far = self.long && day > 350 && self.rng.one_in(2);
             if far || self.rng.one_in(odds.holiday) {
-                self.side.holiday(self.head, &mut self.lists, day as u32);
+                self.side.holiday(self.head, &mut self.lists, narrowed(day));
             }
         }
         self.registers();
@@ -248,7 +249,7 @@ impl<'a> Maker<'a> {
 
     fn delivery(&mut self, slot: usize, odds: &Odds) {
         let delivery = Delivery {
-            slot: slot as u32,
+            slot: narrowed(slot),
             version: self.rng.between(1, 3),
             value: self.value(odds.most),
             status: self.status(odds),
@@ -258,7 +259,7 @@ impl<'a> Maker<'a> {
 
     fn agreement(&mut self, slot: usize, most: u32) {
         let agreement = Agreement {
-            slot: slot as u32,
+            slot: narrowed(slot),
             version: 1,
             value: self.value(most),
         };
@@ -290,7 +291,7 @@ impl<'a> Maker<'a> {
                 reading = (reading + self.advance(&filled[range])) % DIAL;
             }
             let read = RegisterRead {
-                boundary: boundary as u32,
+                boundary: narrowed(boundary),
                 version: 1,
                 reading,
                 width: self.rng.pick(&[0, 0, 0, 1, 30, 9_999]),
@@ -307,7 +308,7 @@ impl<'a> Maker<'a> {
         let advance = self
             .rng
             .pick(&[v, v + 1, v + t, v + more, v + much, v + much]);
-        (advance % u64::from(DIAL)) as u32
+        narrowed(advance % u64::from(DIAL))
     }
 
     /// Calls that are late, repeats or refused, and a few newer versions.
@@ -316,7 +317,7 @@ impl<'a> Maker<'a> {
             let slot = self.rng.below(self.shape.slots + 1);
             let limit = self.limit();
             let delivery = Delivery {
-                slot: slot as u32,
+                slot: narrowed(slot),
                 version: self.rng.between(0, 4),
                 value: self.value(limit),
                 status: self.rng.pick(&[0, 0, 1, 2, 4, 8]),
@@ -330,7 +331,7 @@ impl<'a> Maker<'a> {
         let mut out = vec![0; file::length(file::LAYOUT, self.shape.slots, spans)];
         match self.side.publish(self.head, &self.lists, &mut out) {
             Answer::Length(length) => {
-                out.truncate(length as usize);
+                out.truncate(narrowed(length));
                 Ok(out)
             }
             other => Err(format!("publishing: {other:?}; {:?}", self.head)),
@@ -344,7 +345,7 @@ impl<'a> Maker<'a> {
         let limit = self.limit();
         let any = self.value(limit);
         let delivery = Delivery {
-            slot: i as u32,
+            slot: narrowed(i),
             version: self.lists.versions[i] + self.rng.between(1, 2),
             value: self.rng.pick(&[value, any, any, any, 0, limit + 1]),
             status: u32::from(self.rng.pick(&[
@@ -655,7 +656,7 @@ mod tests {
 
         fn publish(&self, head: Head, lists: &Lists, out: &mut [u8]) -> Answer {
             let delivered = lists.versions.iter().filter(|&&version| version > 0);
-            let count = delivered.count() as u8;
+            let count = narrowed(delivered.count() % 256);
             let answer = Second.publish(head, lists, out);
             out[6 * (lists.values.len() - 1)] = count;
             answer

@@ -3,6 +3,7 @@
 use crate::compare::definition::Definition;
 use crate::compare::heads;
 use crate::compare::rng::Rng;
+use crate::number::narrowed;
 use crate::second::contents::Contents;
 use crate::second::file::{self, Frame};
 use crate::second::head::{Head, MOST_LIMIT, Shape};
@@ -491,7 +492,7 @@ fn cells(shape: &Shape, steps: &[(bool, u64)]) -> Lists {
     let mut lists = Lists::zeroed(shape.slots, shape.days);
     for (slot, &(sent, value)) in steps.iter().enumerate() {
         if sent {
-            lists.values[slot] = value as u32;
+            lists.values[slot] = narrowed(value);
             lists.versions[slot] = 1;
             lists.counts[slot / shape.slots_a_day] += 1;
         }

@@ -5,6 +5,7 @@ use crate::compare::damage::Bases;
 use crate::compare::random;
 use crate::compare::rng::Rng;
 use crate::compare::side::{Second, Side};
+use crate::number::narrowed;
 use crate::second::book::MOST_AGREED;
 use crate::second::contents;
 use crate::second::head::Head;
@@ -295,7 +296,7 @@ fn restated(file: &[u8], pairs: &[u32], totals: &mut [u64]) -> u32 {
     if pairs.len() > 128 || pairs.len() % 2 == 1 || totals.len() * 2 != pairs.len() {
         return 18;
     }
-    let days = figures.days as u32;
+    let days = narrowed(figures.days);
     let (pairs, _) = pairs.as_chunks::<2>();
     if pairs
         .iter()
@@ -303,7 +304,7 @@ fn restated(file: &[u8], pairs: &[u32], totals: &mut [u64]) -> u32 {
     {
         return 19;
     }
-    let slots_a_day = 1440 / figures.interval as usize;
+    let slots_a_day = 1440 / narrowed::<usize>(figures.interval);
     for (&[first, second], total) in pairs.iter().zip(totals) {
         *total = 0;
         for slot in first as usize * slots_a_day..second as usize * slots_a_day {

@@ -1,6 +1,7 @@
 //! Compares strips and their inverse, W13, with a restatement and another build.
 
 use crate::compare::rng::Rng;
+use crate::number::narrowed;
 use crate::second::strips;
 use crate::tries::{Tally, hex, noise};
 
@@ -82,7 +83,7 @@ pub fn one(
     tally: &mut Tally,
 ) -> Result<(), String> {
     let mut check = Check { other, tally };
-    let index = index as usize;
+    let index: usize = narrowed(index);
     match index % 24 {
         at @ 0..12 => {
             let (interval, days) = (INTERVALS[at / 4], DAYS[at % 4]);
@@ -322,7 +323,7 @@ fn restated_to(interval: u32, table: &[u8], out: &mut [u8]) -> u32 {
         .zip(earlier)
         .map(|(record, earlier)| {
             let difference = (WORDS + value(record) - value(earlier)) % WORDS;
-            let word = (difference as u32).to_le_bytes();
+            let word = narrowed::<u32>(difference).to_le_bytes();
             [word[0], word[1], word[2], word[3], record[4], record[5]]
         })
         .collect();
@@ -344,7 +345,7 @@ fn restated_from(interval: u32, strips: &[u8], out: &mut [u8]) -> u32 {
         for slot in (position..slots).step_by(slots_a_day) {
             let byte = |k: usize| strips[k * slots + slot];
             sum += u64::from(u32::from_le_bytes([byte(0), byte(1), byte(2), byte(3)]));
-            let word = ((sum % WORDS) as u32).to_le_bytes();
+            let word = narrowed::<u32>(sum % WORDS).to_le_bytes();
             out[6 * slot..6 * slot + 4].copy_from_slice(&word);
             out[6 * slot + 4] = byte(4);
             out[6 * slot + 5] = byte(5);

@@ -1,6 +1,7 @@
 //! A book for tests: lists, short calls, and the published file taken apart.
 #![allow(dead_code)] // each test file uses its part
 
+use crosscheck::number::narrowed;
 use crosscheck::second::book::Filed;
 use crosscheck::second::head::Head;
 use crosscheck::second::lists::{Agreement, Delivery, Lists, RegisterRead};
@@ -87,7 +88,7 @@ impl Test {
     }
 
     pub fn deliver(&mut self, slot: usize, value: u32, status: u8) {
-        let delivery = (slot as u32, 1, value, status);
+        let delivery = (narrowed(slot), 1, value, status);
         assert_eq!(
             deliver(self.head, &mut self.lists, delivery),
             Ok(Filed::Stored)
@@ -95,7 +96,7 @@ impl Test {
     }
 
     pub fn redeliver(&mut self, slot: usize, value: u32, status: u8) {
-        let delivery = (slot as u32, 2, value, status);
+        let delivery = (narrowed(slot), 2, value, status);
         assert_eq!(
             deliver(self.head, &mut self.lists, delivery),
             Ok(Filed::Stored)
@@ -112,7 +113,7 @@ impl Test {
     }
 
     pub fn agree(&mut self, slot: usize, value: u32) {
-        let agreement = (slot as u32, 1, value);
+        let agreement = (narrowed(slot), 1, value);
         assert_eq!(
             agree(self.head, &mut self.lists, agreement),
             Ok(Filed::Stored)

@@ -2,6 +2,7 @@
 
 use super::{MOST_DELIVERIES, Maker};
 use crate::compare::calls::{Act, Call};
+use crate::number::narrowed;
 use crate::second::head::DIAL;
 use crate::second::lists::Agreement;
 use crate::second::rules::{self, Cause};
@@ -32,7 +33,7 @@ impl Maker {
                 continue;
             }
             let act = Act::Agree(Agreement {
-                slot: slot as u32,
+                slot: narrowed(slot),
                 version: self.rng.pick(&[1, 1, 1, 2, 9, u32::MAX]),
                 value: self.agreed_value(way),
             });

@@ -2,6 +2,7 @@
 
 use super::{MOST_DELIVERIES, Maker};
 use crate::compare::calls::Act;
+use crate::number::narrowed;
 use crate::second::lists::Delivery;
 use crate::second::rules::{Cause, FARTHEST, LINE_MINUTES, OUTAGE, PARTIAL, TIME_CHANGE};
 
@@ -86,7 +87,7 @@ impl Maker {
             status |= u32::from(OUTAGE);
         }
         if self.rng.one_in(manner.failing) {
-            status |= self.rng.below(8) as u32;
+            status |= narrowed::<u32>(self.rng.below(8));
         }
         match wanted {
             Wanted::Any => {}
@@ -94,7 +95,7 @@ impl Maker {
             Wanted::Failed(cause) => (value, status) = self.failed(cause, value),
         }
         Act::Deliver(Delivery {
-            slot: slot as u32,
+            slot: narrowed(slot),
             version: self.rng.pick(&[1, 1, 1, 2, 3, 7, u32::MAX]),
             value,
             status,
@@ -326,7 +327,7 @@ impl Maker {
             Profile::Tiny => self.rng.between(0, 3),
             Profile::Flat(value) => value,
             Profile::Daily => {
-                let position = (slot % self.shape.slots_a_day) as u32;
+                let position: u32 = narrowed(slot % self.shape.slots_a_day);
                 most.min(position * 3 + self.rng.between(0, most / 4))
             }
             Profile::Edge => {

@@ -13,6 +13,7 @@ use crate::compare::calls::{Act, Book, Call, Room};
 use crate::compare::heads;
 use crate::compare::rng::Rng;
 use crate::compare::side::{Answer, Second, apply};
+use crate::number::narrowed;
 use crate::second::head::{DIAL, Head, MOST_LIMIT, Shape};
 use crate::second::lists::{Delivery, Lists, RegisterRead};
 use crate::second::rules::FARTHEST;
@@ -61,7 +62,7 @@ pub fn file_of(mut rng: Rng, days: u32, interval: u32) -> Vec<u8> {
     for call in book.calls.iter().filter(|call| call.resized.is_none()) {
         let answer = apply(&Second, call, &mut lists, &mut out);
         if let (Some(Answer::Length(length)), true) = (answer, file.is_empty()) {
-            file = out[..length as usize].to_vec();
+            file = out[..narrowed(length)].to_vec();
         }
     }
     file
@@ -153,7 +154,7 @@ impl Maker {
         for slot in 0..early * n {
             let less = u32::from(self.rng.one_in(lower));
             let act = Act::Deliver(Delivery {
-                slot: slot as u32,
+                slot: narrowed(slot),
                 version: 1,
                 value: self.most() - less,
                 status: 0,
@@ -164,7 +165,7 @@ impl Maker {
         let advance = DIAL - 1 - self.rng.between(0, 9);
         for (boundary, reading) in [(early, reading), (days, (reading + advance) % DIAL)] {
             let act = Act::Register(RegisterRead {
-                boundary: boundary as u32,
+                boundary: narrowed(boundary),
                 version: 1,
                 reading,
                 width: 0,

@@ -2,6 +2,7 @@
 
 use super::{MOST_WIDTH, Maker};
 use crate::compare::calls::Act;
+use crate::number::narrowed;
 use crate::second::head::DIAL;
 use crate::second::lists::RegisterRead;
 use crate::second::rules::{self, FARTHEST_SUNDAY, Quality, Slot};
@@ -31,7 +32,7 @@ impl Maker {
             }
         }
         for day in feasts {
-            let call = self.call(Act::Holiday { day: day as u32 });
+            let call = self.call(Act::Holiday { day: narrowed(day) });
             self.insert_anywhere(opened, call);
         }
     }
@@ -54,7 +55,7 @@ impl Maker {
                 reading = (reading + g) % DIAL;
             }
             let act = Act::Register(RegisterRead {
-                boundary: boundary as u32,
+                boundary: narrowed(boundary),
                 version: self.rng.pick(&[1, 1, 2, 5, u32::MAX]),
                 reading,
                 width,
@@ -134,7 +135,7 @@ impl Maker {
             self.rng.below(14)
         };
         let share = u64::from(self.rng.between(0, 200));
-        let above = u64::from(DIAL).saturating_sub(v).max(1) as usize;
+        let above = narrowed(u64::from(DIAL).saturating_sub(v).max(1));
         let r = match way {
             // Much to share out, so that a small part of a shape tells.
             0..9 if self.fitting => v + self.rng.below(above) as u64,
@@ -150,6 +151,6 @@ impl Maker {
             9 => v + e,
             _ => v + e * share / 100 + self.rng.below(10) as u64,
         };
-        (r % u64::from(DIAL)) as u32
+        narrowed(r % u64::from(DIAL))
     }
 }

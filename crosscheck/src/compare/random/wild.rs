@@ -4,6 +4,7 @@ use super::{MOST_WIDTH, Maker};
 use crate::compare::calls::{Act, Call, Room};
 use crate::compare::heads;
 use crate::compare::rng::Rng;
+use crate::number::narrowed;
 use crate::second::head::DIAL;
 use crate::second::lists::{Agreement, Delivery, List, RegisterRead};
 
@@ -94,8 +95,8 @@ impl Maker {
 
     /// A slot of the book, or one outside it.
     fn wild_slot(&mut self) -> u32 {
-        let slots = self.shape.slots as u32;
-        let slot = self.rng.below(self.shape.slots) as u32;
+        let slots = narrowed(self.shape.slots);
+        let slot = narrowed(self.rng.below(self.shape.slots));
         self.rng
             .pick(&[slot, slot, 0, slots - 1, slots, slots + 1, u32::MAX])
     }
@@ -111,8 +112,8 @@ impl Maker {
     }
 
     fn wild_holiday(&mut self) -> Act {
-        let days = self.shape.days as u32;
-        let day = self.rng.below(self.shape.days) as u32;
+        let days = narrowed(self.shape.days);
+        let day = narrowed(self.rng.below(self.shape.days));
         Act::Holiday {
             day: self
                 .rng
@@ -121,8 +122,8 @@ impl Maker {
     }
 
     fn wild_register(&mut self, version: u32) -> Act {
-        let days = self.shape.days as u32;
-        let boundary = self.rng.below(self.shape.days + 1) as u32;
+        let days = narrowed(self.shape.days);
+        let boundary = narrowed(self.rng.below(self.shape.days + 1));
         let boundaries = [boundary, boundary, days, days + 1, u32::MAX];
         Act::Register(RegisterRead {
             boundary: self.rng.pick(&boundaries),

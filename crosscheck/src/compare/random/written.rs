@@ -2,6 +2,7 @@
 
 use super::{MOST_WIDTH, Maker};
 use crate::compare::calls::{Act, Room};
+use crate::number::narrowed;
 use crate::second::head::DIAL;
 use crate::second::lists::{Agreement, Delivery, List, Lists, RegisterRead};
 
@@ -11,7 +12,7 @@ impl Maker {
         let (list, index, value) = self.written_cell();
         self.push(Act::Write { list, index, value });
         for version in [1, 2, 0, u32::MAX] {
-            let act = self.meeting(list, index as u32, version);
+            let act = self.meeting(list, narrowed(index), version);
             self.push(act);
         }
         self.publish_and_reopen();
@@ -125,7 +126,7 @@ impl Maker {
     /// No room in the day of a slot that waits for its first delivery, or for one only.
     fn full_too_early(&mut self, lists: &Lists, slot: usize) {
         let n = self.shape.slots_a_day;
-        let (full, day) = (n as u32, slot / n);
+        let (full, day) = (narrowed(n), slot / n);
         let any = self.rng.between(full, 65_535);
         let count = [
             full,
@@ -150,7 +151,7 @@ impl Maker {
             let version = lists.versions[slot];
             let any = self.rng.word();
             let act = Act::Deliver(Delivery {
-                slot: slot as u32,
+                slot: narrowed(slot),
                 version: self.rng.pick(&[version.saturating_add(1), 1, any]),
                 value: self.rng.pick(&[0, 5, lists.values[slot]]),
                 status: self.rng.pick(&[0, 0, 0, lists.statuses[slot].into(), 8]),

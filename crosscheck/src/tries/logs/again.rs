@@ -5,6 +5,7 @@ use std::sync::LazyLock;
 
 use crate::compare::acceptance;
 use crate::compare::plain::Plain;
+use crate::number::narrowed;
 use crate::second::book::Filed;
 use crate::second::head::{Head, Shape};
 use crate::second::lists::Lists;
@@ -208,21 +209,21 @@ fn filed(made: Result<Filed, u8>) -> u8 {
 fn cells(plain: &Plain, shape: &Shape) -> Lists {
     let mut lists = Lists::zeroed(shape.slots, shape.days);
     for slot in 0..shape.slots {
-        let (value, version, status) = plain.slot(slot as u32);
+        let (value, version, status) = plain.slot(narrowed(slot));
         lists.values[slot] = value;
         lists.versions[slot] = version;
         lists.statuses[slot] = status;
-        (lists.agreed[slot], lists.agreed_versions[slot]) = plain.agreed(slot as u32);
+        (lists.agreed[slot], lists.agreed_versions[slot]) = plain.agreed(narrowed(slot));
     }
     for day in 0..shape.days {
-        lists.holidays[day] = plain.day(day as u32);
-        lists.counts[day] = plain.count(day as u32, shape.slots_a_day as u32);
+        lists.holidays[day] = plain.day(narrowed(day));
+        lists.counts[day] = plain.count(narrowed(day), narrowed(shape.slots_a_day));
     }
     for boundary in 0..=shape.days {
-        let (reading, version, width) = plain.boundary(boundary as u32);
+        let (reading, version, width) = plain.boundary(narrowed(boundary));
         lists.readings[boundary] = reading;
         lists.read_versions[boundary] = version;
-        lists.widths[boundary] = width as u16;
+        lists.widths[boundary] = narrowed(width);
     }
     lists
 }
@@ -260,7 +261,7 @@ pub fn slot(head: Head, [year, month, day]: [u32; 3], minute: u32) -> u32 {
         .skip_while(|&&date| date != (head.year, head.month, head.day));
     let mut days = book.take(head.days as usize);
     match days.position(|&date| date == (year, month, day)) {
-        Some(before) if minute < 1440 => (before as u32 * 1440 + minute) / head.interval,
+        Some(before) if minute < 1440 => (narrowed::<u32>(before) * 1440 + minute) / head.interval,
         _ => 100_000_003,
     }
 }
@@ -279,7 +280,7 @@ pub fn line(file: &[u8], out: &mut [u8]) -> u64 {
         Ok(figures) => figures,
         Err(number) => return number.into(),
     };
-    let (year, month, day) = CALENDAR[figures.first_day as usize];
+    let (year, month, day) = CALENDAR[narrowed::<usize>(figures.first_day)];
     let mut line = format!("{year}-{month:02}-{day:02}");
     let counts = [figures.actual, figures.substituted, figures.none];
     for number in [figures.days, figures.interval]

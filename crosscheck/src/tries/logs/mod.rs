@@ -12,6 +12,7 @@ use crate::compare::random;
 use crate::compare::rng::Rng;
 use crate::compare::shrink::shrink;
 use crate::guard::Guarded;
+use crate::number::{low_half, narrowed};
 use crate::second::contents;
 use crate::second::file;
 use crate::second::head::{self, Head, LAST_DAY};
@@ -415,7 +416,7 @@ fn noisy_lists(rng: &mut Rng, slots: usize, days: usize) -> Lists {
         (0..len).map(|_| rng.word()).collect()
     }
     fn halves(rng: &mut Rng, len: usize) -> Guarded<u16> {
-        (0..len).map(|_| rng.word() as u16).collect()
+        (0..len).map(|_| low_half(rng.word())).collect()
     }
     Lists {
         values: words(rng, slots),
@@ -631,7 +632,7 @@ fn ends(log: &[u8], tally: &mut Tally) {
 
 /// Where the line that decides stands, and why it is none where it would be one elsewhere.
 fn wrong_line(lines: usize, answer: &Answer, tally: &mut Tally) {
-    let n = answer.line as usize;
+    let n: usize = narrowed(answer.line);
     if n == 0 {
         return;
     }
@@ -970,7 +971,7 @@ impl Check<'_> {
                 return Err(format!("line: {one:?}, {name} {two:?}; file {file}"));
             }
         }
-        let written = if one.0 < 10 { 0 } else { one.0 as usize };
+        let written = if one.0 < 10 { 0 } else { narrowed(one.0) };
         if one.1[written..] != before[written..] {
             return Err(format!("line: {}, but bytes changed", one.0));
         }

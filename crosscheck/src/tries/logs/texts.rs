@@ -4,6 +4,7 @@ use crate::compare::calls::{Act, Book};
 use crate::compare::heads;
 use crate::compare::random;
 use crate::compare::rng::Rng;
+use crate::number::narrowed;
 use crate::second::head::{DIAL, Head, MOST_LIMIT};
 use crate::second::limits::MOST_PLACES;
 use crate::second::lists::{Agreement, Delivery, RegisterRead};
@@ -198,11 +199,11 @@ fn opening(rng: &mut Rng, head: Head) -> Vec<String> {
         .iter()
         .position(|&limit| limit == head.limit);
     if let (Some(place), true) = (built_in, rng.one_in(2)) {
-        return vec![opened(rng, head, place as u32 + 1)];
+        return vec![opened(rng, head, narrowed::<u32>(place) + 1)];
     }
     let table = table(rng, head.limit);
     let place = table.iter().position(|&limit| limit == head.limit);
-    let kind = place.expect("made with it") as u32 + 1;
+    let kind = narrowed::<u32>(place.expect("made with it")) + 1;
     vec![joined(rng, "limits", &table), opened(rng, head, kind)]
 }
 

@@ -1,6 +1,7 @@
 //! Accepted files made slot by slot, for W8: what publishing seldom or never gives.
 
 use crate::compare::rng::Rng;
+use crate::number::narrowed;
 use crate::second::head::LAST_DAY;
 use crate::second::market::{Codes, METHODS};
 
@@ -50,7 +51,7 @@ impl Made {
     }
 
     pub fn of_size(rng: &mut Rng, days: usize, interval: u32) -> Made {
-        let latest = LAST_DAY + 1 - days as u32;
+        let latest = LAST_DAY + 1 - narrowed::<u32>(days);
         let first_day = match rng.below(5) {
             0 => latest,
             // Around 2000-02-29, 2001-01-01 and 2024-02-29.
@@ -126,11 +127,11 @@ impl Made {
         }
         let spans = self.spans();
         for &(first, last, advance, state) in &spans {
-            file.extend((first as u16).to_le_bytes());
-            file.extend((last as u16).to_le_bytes());
+            file.extend(narrowed::<u16>(first).to_le_bytes());
+            file.extend(narrowed::<u16>(last).to_le_bytes());
             if self.wide {
-                file.extend(advance.saturating_sub(first as u32).to_le_bytes());
-                file.extend((advance + last as u32).to_le_bytes());
+                file.extend(advance.saturating_sub(narrowed(first)).to_le_bytes());
+                file.extend((advance + narrowed::<u32>(last)).to_le_bytes());
             } else {
                 file.extend(advance.to_le_bytes());
             }
@@ -138,23 +139,23 @@ impl Made {
         }
         let count = |letters: &[u8]| {
             let counted = self.slots.iter().filter(|slot| letters.contains(&slot.1));
-            counted.count() as u32
+            narrowed::<u32>(counted.count())
         };
-        file.extend((self.first_day as u16).to_le_bytes());
-        file.extend((self.days as u16).to_le_bytes());
-        file.push(self.interval as u8);
+        file.extend(narrowed::<u16>(self.first_day).to_le_bytes());
+        file.extend(narrowed::<u16>(self.days).to_le_bytes());
+        file.push(narrowed::<u8>(self.interval));
         let (layout, record) = match (self.wide, count(b"F")) {
             (true, _) => (3, 14),
             (false, 0) => (1, 10),
             (false, _) => (2, 10),
         };
         file.push(layout);
-        file.extend((spans.len() as u16).to_le_bytes());
+        file.extend(narrowed::<u16>(spans.len()).to_le_bytes());
         for letters in [&b"A"[..], b"SF", b"N"] {
             file.extend(count(letters).to_le_bytes());
         }
         file.extend(sum(&self.slots).to_le_bytes());
-        file.extend((record * spans.len() as u32).to_le_bytes());
+        file.extend((record * narrowed::<u32>(spans.len())).to_le_bytes());
         file
     }
 
@@ -164,7 +165,7 @@ impl Made {
         let (first, rest) = self.slots.split_at(n * self.scaled);
         let mut spans = Vec::new();
         if first.iter().any(|slot| slot.2 > 5) {
-            spans.push((0, self.scaled, sum(first) as u32, 1));
+            spans.push((0, self.scaled, narrowed(sum(first)), 1));
         }
         if self.second_span && !rest.is_empty() {
             let none = rest.iter().any(|slot| slot.1 == b'N');

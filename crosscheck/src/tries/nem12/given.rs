@@ -2,6 +2,7 @@
 
 use super::Question;
 use crate::compare::rng::Rng;
+use crate::number::narrowed;
 use crate::second::market::{Codes, METHODS, Texts};
 
 /// The texts of a call, in its order.
@@ -83,7 +84,9 @@ fn created(rng: &mut Rng) -> Vec<u8> {
         0 => rng
             .pick(&["00000000000000", "99999999999999", "20240631256199"])
             .into(),
-        1 => (0..14).map(|_| b'0' + rng.below(10) as u8).collect(),
+        1 => (0..14)
+            .map(|_| b'0' + narrowed::<u8>(rng.below(10)))
+            .collect(),
         _ => "20240601000000".into(),
     }
 }
@@ -95,7 +98,7 @@ fn field(rng: &mut Rng) -> Vec<u8> {
         0 => vec![rng.pick(b" ~+-!\"'0A"); length],
         1 => (0..length).map(|_| rng.pick(LETTERS)).collect(),
         _ => {
-            let byte = |rng: &mut Rng| match rng.between(0x20, 0x7E) as u8 {
+            let byte = |rng: &mut Rng| match narrowed(rng.between(0x20, 0x7E)) {
                 b',' => b'+',
                 byte => byte,
             };

@@ -4,6 +4,8 @@
 //! kWh, and is strict: CR LF, field counts, three decimals, no leading zeros, and behind
 //! a day that varies 400s that cover it in order.
 
+use crate::number::narrowed;
+
 #[derive(Clone, Debug, PartialEq, Eq)]
 pub struct Export {
     /// DateTime, 12 digits.
@@ -238,8 +240,8 @@ fn run(fields: &[&str]) -> Result<Run, String> {
     let mark = mark(&fields[3..])?;
     require(mark.letter != 'V', "a V in a 400")?;
     Ok(Run {
-        first: whole(fields[1])? as usize,
-        last: whole(fields[2])? as usize,
+        first: narrowed(whole(fields[1])?),
+        last: narrowed(whole(fields[2])?),
         mark,
     })
 }

@@ -3,6 +3,7 @@
 use super::files::code_text;
 use super::given::LETTERS;
 use crate::compare::acceptance;
+use crate::number::narrowed;
 use crate::second::market::{Codes, Texts};
 
 pub fn restated(file: &[u8], texts: &Texts, codes: Codes, out: &mut [u8]) -> u64 {
@@ -32,9 +33,9 @@ pub fn restated_export(file: &[u8], texts: &Texts, codes: Codes) -> Result<Strin
         return Err(15);
     }
     let mut lines = front(texts, &created, figures.interval)?;
-    let slots_a_day = 1440 / figures.interval as usize;
+    let slots_a_day = 1440 / narrowed::<usize>(figures.interval);
     let mut date = Date::of(figures.first_day);
-    for day in file.chunks(6 * slots_a_day).take(figures.days as usize) {
+    for day in file.chunks(6 * slots_a_day).take(narrowed(figures.days)) {
         let day = Day {
             records: day,
             codes,

@@ -5,6 +5,7 @@ use crate::compare::acceptance;
 use crate::compare::damage::Bases;
 use crate::compare::random;
 use crate::compare::rng::Rng;
+use crate::number::narrowed;
 use crate::second::contents;
 
 /// Small files, whole and damaged, and a few large ones.
@@ -34,7 +35,7 @@ impl Files {
     /// A published file; one in fifty is large.
     fn published(&self, rng: &mut Rng, index: u64) -> Vec<u8> {
         if index % 160 == 3 {
-            return self.large[index as usize / 160 % self.large.len()].clone();
+            return self.large[narrowed::<usize>(index) / 160 % self.large.len()].clone();
         }
         let most = rng.pick(&[3, 10, 45]);
         let (days, interval) = (rng.between(1, most), rng.pick(&[5, 15, 30, 30]));

@@ -4,6 +4,7 @@ use super::back::as_in_file;
 use super::files::Made;
 use super::restated::restated_export;
 use super::*;
+use crate::number::narrowed;
 use std::ops::Range;
 
 fn run(files: &Files, other: Nem12, kinds: Range<u64>) -> Result<Tally, String> {
@@ -246,7 +247,7 @@ const MEDDLED: &[(&str, Nem12)] = &[
     }),
     ("writes after it", |file, texts, codes, out| {
         let code = SECOND(file, texts, codes, out);
-        if let (32.., Some(byte)) = (code, out.get_mut(code as usize)) {
+        if let (32.., Some(byte)) = (code, out.get_mut(narrowed::<usize>(code))) {
             *byte ^= 1;
         }
         code
@@ -276,7 +277,7 @@ fn meddled_exports_are_not_read_back() {
         for (found, (_, meddled)) in found.iter_mut().zip(MEDDLED) {
             let mut out = vec![0; 2_000_000];
             let length = meddled(&file, &given.lent(), codes, &mut out);
-            let back = as_in_file(&out[..length as usize], &file, codes);
+            let back = as_in_file(&out[..narrowed(length)], &file, codes);
             *found |= back.is_err();
         }
     }

@@ -5,6 +5,7 @@ use std::collections::BTreeSet;
 use sawmauve::{Comparison, Error, File, Method, Pair, Quality, Slot, Span, State};
 
 use crate::compare::rng::Rng;
+use crate::number::narrowed;
 use crate::second::contents::Contents;
 use crate::second::file::{letter, state_number};
 use crate::second::rules;
@@ -59,8 +60,8 @@ fn slot(slot: &rules::Slot) -> Result<Slot, Error> {
 
 fn span(span: &rules::Span) -> Result<Span, Error> {
     Ok(Span {
-        first: span.first as u32,
-        last: span.last as u32,
+        first: narrowed(span.first),
+        last: narrowed(span.last),
         lowest: span.advances.lowest,
         highest: span.advances.highest,
         state: State::try_from(state_number(span.state))?,
@@ -139,7 +140,7 @@ fn days(found: &Comparison, ours: &Contents, theirs: &Contents) -> Result<(), St
         let (a, b) = (&ours.slots[slots.clone()], &theirs.slots[slots]);
         let sum = |slots: &[rules::Slot]| slots.iter().map(|slot| u64::from(slot.value)).sum();
         if a != b {
-            wanted.push((day as u32, (sum(a), sum(b))));
+            wanted.push((narrowed(day), (sum(a), sum(b))));
         }
     }
     let days = found.days.iter();

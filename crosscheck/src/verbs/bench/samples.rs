@@ -1,6 +1,7 @@
 //! The books that are timed, and the log.
 
 use crosscheck::compare::side::{Answer, Second, Side};
+use crosscheck::number::narrowed;
 use crosscheck::second::head::{DIAL, Head};
 use crosscheck::second::lists::{Agreement, Delivery, Lists, RegisterRead};
 
@@ -64,7 +65,7 @@ impl Kind {
 fn value(slot: usize, slots_a_day: usize) -> u32 {
     let position = slot % slots_a_day;
     let daytime = position.min(slots_a_day - position);
-    (20 + 3 * daytime + slot * 7 % 11) as u32
+    narrowed(20 + 3 * daytime + slot * 7 % 11)
 }
 
 impl Sample {
@@ -100,7 +101,7 @@ impl Sample {
         let day = self.slots / self.days;
         let slots = (0..self.slots).filter(|&slot| kind.delivered(slot, self.head.interval));
         let delivery = |slot: usize| Delivery {
-            slot: slot as u32,
+            slot: narrowed(slot),
             version: 1,
             value: value(slot, day),
             status: 0,
@@ -115,7 +116,7 @@ impl Sample {
         let (day, interval) = (self.slots / self.days, self.head.interval);
         for slot in (0..self.slots).filter(|&slot| kind.agreed(slot, interval)) {
             let agreement = Agreement {
-                slot: slot as u32,
+                slot: narrowed(slot),
                 version: 1,
                 value: value(slot, day),
             };
@@ -126,7 +127,7 @@ impl Sample {
     fn publish(&mut self) {
         self.file = vec![0; 6 * self.slots + 14 * self.days + 32];
         match Second.publish(self.head, &self.lists, &mut self.file) {
-            Answer::Length(length) => self.file.truncate(length as usize),
+            Answer::Length(length) => self.file.truncate(narrowed(length)),
             other => panic!("a sample is not published: {other:?}"),
         }
     }
@@ -138,7 +139,7 @@ fn read_weekly(head: Head, lists: &mut Lists, slots_a_day: usize) {
     for boundary in 0..=days {
         if boundary % 7 == 0 || boundary == days {
             let read = RegisterRead {
-                boundary: boundary as u32,
+                boundary: narrowed(boundary),
                 version: 1,
                 reading: total % DIAL,
                 width: 0,

@@ -3,6 +3,7 @@
 use std::hint::black_box;
 use std::time::{Duration, Instant};
 
+use crosscheck::number::narrowed;
 use crosscheck::second::head::Head;
 
 /// Runs of each measurement; the median counts.
@@ -31,7 +32,7 @@ pub fn medians<S: Copy, const N: usize>(
     repeats: usize,
     mut measure: impl FnMut(S) -> Duration,
 ) -> [Option<f64>; N] {
-    let clock = clock() * repeats as u32;
+    let clock = clock() * narrowed(repeats);
     let mut runs = [const { Vec::new() }; N];
     for _ in 0..RUNS {
         for (&(_, side), runs) in sides.iter().zip(&mut runs) {
