@@ -1,6 +1,6 @@
 //! 02, W1: values agreed with the skipper.
 
-use crosscheck::compare::damage::{Edit, edited};
+use crosscheck::compare::damage::{Edit, edited, layout};
 use crosscheck::compare::plain::Plain;
 use crosscheck::second::book::Filed;
 use crosscheck::second::contents;
@@ -8,6 +8,7 @@ use crosscheck::second::head::Head;
 use crosscheck::second::line::line;
 use crosscheck::second::lists::{List, Lists};
 use crosscheck::second::reader::{Fault, check, read, tables};
+use crosscheck::second::trailer;
 
 mod common;
 use common::*;
@@ -18,10 +19,6 @@ const MAX: u32 = u32::MAX;
 /// The file as W1 had it, in layout 1 or 2.
 fn before(test: &Test) -> Vec<u8> {
     contents::before(&test.file()).unwrap()
-}
-
-fn layout(file: &[u8]) -> u8 {
-    file[file.len() - 32 + 5]
 }
 
 /// The trailer's counts of A, of S and F, and of N slots.
@@ -272,7 +269,7 @@ fn slot(at: usize, value: u32, letter: u8, method: u8) -> Edit {
 
 fn layout_byte(value: u64) -> Edit {
     Edit::TrailerField {
-        field: (5, 1),
+        field: trailer::LAYOUT,
         value,
     }
 }

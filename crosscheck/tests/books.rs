@@ -11,6 +11,7 @@ use crosscheck::second::lists::Lists;
 use crosscheck::second::lists::{Agreement, Delivery, RegisterRead};
 use crosscheck::second::reader::Figures;
 use crosscheck::second::rules;
+use crosscheck::second::trailer;
 
 #[test]
 fn random_books_agree_with_the_plain_book() {
@@ -183,10 +184,13 @@ impl Side for Meddled {
                 let agreed = file[..6 * lists.values.len()]
                     .chunks(6)
                     .any(|r| r[4] == b'F');
-                file[narrowed::<usize>(length) - 27] = 1 + u8::from(agreed);
+                trailer::set(file, trailer::LAYOUT, 1 + u64::from(agreed));
             }
             Meddling::AgreedIsNeighbourAndReference => name_agreed(head, lists, file),
-            Meddling::MadeUpCounts => file[narrowed::<usize>(length) - 24] ^= 1,
+            Meddling::MadeUpCounts => {
+                let actual = trailer::get(file, trailer::ACTUAL).unwrap_or(0);
+                trailer::set(file, trailer::ACTUAL, actual ^ 1);
+            }
             Meddling::WritesBehindTheFile => behind.fill(0),
             _ => {
                 let table = &mut file[..6 * lists.values.len()];
@@ -282,17 +286,19 @@ fn agreed_slots(head: Head, lists: &Lists, good: bool) -> Vec<usize> {
 
 /// Gives agreed slots that were published as A their letter, method and count.
 fn name_agreed(head: Head, lists: &Lists, file: &mut [u8]) {
-    let trailer = file.len() - 32;
     let slots = agreed_slots(head, lists, false);
     for &slot in &slots {
         file[6 * slot + 4..6 * slot + 6].copy_from_slice(&[b'F', 5]);
     }
-    for (at, letters) in [(8, &b"A"[..]), (12, &b"SF"[..])] {
+    for (field, letters) in [
+        (trailer::ACTUAL, &b"A"[..]),
+        (trailer::SUBSTITUTED, &b"SF"[..]),
+    ] {
         let records = file[..6 * lists.values.len()].chunks(6);
         let count = records
             .filter(|record| letters.contains(&record[4]))
             .count();
-        file[trailer + at..trailer + at + 4].copy_from_slice(&narrowed::<u32>(count).to_le_bytes());
+        trailer::set(file, field, count as u64);
     }
 }
 

@@ -27,6 +27,9 @@ fn what(log: impl AsRef<[u8]>) -> (u32, u64) {
     (code, log_line_code(log))
 }
 
+/// The place of a register read's width in the fields of its line.
+const WIDTH: usize = 3;
+
 /// The figures of a log.
 fn figures(log: impl AsRef<[u8]>) -> [u64; 9] {
     let mut figures = [77; 9];
@@ -43,7 +46,8 @@ fn after_opening(line: impl AsRef<[u8]>) -> u32 {
 fn played(log: impl AsRef<[u8]>) -> (Vec<u8>, Lists) {
     let log = log.as_ref();
     let mut lists = Lists::unopened(48, 1);
-    let mut answers = vec![77; narrowed(figures(log)[7])];
+    let [.., lines, _] = figures(log);
+    let mut answers = vec![77; narrowed(lines)];
     assert_eq!(play_code(log, &mut lists, &mut answers), 0);
     (answers, lists)
 }
@@ -685,7 +689,7 @@ const OTHERS: [(&str, Logs); 14] = [
                 let before = fields.to_vec();
                 let code = call_code(line, fields);
                 if code == 113 && line.iter().filter(|&&byte| byte == b' ').count() == 3 {
-                    fields[3] = before[3];
+                    fields[WIDTH] = before[WIDTH];
                 }
                 code
             },

@@ -1,9 +1,12 @@
 //! 01, The published file: the reader accepts every published file and refuses others.
 
-use crosscheck::compare::damage::{Bases, Edit, edited};
+use crosscheck::compare::damage::{Bases, Edit, FIRST, HIGHEST, LAST, LOWEST, edited};
 use crosscheck::second::contents;
 use crosscheck::second::head::Head;
 use crosscheck::second::reader::{Fault, check, read, tables};
+use crosscheck::second::trailer::{
+    ACTUAL, DAYS, DISTANCE, FIRST_DAY, INTERVAL, LAYOUT, NONE, SPANS, SUBSTITUTED, SUM,
+};
 
 mod common;
 use common::*;
@@ -88,25 +91,25 @@ fn any_length_but_its_own_is_refused_8() {
 #[test]
 fn trailer_fields() {
     let cases = [
-        ((0, 2), 36_525, Fault::FirstDay),
-        ((0, 2), 65_535, Fault::FirstDay),
-        ((0, 2), 36_521, Fault::Days),
-        ((2, 2), 0, Fault::Days),
-        ((2, 2), 401, Fault::Days),
-        ((2, 2), 65_535, Fault::Days),
-        ((2, 2), 4, Fault::Length),
-        ((4, 1), 0, Fault::Interval),
-        ((4, 1), 10, Fault::Interval),
-        ((4, 1), 15, Fault::Length),
-        ((5, 1), 0, Fault::Layout),
-        ((5, 1), 4, Fault::Layout),
-        ((6, 2), 3, Fault::Distance),
-        ((28, 4), u64::MAX, Fault::Distance),
-        ((8, 4), 0, Fault::Counts),
-        ((12, 4), 7, Fault::Counts),
-        ((16, 4), u64::MAX, Fault::Counts),
-        ((20, 8), 0, Fault::Sum),
-        ((20, 8), u64::MAX, Fault::Sum),
+        (FIRST_DAY, 36_525, Fault::FirstDay),
+        (FIRST_DAY, 65_535, Fault::FirstDay),
+        (FIRST_DAY, 36_521, Fault::Days),
+        (DAYS, 0, Fault::Days),
+        (DAYS, 401, Fault::Days),
+        (DAYS, 65_535, Fault::Days),
+        (DAYS, 4, Fault::Length),
+        (INTERVAL, 0, Fault::Interval),
+        (INTERVAL, 10, Fault::Interval),
+        (INTERVAL, 15, Fault::Length),
+        (LAYOUT, 0, Fault::Layout),
+        (LAYOUT, 4, Fault::Layout),
+        (SPANS, 3, Fault::Distance),
+        (DISTANCE, u64::MAX, Fault::Distance),
+        (ACTUAL, 0, Fault::Counts),
+        (SUBSTITUTED, 7, Fault::Counts),
+        (NONE, u64::MAX, Fault::Counts),
+        (SUM, 0, Fault::Sum),
+        (SUM, u64::MAX, Fault::Sum),
     ];
     for (field, value, fault) in cases {
         let edit = [trailer(field, value)];
@@ -114,33 +117,33 @@ fn trailer_fields() {
         assert_eq!(after_before(&edit), Err(fault), "{field:?} {value}");
     }
     // The last first day for five days.
-    assert_eq!(after(&[trailer((0, 2), 36_520)]), Ok(()));
+    assert_eq!(after(&[trailer(FIRST_DAY, 36_520)]), Ok(()));
 }
 
 #[test]
 fn the_distance_is_that_of_the_layout() {
     // Four spans of 14 bytes, or of 10.
     for distance in [40, 55, 57] {
-        let edit = [trailer((28, 4), distance)];
+        let edit = [trailer(DISTANCE, distance)];
         assert_eq!(after(&edit), Err(Fault::Distance));
     }
     for distance in [39, 41, 56] {
-        let edit = [trailer((28, 4), distance)];
+        let edit = [trailer(DISTANCE, distance)];
         assert_eq!(after_before(&edit), Err(Fault::Distance));
     }
     assert_eq!(
-        after(&[trailer((6, 2), 65_535), trailer((28, 4), 917_490)]),
+        after(&[trailer(SPANS, 65_535), trailer(DISTANCE, 917_490)]),
         Err(Fault::Length)
     );
     assert_eq!(
-        after_before(&[trailer((6, 2), 65_535), trailer((28, 4), 655_350)]),
+        after_before(&[trailer(SPANS, 65_535), trailer(DISTANCE, 655_350)]),
         Err(Fault::Length)
     );
 }
 
 #[test]
 fn layout_bytes() {
-    let layout = |value| trailer((5, 1), value);
+    let layout = |value| trailer(LAYOUT, value);
     assert_eq!(after(&[layout(1)]), Err(Fault::Distance));
     assert_eq!(after(&[layout(2)]), Err(Fault::Distance));
     assert_eq!(after_before(&[layout(2)]), Err(Fault::NoneAgreedInLayout2));
@@ -148,7 +151,7 @@ fn layout_bytes() {
     // Five spans of 14 bytes are as long as seven of 10, so here it is 9.
     let mut five = five_days();
     five.register(5, 1970);
-    let seven = [layout(1), trailer((6, 2), 7)];
+    let seven = [layout(1), trailer(SPANS, 7)];
     let found = after_of(&five.file(), &seven);
     assert_eq!(found.map_err(Fault::number), Err(9));
     assert_eq!(after(&[Edit::Relayout(1)]), Ok(()));
@@ -204,22 +207,21 @@ fn slot_records() {
 
 #[test]
 fn span_records() {
-    let (first, last) = ((0, 2), (2, 2));
     let cases = [
-        (0, first, 1, Fault::SpanBounds),
-        (3, last, 6, Fault::SpanBounds),
-        (3, last, 65_535, Fault::SpanBounds),
-        (0, first, 65_535, Fault::SpanBounds),
-        (1, first, 0, Fault::SpanChain),
-        (3, first, 2, Fault::SpanChain),
+        (0, FIRST, 1, Fault::SpanBounds),
+        (3, LAST, 6, Fault::SpanBounds),
+        (3, LAST, 65_535, Fault::SpanBounds),
+        (0, FIRST, 65_535, Fault::SpanBounds),
+        (1, FIRST, 0, Fault::SpanChain),
+        (3, FIRST, 2, Fault::SpanChain),
     ];
     for (at, field, value, fault) in cases {
         let edit = [span(at, field, value)];
         assert_eq!(after(&edit), Err(fault), "{at} {field:?} {value}");
         assert_eq!(after_before(&edit), Err(fault), "{at} {field:?} {value}");
     }
-    assert_eq!(after(&[span(3, last, 5)]), Ok(()));
-    assert_eq!(after_before(&[span(3, last, 5)]), Ok(()));
+    assert_eq!(after(&[span(3, LAST, 5)]), Ok(()));
+    assert_eq!(after_before(&[span(3, LAST, 5)]), Ok(()));
 }
 
 #[test]
@@ -250,15 +252,14 @@ fn states_of_spans() {
 
 #[test]
 fn advances_of_spans() {
-    let (lowest, highest) = ((4, 4), (8, 4));
     // One advance, free in the states but 1.
-    let old = |at, value| after_before(&[span(at, lowest, value)]);
+    let old = |at, value| after_before(&[span(at, LOWEST, value)]);
     assert_eq!(old(0, 99_999_999), Ok(()));
     assert_eq!(old(3, 100_000_000), Err(Fault::Advance));
     assert_eq!(old(1, 519), Err(Fault::ScaledSum));
     assert_eq!(old(1, 521), Err(Fault::ScaledSum));
     // Lowest and highest.
-    let new = |at, low, high| after(&[span(at, lowest, low), span(at, highest, high)]);
+    let new = |at, low, high| after(&[span(at, LOWEST, low), span(at, HIGHEST, high)]);
     assert_eq!(new(0, 0, 99_999_999), Ok(()));
     assert_eq!(new(0, 99_999_999, 99_999_999), Ok(()));
     assert_eq!(new(0, 0, 0), Ok(()));

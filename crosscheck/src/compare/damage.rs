@@ -8,40 +8,27 @@ use crate::second::contents;
 use crate::second::file::{self, SLOT_BYTES, TRAILER_BYTES};
 use crate::second::reader::{self, Fault};
 use crate::second::rules::State;
-
-/// A field of the trailer: its place in it and its bytes.
-pub type Field = (usize, usize);
-
-const FIRST_DAY: Field = (0, 2);
-const DAYS: Field = (2, 2);
-const INTERVAL: Field = (4, 1);
-const LAYOUT: Field = (5, 1);
-const SPANS: Field = (6, 2);
-const ACTUAL: Field = (8, 4);
-const SUBSTITUTED: Field = (12, 4);
-const NONE: Field = (16, 4);
-const SUM: Field = (20, 8);
-const DISTANCE: Field = (28, 4);
+use crate::second::trailer::{self, Field};
 
 const FIELDS: [Field; 10] = [
-    FIRST_DAY,
-    DAYS,
-    INTERVAL,
-    LAYOUT,
-    SPANS,
-    ACTUAL,
-    SUBSTITUTED,
-    NONE,
-    SUM,
-    DISTANCE,
+    trailer::FIRST_DAY,
+    trailer::DAYS,
+    trailer::INTERVAL,
+    trailer::LAYOUT,
+    trailer::SPANS,
+    trailer::ACTUAL,
+    trailer::SUBSTITUTED,
+    trailer::NONE,
+    trailer::SUM,
+    trailer::DISTANCE,
 ];
 
 /// The boundaries of a span's record; behind them R, or in layout 3 two ends, then state
 /// and zero.
-const FIRST: Field = (0, 2);
-const LAST: Field = (2, 2);
-const LOWEST: Field = (4, 4);
-const HIGHEST: Field = (8, 4);
+pub const FIRST: Field = (0, 2);
+pub const LAST: Field = (2, 2);
+pub const LOWEST: Field = (4, 4);
+pub const HIGHEST: Field = (8, 4);
 
 /// The last two fields of a span's record.
 fn state_field(layout: u8) -> Field {
@@ -130,7 +117,7 @@ fn apply(file: &mut Vec<u8>, edit: &Edit) {
         Edit::Flip { at, bit } => flip(file, *at, *bit),
         Edit::Byte { at, value } => put(file, *at, &[*value]),
         Edit::Trailer(bytes) => put_trailer(file, bytes),
-        Edit::TrailerField { field, value } => set_field(file, *field, *value),
+        Edit::TrailerField { field, value } => trailer::set(file, *field, *value),
         Edit::SwapSlots(one, two) => swap(file, 0, SLOT_BYTES, *one, *two),
         Edit::SwapSpans(one, two) => swap_spans(file, *one, *two),
         Edit::Slot {
@@ -184,7 +171,7 @@ fn set_span_field(file: &mut [u8], span: usize, (offset, len): Field, value: u64
 fn mend_layout(file: &mut [u8]) {
     let wanted = if has_agreed(file) { 2 } else { 1 };
     if layout(file) != file::LAYOUT {
-        set_field(file, LAYOUT, wanted);
+        trailer::set(file, trailer::LAYOUT, wanted);
     }
 }
 
@@ -198,24 +185,14 @@ fn put(file: &mut [u8], at: usize, bytes: &[u8]) {
     }
 }
 
-fn field(file: &[u8], (offset, len): Field) -> u64 {
-    let Some(start) = trailer_start(file) else {
-        return 0;
-    };
-    let mut bytes = [0; 8];
-    bytes[..len].copy_from_slice(&file[start + offset..start + offset + len]);
-    u64::from_le_bytes(bytes)
-}
-
-fn set_field(file: &mut [u8], (offset, len): Field, value: u64) {
-    if let Some(start) = trailer_start(file) {
-        put(file, start + offset, &value.to_le_bytes()[..len]);
-    }
+/// A field of the trailer; 0 where there is none.
+fn field(file: &[u8], field: Field) -> u64 {
+    trailer::get(file, field).unwrap_or(0)
 }
 
 /// Where the span table starts, and how many spans it has.
 fn span_table(file: &[u8]) -> (usize, usize) {
-    let spans = narrowed(field(file, SPANS));
+    let spans = narrowed(field(file, trailer::SPANS));
     let end = trailer_start(file).unwrap_or(0);
     (end.saturating_sub(spans * record_bytes(file)), spans)
 }
@@ -227,7 +204,7 @@ fn record_bytes(file: &[u8]) -> usize {
 
 /// The layout byte.
 pub fn layout(file: &[u8]) -> u8 {
-    narrowed(field(file, LAYOUT))
+    narrowed(field(file, trailer::LAYOUT))
 }
 
 fn relayout(file: &mut Vec<u8>, layout: u8) {
@@ -247,8 +224,8 @@ fn relayout(file: &mut Vec<u8>, layout: u8) {
         table.extend(&record[old - 2..]);
     }
     file.splice(start..end, table);
-    set_field(file, LAYOUT, layout.into());
-    set_field(file, DISTANCE, (new * spans) as u64);
+    trailer::set(file, trailer::LAYOUT, layout.into());
+    trailer::set(file, trailer::DISTANCE, (new * spans) as u64);
 }
 
 fn swap(file: &mut [u8], start: usize, len: usize, one: usize, two: usize) {
@@ -274,8 +251,8 @@ fn change_spans(file: &mut Vec<u8>, span: usize, double: bool) {
         file.drain(at..at + bytes);
         spans - 1
     };
-    set_field(file, SPANS, spans as u64);
-    set_field(file, DISTANCE, (bytes * spans) as u64);
+    trailer::set(file, trailer::SPANS, spans as u64);
+    trailer::set(file, trailer::DISTANCE, (bytes * spans) as u64);
 }
 
 fn mend(file: &mut [u8]) {
@@ -286,10 +263,10 @@ fn mend(file: &mut [u8]) {
     let counts = [count(b'A'), count(b'S') + count(b'F'), count(b'N')];
     let value = |r: &[u8]| u64::from(u32::from_le_bytes([r[0], r[1], r[2], r[3]]));
     let sum = records.map(value).sum();
-    set_field(file, ACTUAL, counts[0]);
-    set_field(file, SUBSTITUTED, counts[1]);
-    set_field(file, NONE, counts[2]);
-    set_field(file, SUM, sum);
+    trailer::set(file, trailer::ACTUAL, counts[0]);
+    trailer::set(file, trailer::SUBSTITUTED, counts[1]);
+    trailer::set(file, trailer::NONE, counts[2]);
+    trailer::set(file, trailer::SUM, sum);
 }
 
 /// The files the damage is done to.
@@ -359,7 +336,7 @@ impl Bases {
             28 => Edit::AllZero,
             29..=33 => agreed_edit(rng, base, slots),
             34 => Edit::TrailerField {
-                field: LAYOUT,
+                field: trailer::LAYOUT,
                 value: rng.pick(&[0, 1, 1, 2, 2, 3, 3, 4, 255]),
             },
             36..=41 => ends_edit(rng, base, span),
@@ -515,10 +492,10 @@ fn agreed_edit(rng: &mut Rng, base: &[u8], slots: usize) -> Edit {
 /// Counts what the damage did to a file of any layout.
 pub fn count(damaged: &Damaged, file: &[u8], counts: &mut Counts) {
     ends_of_scaled(file, counts);
-    let base = field(&damaged.base, LAYOUT);
+    let base = field(&damaged.base, trailer::LAYOUT);
     let checked = reader::check(file);
     let accepted = checked.is_ok();
-    let changed = field(file, LAYOUT);
+    let changed = field(file, trailer::LAYOUT);
     let mut add = |occurred, name| counts.add_if(occurred, "damaged file", name);
     add(base == 1, "damage to a file of layout 1");
     add(base == 2, "damage to a file of layout 2");

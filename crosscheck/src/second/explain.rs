@@ -11,23 +11,41 @@ use crate::second::rules::{self, Cause, Cells, Filled, Quality, Slot, Span, Stat
 /// How many fields there are.
 pub const FIELDS: usize = 34;
 
-// Where each group of fields begins.
+// Where each group of fields begins, and the fields that are asked for by themselves.
 pub const CAUSE: usize = 0;
 pub const RULE: usize = 1;
 /// Value, quality and method before scaling.
 pub const FILLED: usize = 2;
+pub const FILLED_METHOD: usize = FILLED + 2;
 /// l, r, j, g.
 pub const LINE: usize = 5;
+pub const LEFT: usize = LINE;
+pub const RIGHT: usize = LINE + 1;
+pub const PLACE: usize = LINE + 2;
+pub const LENGTH: usize = LINE + 3;
 /// The number of references, then four days and four values.
 pub const NUMBER: usize = 9;
 pub const DAYS: usize = 10;
 pub const VALUES: usize = 14;
 /// 1, first and last boundary, lowest and highest advance, R, V, state.
 pub const SPAN: usize = 18;
+pub const FIRST: usize = SPAN + 1;
+pub const LAST: usize = SPAN + 2;
+pub const LOWEST: usize = SPAN + 3;
+pub const HIGHEST: usize = SPAN + 4;
+pub const R: usize = SPAN + 5;
+pub const V: usize = SPAN + 6;
+pub const STATE: usize = SPAN + 7;
 /// 1, T, E, P, C.
 pub const SCALED: usize = 26;
+pub const T: usize = SCALED + 1;
+pub const E: usize = SCALED + 2;
+pub const P: usize = SCALED + 3;
+pub const C: usize = SCALED + 4;
 /// Value, quality and method as published.
 pub const OUTCOME: usize = 31;
+pub const QUALITY: usize = OUTCOME + 1;
+pub const METHOD: usize = OUTCOME + 2;
 
 pub type Fields = [u64; FIELDS];
 

@@ -3,6 +3,7 @@
 use crate::number::narrowed;
 use crate::second::head::Shape;
 use crate::second::rules::{Quality, Slot, Span, State};
+use crate::second::trailer;
 
 pub const SLOT_BYTES: usize = 6;
 pub const TRAILER_BYTES: usize = 32;
@@ -106,21 +107,27 @@ pub fn layout_before(slots: &[Slot]) -> u8 {
 }
 
 fn trailer(frame: &Frame, slots: &[Slot], spans: usize) -> [u8; TRAILER_BYTES] {
-    let count = |quality| narrowed::<u32>(slots.iter().filter(|s| s.quality == quality).count());
-    // F counts with S.
-    let substituted = count(Quality::Substituted) + count(Quality::Agreed);
+    let count = |quality| slots.iter().filter(|s| s.quality == quality).count() as u64;
     let sum: u64 = slots.iter().map(|slot| u64::from(slot.value)).sum();
-    let distance: u32 = narrowed(span_bytes(frame.layout) * spans);
+    let fields = [
+        (trailer::FIRST_DAY, frame.first_day.into()),
+        (trailer::DAYS, frame.days as u64),
+        (trailer::INTERVAL, frame.interval.into()),
+        (trailer::LAYOUT, frame.layout.into()),
+        (trailer::SPANS, spans as u64),
+        (trailer::ACTUAL, count(Quality::Actual)),
+        // F counts with S.
+        (
+            trailer::SUBSTITUTED,
+            count(Quality::Substituted) + count(Quality::Agreed),
+        ),
+        (trailer::NONE, count(Quality::None)),
+        (trailer::SUM, sum),
+        (trailer::DISTANCE, (span_bytes(frame.layout) * spans) as u64),
+    ];
     let mut trailer = [0; TRAILER_BYTES];
-    trailer[0..2].copy_from_slice(&narrowed::<u16>(frame.first_day).to_le_bytes());
-    trailer[2..4].copy_from_slice(&narrowed::<u16>(frame.days).to_le_bytes());
-    trailer[4] = narrowed(frame.interval);
-    trailer[5] = frame.layout;
-    trailer[6..8].copy_from_slice(&narrowed::<u16>(spans).to_le_bytes());
-    trailer[8..12].copy_from_slice(&count(Quality::Actual).to_le_bytes());
-    trailer[12..16].copy_from_slice(&substituted.to_le_bytes());
-    trailer[16..20].copy_from_slice(&count(Quality::None).to_le_bytes());
-    trailer[20..28].copy_from_slice(&sum.to_le_bytes());
-    trailer[28..32].copy_from_slice(&distance.to_le_bytes());
+    for (field, number) in fields {
+        trailer::set(&mut trailer, field, number);
+    }
     trailer
 }

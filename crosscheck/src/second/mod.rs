@@ -21,3 +21,4 @@ pub mod rules;
 pub mod simulate;
 pub mod stays;
 pub mod strips;
+pub mod trailer;

@@ -6,6 +6,7 @@ use crate::second::book::MOST_AGREED;
 use crate::second::file::{self, LAYOUT, LAYOUT_AGREED, LAYOUT_PLAIN, SLOT_BYTES, TRAILER_BYTES};
 use crate::second::head::{self, DIAL};
 use crate::second::refusal;
+use crate::second::trailer;
 
 /// The trailer's figures of an accepted file.
 #[derive(Clone, Copy, Debug, PartialEq, Eq)]
@@ -147,17 +148,18 @@ struct Parts<'a> {
 impl Parts<'_> {
     fn of(file: &[u8]) -> Result<Parts<'_>, Fault> {
         let start = file.len().checked_sub(TRAILER_BYTES).ok_or(Fault::Short)?;
-        let (tables, trailer) = file.split_at(start);
+        let (tables, end) = file.split_at(start);
+        let field = |field| trailer::get(end, field).ok_or(Fault::Short);
         let figures = Figures {
-            first_day: number(&trailer[0..2]),
-            days: number(&trailer[2..4]),
-            interval: number(&trailer[4..5]),
-            spans: number(&trailer[6..8]),
-            actual: number(&trailer[8..12]),
-            substituted: number(&trailer[12..16]),
-            none: number(&trailer[16..20]),
-            sum: number(&trailer[20..28]),
-            layout: number(&trailer[5..6]),
+            first_day: field(trailer::FIRST_DAY)?,
+            days: field(trailer::DAYS)?,
+            interval: field(trailer::INTERVAL)?,
+            spans: field(trailer::SPANS)?,
+            actual: field(trailer::ACTUAL)?,
+            substituted: field(trailer::SUBSTITUTED)?,
+            none: field(trailer::NONE)?,
+            sum: field(trailer::SUM)?,
+            layout: field(trailer::LAYOUT)?,
         };
         let (first_day, days) = (narrowed(figures.first_day), narrowed(figures.days));
         require(head::days_fit(first_day, 1), Fault::FirstDay)?;
@@ -166,11 +168,11 @@ impl Parts<'_> {
             head::interval_known(narrowed(figures.interval)),
             Fault::Interval,
         )?;
-        let layout = trailer[5];
+        let layout = narrowed(figures.layout);
         let known = matches!(layout, LAYOUT_PLAIN | LAYOUT_AGREED | LAYOUT);
         require(known, Fault::Layout)?;
         let span_bytes = file::span_bytes(layout) as u64 * figures.spans;
-        require(number(&trailer[28..32]) == span_bytes, Fault::Distance)?;
+        require(field(trailer::DISTANCE)? == span_bytes, Fault::Distance)?;
         let slot_bytes = SLOT_BYTES as u64 * (1440 / figures.interval) * figures.days;
         require(
             tables.len() as u64 == slot_bytes + span_bytes,

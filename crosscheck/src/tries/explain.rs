@@ -7,7 +7,8 @@ use crate::compare::rng::Rng;
 use crate::compare::side::{Answer, Second, Side, apply};
 use crate::number::narrowed;
 use crate::second::explain::{
-    self, CAUSE, DAYS, FIELDS, FILLED, LINE, NUMBER, OUTCOME, RULE, SCALED, SPAN, VALUES,
+    self, C, CAUSE, DAYS, E, FIELDS, FILLED, FIRST, HIGHEST, LAST, LEFT, LENGTH, LOWEST, METHOD,
+    NUMBER, OUTCOME, P, PLACE, QUALITY, R, RIGHT, RULE, SCALED, SPAN, STATE, T, V, VALUES,
 };
 use crate::second::file::SLOT_BYTES;
 use crate::second::head::{DIAL, Head, MOST_LIMIT, Shape};
@@ -489,17 +490,18 @@ fn checked(question: &Question, fields: &[u64], file: &[u8]) -> Result<(), Strin
 fn fits(fields: &[u64]) -> bool {
     let filled = match fields[RULE] {
         2 => {
-            let (l, r, j, steps) = (fields[5], fields[6], fields[7], fields[8] + 1);
+            let [l, r, j, g] = [LEFT, RIGHT, PLACE, LENGTH].map(|place| fields[place]);
+            let steps = g + 1;
             (l * (steps - j) + r * j) / steps
         }
         3 => fields[VALUES..SPAN].iter().sum::<u64>() / fields[NUMBER],
         1 | 4 => 0,
         _ => fields[FILLED],
     };
-    let (lowest, highest, r, v) = (fields[21], fields[22], fields[23], fields[24]);
+    let [lowest, highest, r, v] = [LOWEST, HIGHEST, R, V].map(|place| fields[place]);
     let held = r == v.max(lowest).min(highest);
     let wide = |place: usize| u128::from(fields[place]);
-    let (t, e, p, c) = (wide(27), wide(28), wide(29), wide(30));
+    let [t, e, p, c] = [T, E, P, C].map(wide);
     let outcome = match fields[SCALED] {
         1 => t * c / e - t * p / e,
         _ => filled.into(),
@@ -669,8 +671,8 @@ fn counted(shape: &Shape, question: &Question, fields: &[u64], tally: &mut Tally
     });
     tally.add_if(slot == 0, "first slot");
     tally.add_if(slot + 1 == shape.slots, "last slot");
-    let letter = char::from(narrowed::<u8>(fields[OUTCOME + 1]));
-    tally.add(&format!("{letter} {}", fields[OUTCOME + 2]));
+    let letter = char::from(narrowed::<u8>(fields[QUALITY]));
+    tally.add(&format!("{letter} {}", fields[METHOD]));
     count_filling(question, fields, tally);
     match fields[RULE] {
         2 => count_line(shape, fields, tally),
@@ -719,12 +721,7 @@ fn count_filling(question: &Question, fields: &[u64], tally: &mut Tally) {
 }
 
 fn count_line(shape: &Shape, fields: &[u64], tally: &mut Tally) {
-    let (l, r, j, g) = (
-        fields[LINE],
-        fields[LINE + 1],
-        fields[LINE + 2],
-        fields[LINE + 3],
-    );
+    let [l, r, j, g] = [LEFT, RIGHT, PLACE, LENGTH].map(|place| fields[place]);
     tally.add(match l.cmp(&r) {
         std::cmp::Ordering::Less => "line rising",
         std::cmp::Ordering::Equal => "line level",
@@ -773,9 +770,9 @@ fn count_references(shape: &Shape, question: &Question, fields: &[u64], tally: &
 }
 
 fn count_span(question: &Question, fields: &[u64], tally: &mut Tally) {
-    let [first, last] = [SPAN + 1, SPAN + 2].map(|place| narrowed::<usize>(fields[place]));
-    let (lowest, highest) = (fields[SPAN + 3], fields[SPAN + 4]);
-    let (r, v, state) = (fields[SPAN + 5], fields[SPAN + 6], fields[SPAN + 7]);
+    let [first, last] = [FIRST, LAST].map(|place| narrowed::<usize>(fields[place]));
+    let [lowest, highest] = [LOWEST, HIGHEST].map(|place| fields[place]);
+    let [r, v, state] = [R, V, STATE].map(|place| fields[place]);
     tally.add(&format!("state {state}"));
     tally.add_if(last - first > 1, "span of several days");
     tally.add(if lowest == highest {
@@ -801,7 +798,7 @@ fn count_span(question: &Question, fields: &[u64], tally: &mut Tally) {
 }
 
 fn count_scaled(fields: &[u64], tally: &mut Tally) {
-    let (t, e, p, c) = (fields[27], fields[28], fields[29], fields[30]);
+    let [t, e, p, c] = [T, E, P, C].map(|place| fields[place]);
     tally.add(match fields[RULE] {
         2 => "scaled linear",
         _ => "scaled same day",
@@ -823,6 +820,7 @@ fn count_scaled(fields: &[u64], tally: &mut Tally) {
 #[cfg(test)]
 mod tests {
     use super::*;
+    use crate::second::explain::{FILLED_METHOD, LINE};
 
     fn run(other: Explains) -> Result<Tally, String> {
         let mut tally = Tally::new(CLASSES);
@@ -859,28 +857,28 @@ mod tests {
 
     const MEDDLED: [Explains; 14] = [
         // j from 0.
-        meddled!(|fields| fields[7] = fields[7].saturating_sub(1)),
+        meddled!(|fields| fields[PLACE] = fields[PLACE].saturating_sub(1)),
         // l and r the other way round.
-        meddled!(|fields| fields.swap(5, 6)),
+        meddled!(|fields| fields.swap(LEFT, RIGHT)),
         // Of two or more references the farthest first.
         meddled!(|fields| {
             let number: usize = narrowed(fields[NUMBER]);
             fields[DAYS..DAYS + number].reverse();
         }),
         // Sixteen more than the method before scaling, too.
-        meddled!(|fields| fields[4] = fields[33]),
+        meddled!(|fields| fields[FILLED_METHOD] = fields[METHOD]),
         // The value as published before scaling, too.
-        meddled!(|fields| fields[2] = fields[31]),
+        meddled!(|fields| fields[FILLED] = fields[OUTCOME]),
         // An agreed value is none.
-        meddled!(|fields| fields[1] = fields[1].min(4)),
+        meddled!(|fields| fields[RULE] = fields[RULE].min(4)),
         // R is the highest.
-        meddled!(|fields| fields[23] = fields[22]),
+        meddled!(|fields| fields[R] = fields[HIGHEST]),
         // E of shapes that are all 0 is 0.
-        meddled!(|fields| fields[28] *= u64::from(fields[14..18].iter().sum::<u64>() > 0)),
+        meddled!(|fields| fields[E] *= u64::from(fields[VALUES..SPAN].iter().sum::<u64>() > 0)),
         // P is C.
-        meddled!(|fields| fields[29] = fields[30]),
+        meddled!(|fields| fields[P] = fields[C]),
         // T where nothing is scaled.
-        meddled!(|fields| fields[27] = fields[23].saturating_sub(fields[24])),
+        meddled!(|fields| fields[T] = fields[R].saturating_sub(fields[V])),
         // Cleared though refused.
         Explains {
             explain: |head, lists, slot, fields| {
@@ -934,7 +932,14 @@ mod tests {
         fields[LINE..NUMBER].copy_from_slice(&[10, 4, 1, 3]);
         fields[OUTCOME..].copy_from_slice(&[8, 83, 2]);
         assert!(fits(&fields));
-        for (place, value) in [(5, 11), (6, 9), (7, 2), (8, 1), (FILLED, 7), (OUTCOME, 7)] {
+        for (place, value) in [
+            (LEFT, 11),
+            (RIGHT, 9),
+            (PLACE, 2),
+            (LENGTH, 1),
+            (FILLED, 7),
+            (OUTCOME, 7),
+        ] {
             let mut other = fields;
             other[place] = value;
             assert!(!fits(&other), "place {place}");

@@ -17,6 +17,10 @@ pub type Simulate = fn(Head, u32, u32, &mut Lists, &mut [u8], &mut [i64]) -> u32
 
 pub const SECOND: Simulate = simulate::simulate_code;
 
+// Places of the report.
+const STATE: usize = 0;
+const DIFFERENCE: usize = 1;
+
 pub const CLASSES: &[&str] = &[
     "seed 1",
     "seed 2",
@@ -482,8 +486,9 @@ fn restated(
         .iter()
         .map(|slot| u64::from(slot.value))
         .sum();
-    report[0] = i64::from(out[length - 34]);
-    report[1] = published as i64 - totalled(&steps) as i64;
+    // The state is the last but one byte of the one span.
+    report[STATE] = i64::from(out[length - file::TRAILER_BYTES - 2]);
+    report[DIFFERENCE] = published as i64 - totalled(&steps) as i64;
     0
 }
 
@@ -586,7 +591,7 @@ mod tests {
         |head, seed, loss, lists, out, report| {
             let code = SECOND(head, seed, loss, lists, out, report);
             if code == 0 {
-                report[1] = -report[1];
+                report[DIFFERENCE] = -report[DIFFERENCE];
             }
             code
         },

@@ -1,7 +1,7 @@
 //! Compares stays, W11, with a restatement and another build.
 
 use crate::compare::acceptance;
-use crate::compare::damage::Bases;
+use crate::compare::damage::{self, Bases};
 use crate::compare::random;
 use crate::compare::rng::Rng;
 use crate::compare::side::{Second, Side};
@@ -11,6 +11,7 @@ use crate::second::contents;
 use crate::second::head::Head;
 use crate::second::lists::Lists;
 use crate::second::stays::{self, MOST_STAYS};
+use crate::second::trailer;
 use crate::tries::{Tally, hex};
 
 /// The call of one build: file, pairs, totals; 0 or the refusal.
@@ -161,10 +162,11 @@ pub fn one(
 
 /// D as the trailer has it, accepted or not; never 0, for making pairs.
 fn days_of(file: &[u8]) -> u32 {
-    let Some(trailer) = file.last_chunk::<32>() else {
-        return 1;
-    };
-    u32::from(u16::from_le_bytes([trailer[2], trailer[3]])).clamp(1, 1000)
+    narrowed(
+        trailer::get(file, trailer::DAYS)
+            .unwrap_or(1)
+            .clamp(1, 1000),
+    )
 }
 
 // Pairs
@@ -332,7 +334,7 @@ impl Count<'_> {
         let single = any(|_, (first, second)| first + 1 == second);
         let whole = any(|days, pair| pair == (0, days));
         let to_the_end = any(|days, (_, second)| second == days);
-        let layout = question.file[question.file.len() - 27];
+        let layout = damage::layout(&question.file);
         let tally = &mut self.tally;
         tally.add(match question.pairs.len() / 2 {
             0 => "0 pairs",
