@@ -7,24 +7,29 @@ mkdir -p build
 rm -rf build/failed build/objects
 echo 'Proves what libsawmauve.a is built of: some minutes of processor time the first time, later only what has changed.'
 
-# the crates that host and questions rest on, and these two
-crates=$(awk -F'[: ]+' '
-    { names[NR] = $1; for (i = 2; i <= NF; i++) if ($i != "") needs[$1] = needs[$1] " " $i }
+# the crates that questions rests on, host among them; those that do not wait for each other are proved side by side
+below=$(awk -F'[: ]+' '
+    { for (i = 2; i <= NF; i++) if ($i != "") needs[$1] = needs[$1] " " $i; listed[$1] }
     END {
-        wanted["host"]; wanted["questions"]
+        wanted["questions"]
         do {
             more = 0
             for (name in wanted) { n = split(needs[name], below, " "); for (i = 1; i <= n; i++) if (!(below[i] in wanted)) { wanted[below[i]]; more = 1 } }
         } while (more)
-        for (name in wanted) count++
-        print count
+        for (name in wanted) if (name in listed && name != "questions") print name
     }' crates.txt)
+{ rt check $below 2>&1 || echo failed > build/failed; } | tee build/proving.log | awk -v crates="$(echo "$below" | wc -l)" '
+    /^rt: [a-z0-9_]+ proved/ { printf "%d of %d: %s\n", ++k, crates, substr($0, 5); fflush() }'
 
-{ { rt staticlib host && rt staticlib questions; } 2>&1 || echo failed > build/failed; } | tee build/proving.log | awk -v crates="$crates" '
-    /^rt: [a-z0-9_]+ proved/ { name = $2; line = substr($0, 5) }
-    /^rt: target\/staticlib\/lib[a-z0-9_]+\.a / { name = $2; gsub(/.*\/lib|\.a$/, "", name); line = name " proved" }
-    name != "" && !seen[name]++ { printf "%d of %d: %s\n", ++k, crates, line; fflush() }
-    { name = "" }'
+# the two libraries beside each other: what they rest on is proved
+for library in host questions; do
+    rm -f "target/staticlib/lib$library.a"
+    [ -e build/failed ] || rt staticlib "$library" > "build/proving-$library.log" 2>&1 &
+done
+wait
+for library in host questions; do
+    [ -e build/failed ] || [ -e "target/staticlib/lib$library.a" ] || { cp "build/proving-$library.log" build/proving.log; echo failed > build/failed; }
+done
 if [ -e build/failed ]; then
     tail -n 40 build/proving.log >&2
     exit 1
