@@ -149,7 +149,12 @@ impl Span {
 
 fn slots_of(table: &[u8]) -> Result<Vec<Slot>, Error> {
     let (records, _) = table.as_chunks();
-    records.iter().map(Slot::of).collect()
+    // Collecting results would let it grow step by step.
+    let mut slots = Vec::with_capacity(records.len());
+    for record in records {
+        slots.push(Slot::of(record)?);
+    }
+    Ok(slots)
 }
 
 fn spans_of(table: &[u8], count: usize) -> Result<Vec<Span>, Error> {
