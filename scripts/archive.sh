@@ -21,15 +21,18 @@ below=$(awk -F'[: ]+' '
 { rt check $below 2>&1 || echo failed > build/failed; } | tee build/proving.log | awk -v crates="$(echo "$below" | wc -l)" '
     /^rt: [a-z0-9_]+ proved/ { printf "%d of %d: %s\n", ++k, crates, substr($0, 5); fflush() }'
 
-# the two libraries beside each other: what they rest on is proved
-for library in host questions; do
-    rm -f "target/staticlib/lib$library.a"
-    [ -e build/failed ] || rt staticlib "$library" > "build/proving-$library.log" 2>&1 &
-done
-wait
-for library in host questions; do
-    [ -e build/failed ] || [ -e "target/staticlib/lib$library.a" ] || { cp "build/proving-$library.log" build/proving.log; echo failed > build/failed; }
-done
+# The two libraries beside each other. Each looks first whether what it rests on is proved, in the same files: the second begins when the
+# first has done so, and writes what the prover says.
+rm -f target/staticlib/libhost.a target/staticlib/libquestions.a target/log/host.say
+if [ ! -e build/failed ]; then
+    rt staticlib host > build/proving-host.log 2>&1 &
+    while [ ! -e target/log/host.say ] && kill -0 $! 2> /dev/null; do sleep 0.1; done
+    rt staticlib questions > build/proving-questions.log 2>&1 || true
+    wait
+    for library in host questions; do
+        [ -e "target/staticlib/lib$library.a" ] || { cp "build/proving-$library.log" build/proving.log; echo failed > build/failed; }
+    done
+fi
 if [ -e build/failed ]; then
     tail -n 40 build/proving.log >&2
     exit 1
