@@ -187,10 +187,7 @@ impl Side for Meddled {
                 trailer::set(file, trailer::LAYOUT, 1 + u64::from(agreed));
             }
             Meddling::AgreedIsNeighbourAndReference => name_agreed(head, lists, file),
-            Meddling::MadeUpCounts => {
-                let actual = trailer::get(file, trailer::ACTUAL).unwrap_or(0);
-                trailer::set(file, trailer::ACTUAL, actual ^ 1);
-            }
+            Meddling::MadeUpCounts => miscount(file),
             Meddling::WritesBehindTheFile => behind.fill(0),
             _ => {
                 let table = &mut file[..6 * lists.values.len()];
@@ -282,6 +279,12 @@ fn agreed_slots(head: Head, lists: &Lists, good: bool) -> Vec<usize> {
     (0..shape.slots.min(lists.agreed_versions.len()))
         .filter(|&slot| lists.agreed_versions[slot] != 0 && causes[slot].is_none() == good)
         .collect()
+}
+
+/// Another count of A slots.
+fn miscount(file: &mut [u8]) {
+    let actual = trailer::get(file, trailer::ACTUAL).unwrap_or(0);
+    trailer::set(file, trailer::ACTUAL, actual ^ 1);
 }
 
 /// Gives agreed slots that were published as A their letter, method and count.
