@@ -41,19 +41,9 @@ returns c =
 
 pub make-calls-spec : {M : Type 1} → statement M
 make-calls-spec =
-    tie.close
-    (tie.spec
+    tie.close (tie.spec
     (λ c κs. search known)
     send-all-requires
-    (λ c κs. search known)
-    (λ c. search needs)
-    (λ c. search needs)
-    (λ c. search needs)
-    (λ c. search known)
-    (λ c. search needs)
-    (λ c. search needs)
-    (λ c. search known)
-    (λ c. search known)
-    (λ c. search needs)
-    (λ c. search needs)
+    (λ c κs. search known) (λ c. search needs) (λ c. search needs) (λ c. search needs) (λ c. search known) (λ c. search needs)
+    (λ c. search needs) (λ c. search known) (λ c. search known) (λ c. search needs) (λ c. search needs)
     returns)

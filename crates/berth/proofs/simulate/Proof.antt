@@ -42,31 +42,12 @@ returns-2 c =
 
 pub simulate-spec : {M : Type 1} → statement M
 simulate-spec =
-    tie.close
-    (tie.spec
-    (λ c κs. search known)
-    (λ c. search known)
-    (λ c. search known)
-    (λ c. search known)
-    (λ c. search known)
-    (λ c. search known)
-    (λ c. search known)
-    (λ c. search known)
-    (λ c. search known)
-    (λ c. search known)
-    (λ c. search known)
-    (λ c. search known)
+    tie.close (tie.spec
+    (λ c κs. search known) (λ c. search known) (λ c. search known) (λ c. search known) (λ c. search known) (λ c. search known)
+    (λ c. search known) (λ c. search known) (λ c. search known) (λ c. search known) (λ c. search known) (λ c. search known)
     returns
     run-requires
-    (λ c. search known)
-    (λ c. search known)
-    (λ c. search known)
-    (λ c. search known)
-    (λ c. search known)
+    (λ c. search known) (λ c. search known) (λ c. search known) (λ c. search known) (λ c. search known)
     same-length-17
-    (λ c. search known)
-    (λ c. search known)
-    (λ c. search known)
-    (λ c. search known)
-    (λ c. search known)
+    (λ c. search known) (λ c. search known) (λ c. search known) (λ c. search known) (λ c. search known)
     returns-2)

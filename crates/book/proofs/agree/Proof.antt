@@ -72,13 +72,11 @@ returns-3 c =
 
 pub agree-spec : {M : Type 1} → statement M
 agree-spec =
-    tie.close
-    (tie.spec
+    tie.close (tie.spec
     (λ c κs. search known)
     returns
     agreed-fit-requires
     returns-2
     file-number-requires
-    (λ c. search known)
-    (λ c. search known)
+    (λ c. search known) (λ c. search known)
     returns-3)

@@ -156,8 +156,7 @@ returns-6 c =
 
 pub deliver-spec : {M : Type 1} → statement M
 deliver-spec =
-    tie.close
-    (tie.spec
+    tie.close (tie.spec
     (λ c κs. search known)
     returns
     delivery-fits-requires
@@ -168,8 +167,5 @@ deliver-spec =
     returns-5
     (λ c. search needs)
     file-delivery-requires
-    (λ c. search known)
-    (λ c. search known)
-    (λ c. search known)
-    (λ c. search known)
+    (λ c. search known) (λ c. search known) (λ c. search known) (λ c. search known)
     returns-6)

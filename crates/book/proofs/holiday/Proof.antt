@@ -113,16 +113,14 @@ returns-5 c = rw (found (c .before .before), sym (c .before .is-stored .ensures)
 
 pub holiday-spec : {M : Type 1} → statement M
 holiday-spec =
-    tie.close
-    (tie.spec
+    tie.close (tie.spec
     (λ c κs. search known)
     returns
     (λ c κs. search known)
     returns-2
     returns-3
     slice-read-against-day
-    (λ c κs. search known)
-    (λ c κs. search known)
+    (λ c κs. search known) (λ c κs. search known)
     slice-write-holidays
     (λ c. search known)
     returns-4

@@ -108,30 +108,13 @@ returns-3 c =
 
 pub open-spec : {M : Type 1} → statement M
 open-spec =
-    tie.close
-    (tie.spec
+    tie.close (tie.spec
     (λ c κs. search known)
     returns
     book-fits-requires
     returns-2
-    (λ c κs. search known)
-    (λ c κs. search known)
-    (λ c κs. search known)
-    (λ c κs. search known)
-    (λ c κs. search known)
-    (λ c κs. search known)
-    (λ c κs. search known)
-    (λ c κs. search known)
-    (λ c κs. search known)
-    (λ c κs. search known)
-    (λ c. search known)
-    (λ c. search known)
-    (λ c. search known)
-    (λ c. search known)
-    (λ c. search known)
-    (λ c. search known)
-    (λ c. search known)
-    (λ c. search known)
-    (λ c. search known)
-    (λ c. search known)
+    (λ c κs. search known) (λ c κs. search known) (λ c κs. search known) (λ c κs. search known) (λ c κs. search known)
+    (λ c κs. search known) (λ c κs. search known) (λ c κs. search known) (λ c κs. search known) (λ c κs. search known)
+    (λ c. search known) (λ c. search known) (λ c. search known) (λ c. search known) (λ c. search known) (λ c. search known)
+    (λ c. search known) (λ c. search known) (λ c. search known) (λ c. search known)
     returns-3)

@@ -77,14 +77,11 @@ returns-3 c =
 
 pub register-spec : {M : Type 1} → statement M
 register-spec =
-    tie.close
-    (tie.spec
+    tie.close (tie.spec
     (λ c κs. search known)
     returns
     (λ c κs. search known)
     returns-2
     file-register-requires
-    (λ c. search known)
-    (λ c. search known)
-    (λ c. search known)
+    (λ c. search known) (λ c. search known) (λ c. search known)
     returns-3)

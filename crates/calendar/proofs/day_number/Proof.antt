@@ -29,12 +29,4 @@ unfolding dayNumber
 returns c = omega arith
 
 pub day-number-spec : {M : Type 1} → statement M
-day-number-spec =
-    tie.close
-    (tie.spec
-    days-before-year-requires
-    days-before-month-requires
-    add-result
-    sub-result
-    add-result-2
-    returns)
+day-number-spec = tie.close (tie.spec days-before-year-requires days-before-month-requires add-result sub-result add-result-2 returns)

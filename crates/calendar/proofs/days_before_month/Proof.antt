@@ -28,12 +28,8 @@ returns c =
 
 pub days-before-month-spec : {M : Type 1} → statement M
 days-before-month-spec =
-    tie.close
-    (tie.spec
-    (λ c κs. search known)
-    (λ c. search known)
-    (λ c. search known)
-    (λ c. search needs)
+    tie.close (tie.spec
+    (λ c κs. search known) (λ c. search known) (λ c. search known) (λ c. search needs)
     mul-result
     (λ c. search needs)
     index-1-result

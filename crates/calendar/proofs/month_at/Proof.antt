@@ -69,17 +69,13 @@ returns-2 c =
 
 pub month-at-spec : {M : Type 1} → statement M
 month-at-spec =
-    tie.close
-    (tie.spec
+    tie.close (tie.spec
     Inv-loop
     μ-loop
     loop-holds
-    (λ c. search needs)
-    (λ c κs. search needs)
-    (λ c. search known)
+    (λ c. search needs) (λ c κs. search needs) (λ c. search known)
     returns
-    (λ c. search needs)
-    (λ c. search needs)
+    (λ c. search needs) (λ c. search needs)
     loop-again
     (λ c. search known)
     returns-2)

@@ -43,14 +43,11 @@ returns-2 c =
 
 pub year-at-spec : {M : Type 1} → statement M
 year-at-spec =
-    tie.close
-    (tie.spec
+    tie.close (tie.spec
     Inv-loop
     μ-loop
-    (λ c. search known)
-    (λ c κs. search known)
+    (λ c. search known) (λ c κs. search known)
     returns
-    (λ c. search needs)
-    (λ c. search needs)
+    (λ c. search needs) (λ c. search needs)
     loop-again
     returns-2)

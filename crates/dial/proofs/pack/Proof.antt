@@ -47,17 +47,9 @@ returns-3 c =
 
 pub pack-spec : {M : Type 1} → statement M
 pack-spec =
-    tie.close
-    (tie.spec
+    tie.close (tie.spec
     returns
     returns-2
-    (λ c κs. search known)
-    (λ c. search needs)
-    (λ c κs. search known)
-    (λ c. search needs)
-    (λ c κs. search known)
-    (λ c. search needs)
-    (λ c κs. search known)
-    (λ c. search needs)
-    (λ c. search known)
+    (λ c κs. search known) (λ c. search needs) (λ c κs. search known) (λ c. search needs) (λ c κs. search known) (λ c. search needs)
+    (λ c κs. search known) (λ c. search needs) (λ c. search known)
     returns-3)

@@ -78,30 +78,15 @@ returns-3 c =
 
 pub unpack-spec : {M : Type 1} → statement M
 unpack-spec =
-    tie.close
-    (tie.spec
+    tie.close (tie.spec
     Inv-loop
     μ-loop
     returns
-    (λ c. search known)
-    (λ c. search known)
-    (λ c κs. search known)
+    (λ c. search known) (λ c. search known) (λ c κs. search known)
     returns-2
-    (λ c. search needs)
-    (λ c. search needs)
+    (λ c. search needs) (λ c. search needs)
     loop-again
-    (λ c. search needs)
-    (λ c κs. search known)
-    (λ c. search needs)
-    (λ c κs. search known)
-    (λ c. search needs)
-    (λ c. search needs)
-    (λ c. search needs)
-    (λ c κs. search known)
-    (λ c. search needs)
-    (λ c κs. search known)
-    (λ c. search needs)
-    (λ c. search needs)
-    (λ c. search needs)
-    (λ c. search needs)
+    (λ c. search needs) (λ c κs. search known) (λ c. search needs) (λ c κs. search known) (λ c. search needs) (λ c. search needs)
+    (λ c. search needs) (λ c κs. search known) (λ c. search needs) (λ c κs. search known) (λ c. search needs) (λ c. search needs)
+    (λ c. search needs) (λ c. search needs)
     returns-3)

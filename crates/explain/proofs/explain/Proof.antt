@@ -67,10 +67,8 @@ explain-fitted-requires c κs = (
 
 pub explain-spec : {M : Type 1} → statement M
 explain-spec =
-    tie.close
-    (tie.spec
-    (λ c κs. search known)
-    (λ c κs. search known)
+    tie.close (tie.spec
+    (λ c κs. search known) (λ c κs. search known)
     returns
     lists-fit-requires
     (λ c κs. search known)

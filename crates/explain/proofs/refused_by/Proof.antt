@@ -23,12 +23,7 @@ returns c =
 
 pub refused-by-spec : {M : Type 1} → statement M
 refused-by-spec =
-    tie.close
-    (tie.spec
-    (λ c κs. search known)
-    (λ c κs. search known)
-    (λ c κs. search known)
-    (λ c κs. search known)
-    (λ c κs. search known)
+    tie.close (tie.spec
+    (λ c κs. search known) (λ c κs. search known) (λ c κs. search known) (λ c κs. search known) (λ c κs. search known)
     (λ c κs. search known)
     returns)

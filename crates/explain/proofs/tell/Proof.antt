@@ -51,16 +51,9 @@ returns c =
 
 pub tell-spec : {M : Type 1} → statement M
 tell-spec =
-    tie.close
-    (tie.spec
-    (λ c. search needs)
-    (λ c. search needs)
-    (λ c. search needs)
-    (λ c. search needs)
-    (λ c. search needs)
-    (λ c κs. search known)
-    (λ c κs. search known)
-    (λ c κs. search known)
+    tie.close (tie.spec
+    (λ c. search needs) (λ c. search needs) (λ c. search needs) (λ c. search needs) (λ c. search needs) (λ c κs. search known)
+    (λ c κs. search known) (λ c κs. search known)
     found-by-requires
     hold-requires
     tell-with-requires

@@ -62,8 +62,7 @@ returns-5 c =
 
 pub figures-ok-spec : {M : Type 1} → statement M
 figures-ok-spec =
-    tie.close
-    (tie.spec
+    tie.close (tie.spec
     (λ c. search needs)
     returns
     (λ c. search needs)

@@ -97,11 +97,9 @@ returns-5 c =
 
 pub read-spec : {M : Type 1} → statement M
 read-spec =
-    tie.close
-    (tie.spec
+    tie.close (tie.spec
     returns
-    (λ c κs. search known)
-    (λ c κs. search known)
+    (λ c κs. search known) (λ c κs. search known)
     returns-2
     slot-count-requires
     totals-requires

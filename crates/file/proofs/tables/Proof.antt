@@ -44,10 +44,8 @@ returns-2 c =
 
 pub tables-spec : {M : Type 1} → statement M
 tables-spec =
-    tie.close
-    (tie.spec
-    (λ c κs. search known)
-    (λ c. search known)
+    tie.close (tie.spec
+    (λ c κs. search known) (λ c. search known)
     sub-end
     slice-aggregate-result
     (λ c. search known)

@@ -71,8 +71,7 @@ returns-4 c =
 
 pub tables-ok-spec : {M : Type 1} → statement M
 tables-ok-spec =
-    tie.close
-    (tie.spec
+    tie.close (tie.spec
     (λ c κs. search known)
     returns
     spans-ok-requires

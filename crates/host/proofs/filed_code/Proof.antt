@@ -15,13 +15,8 @@ returns-3 c = rw (c .enum-told3 .given .1)
 
 pub filed-code-spec : {M : Type 1} → statement M
 filed-code-spec =
-    tie.close
-    (tie.spec
-    (λ c. search known)
-    (λ c. search known)
-    (λ c. search known)
-    (λ c. search known)
-    (λ c. search needs)
+    tie.close (tie.spec
+    (λ c. search known) (λ c. search known) (λ c. search known) (λ c. search known) (λ c. search needs)
     returns
     returns-2
     returns-3

@@ -20,11 +20,6 @@ returns c =
 
 pub sawmauve-agree-spec : {M : Type 1} → statement M
 sawmauve-agree-spec =
-    tie.close
-    (tie.spec
-    (λ c κs. search known)
-    (λ c κs. search known)
-    (λ c κs. search known)
-    (λ c. search known)
-    (λ c. search known)
+    tie.close (tie.spec
+    (λ c κs. search known) (λ c κs. search known) (λ c κs. search known) (λ c. search known) (λ c. search known)
     returns)

@@ -23,13 +23,7 @@ returns c =
 
 pub sawmauve-deliver-spec : {M : Type 1} → statement M
 sawmauve-deliver-spec =
-    tie.close
-    (tie.spec
-    (λ c κs. search known)
-    (λ c κs. search known)
-    (λ c κs. search known)
-    (λ c. search known)
-    (λ c. search known)
-    (λ c. search known)
+    tie.close (tie.spec
+    (λ c κs. search known) (λ c κs. search known) (λ c κs. search known) (λ c. search known) (λ c. search known) (λ c. search known)
     (λ c. search known)
     returns)

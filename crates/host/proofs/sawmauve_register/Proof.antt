@@ -23,12 +23,6 @@ returns c =
 
 pub sawmauve-register-spec : {M : Type 1} → statement M
 sawmauve-register-spec =
-    tie.close
-    (tie.spec
-    (λ c κs. search known)
-    (λ c κs. search known)
-    (λ c κs. search known)
-    (λ c. search known)
-    (λ c. search known)
-    (λ c. search known)
+    tie.close (tie.spec
+    (λ c κs. search known) (λ c κs. search known) (λ c κs. search known) (λ c. search known) (λ c. search known) (λ c. search known)
     returns)

@@ -36,12 +36,9 @@ returns-2 c = rw (sym (c .before .before .before .read .ensures) ∙ c .before .
 
 pub file-line-spec : {M : Type 1} → statement M
 file-line-spec =
-    tie.close
-    (tie.spec
-    (λ c κs. search known)
-    (λ c. search known)
+    tie.close (tie.spec
+    (λ c κs. search known) (λ c. search known)
     fit-line-requires
-    (λ c. search known)
-    (λ c. search known)
+    (λ c. search known) (λ c. search known)
     returns
     returns-2)

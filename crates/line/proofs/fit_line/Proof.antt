@@ -21,12 +21,4 @@ returns-2 c =
     line-fits _ _ (tested .before .before .put-line .ensures) (omega (arith, tested .if1 .left)) (c .before .before .put-line2 .ensures)
 
 pub fit-line-spec : {M : Type 1} → statement M
-fit-line-spec =
-    tie.close
-    (tie.spec
-    (λ c. search known)
-    (λ c κs. search known)
-    returns
-    (λ c κs. search known)
-    (λ c. search known)
-    returns-2)
+fit-line-spec = tie.close (tie.spec (λ c. search known) (λ c κs. search known) returns (λ c κs. search known) (λ c. search known) returns-2)

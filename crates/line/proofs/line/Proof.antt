@@ -53,15 +53,11 @@ returns-3 c =
 
 pub line-spec : {M : Type 1} → statement M
 line-spec =
-    tie.close
-    (tie.spec
-    (λ c. search known)
-    (λ c κs. search known)
+    tie.close (tie.spec
+    (λ c. search known) (λ c κs. search known)
     returns
-    (λ c κs. search known)
-    (λ c. search known)
+    (λ c κs. search known) (λ c. search known)
     put-figures-requires
-    (λ c. search known)
-    (λ c κs. search known)
+    (λ c. search known) (λ c κs. search known)
     returns-2
     returns-3)

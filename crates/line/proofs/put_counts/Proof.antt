@@ -24,13 +24,7 @@ returns c =
 
 pub put-counts-spec : {M : Type 1} → statement M
 put-counts-spec =
-    tie.close
-    (tie.spec
-    (λ c. search needs)
-    (λ c κs. search known)
-    (λ c. search needs)
-    (λ c κs. search known)
-    (λ c. search needs)
-    (λ c κs. search known)
+    tie.close (tie.spec
+    (λ c. search needs) (λ c κs. search known) (λ c. search needs) (λ c κs. search known) (λ c. search needs) (λ c κs. search known)
     (λ c. search known)
     returns)

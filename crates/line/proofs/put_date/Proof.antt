@@ -36,17 +36,7 @@ returns c =
 
 pub put-date-spec : {M : Type 1} → statement M
 put-date-spec =
-    tie.close
-    (tie.spec
-    (λ c. search needs)
-    (λ c κs. search known)
-    (λ c. search known)
-    (λ c κs. search known)
-    (λ c. search needs)
-    (λ c κs. search known)
-    (λ c. search known)
-    (λ c κs. search known)
-    (λ c. search needs)
-    (λ c κs. search known)
-    (λ c. search needs)
+    tie.close (tie.spec
+    (λ c. search needs) (λ c κs. search known) (λ c. search known) (λ c κs. search known) (λ c. search needs) (λ c κs. search known)
+    (λ c. search known) (λ c κs. search known) (λ c. search needs) (λ c κs. search known) (λ c. search needs)
     returns)

@@ -28,13 +28,7 @@ returns c =
 
 pub put-head-spec : {M : Type 1} → statement M
 put-head-spec =
-    tie.close
-    (tie.spec
-    (λ c κs. search known)
-    (λ c κs. search known)
-    (λ c. search needs)
-    (λ c κs. search known)
-    (λ c. search needs)
-    (λ c κs. search known)
+    tie.close (tie.spec
+    (λ c κs. search known) (λ c κs. search known) (λ c. search needs) (λ c κs. search known) (λ c. search needs) (λ c κs. search known)
     (λ c. search known)
     returns)

@@ -24,11 +24,4 @@ returns c =
     then (then (head-put .put-head .ensures) (counts-put .put-counts .ensures)) (field-put .put-field .ensures)
 
 pub put-line-spec : {M : Type 1} → statement M
-put-line-spec =
-    tie.close
-    (tie.spec
-    (λ c κs. search known)
-    (λ c κs. search known)
-    (λ c κs. search known)
-    (λ c. search known)
-    returns)
+put-line-spec = tie.close (tie.spec (λ c κs. search known) (λ c κs. search known) (λ c κs. search known) (λ c. search known) returns)

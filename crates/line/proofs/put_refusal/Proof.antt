@@ -23,12 +23,6 @@ returns c =
 
 pub put-refusal-spec : {M : Type 1} → statement M
 put-refusal-spec =
-    tie.close
-    (tie.spec
-    (λ c. search known)
-    (λ c κs. search known)
-    (λ c κs. search known)
-    (λ c. search known)
-    (λ c κs. search known)
-    (λ c. search known)
+    tie.close (tie.spec
+    (λ c. search known) (λ c κs. search known) (λ c κs. search known) (λ c. search known) (λ c κs. search known) (λ c. search known)
     returns)

@@ -79,13 +79,10 @@ returns-2 c =
 
 pub export-in-spec : {M : Type 1} → statement M
 export-in-spec =
-    tie.close
-    (tie.spec
+    tie.close (tie.spec
     body-length-requires
     (λ c κs. search known)
     returns
     put-body-requires
-    (λ c. search known)
-    (λ c κs. search known)
-    (λ c. search known)
+    (λ c. search known) (λ c κs. search known) (λ c. search known)
     returns-2)

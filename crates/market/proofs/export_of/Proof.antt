@@ -46,12 +46,10 @@ export-in-requires c κs = (
 
 pub export-of-spec : {M : Type 1} → statement M
 export-of-spec =
-    tie.close
-    (tie.spec
+    tie.close (tie.spec
     (λ c κs. search known)
     returns
     (λ c κs. search known)
     returns-2
     export-in-requires
-    (λ c. search known)
-    (λ c. search known))
+    (λ c. search known) (λ c. search known))

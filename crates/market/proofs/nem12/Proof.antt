@@ -27,12 +27,8 @@ returns-2 c = let a = start (c .before .before .before) .args in
 
 pub nem12-spec : {M : Type 1} → statement M
 nem12-spec =
-    tie.close
-    (tie.spec
-    (λ c κs. search known)
-    (λ c. search known)
+    tie.close (tie.spec
+    (λ c κs. search known) (λ c. search known)
     export-of-requires
-    (λ c. search known)
-    (λ c. search known)
-    (λ c. search known)
+    (λ c. search known) (λ c. search known) (λ c. search known)
     returns-2)

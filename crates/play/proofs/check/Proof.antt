@@ -25,12 +25,4 @@ returns-2 : tie.Need-returns-2
 returns-2 c = rw (c .before .opening2 .given .1) at (c .before .before .before .find-opening .ensures)
 
 pub check-spec : {M : Type 1} → statement M
-check-spec =
-    tie.close
-    (tie.spec
-    (λ c κs. search known)
-    (λ c. search known)
-    following-requires
-    (λ c. search known)
-    returns
-    returns-2)
+check-spec = tie.close (tie.spec (λ c κs. search known) (λ c. search known) following-requires (λ c. search known) returns returns-2)

@@ -58,8 +58,7 @@ returns-3 c = c .before .before .put-fitted .ensures
 
 pub publish-spec : {M : Type 1} → statement M
 publish-spec =
-    tie.close
-    (tie.spec
+    tie.close (tie.spec
     (λ c κs. search known)
     returns
     lists-fit-requires

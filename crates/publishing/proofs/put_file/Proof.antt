@@ -119,8 +119,7 @@ returns c =
 
 pub put-file-spec : {M : Type 1} → statement M
 put-file-spec =
-    tie.close
-    (tie.spec
+    tie.close (tie.spec
     slot-count-requires
     mul-table
     put-tables-requires

@@ -53,11 +53,4 @@ returns-2 c = let at-else = passed1 (c .before) in
     _ _ (c .before .before .put-sound .ensures)
 
 pub put-fitted-spec : {M : Type 1} → statement M
-put-fitted-spec =
-    tie.close
-    (tie.spec
-    book-ok-requires
-    returns
-    put-sound-requires
-    (λ c. search known)
-    returns-2)
+put-fitted-spec = tie.close (tie.spec book-ok-requires returns put-sound-requires (λ c. search known) returns-2)

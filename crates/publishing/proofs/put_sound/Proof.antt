@@ -58,12 +58,4 @@ returns-2 c =
     (past1 .before .length-of .ensures)) (past1 .if1 .left) _ (c .before .before .put-file .ensures)
 
 pub put-sound-spec : {M : Type 1} → statement M
-put-sound-spec =
-    tie.close
-    (tie.spec
-    (λ c κs. search known)
-    length-of-requires
-    returns
-    put-file-requires
-    (λ c. search known)
-    returns-2)
+put-sound-spec = tie.close (tie.spec (λ c κs. search known) length-of-requires returns put-file-requires (λ c. search known) returns-2)

@@ -21,13 +21,8 @@ returns-2 c = rw (after-enum-told2 (c .before) .enum-told2 .given .1) (c .before
 
 pub write-slot-spec : {M : Type 1} → statement M
 write-slot-spec =
-    tie.close
-    (tie.spec
-    (λ c. search known)
-    (λ c κs. search known)
-    (λ c. search known)
-    (λ c κs. search known)
-    (λ c. search known)
+    tie.close (tie.spec
+    (λ c. search known) (λ c κs. search known) (λ c. search known) (λ c κs. search known) (λ c. search known)
     returns
     (λ c. search known)
     returns-2)

@@ -21,12 +21,8 @@ returns-2 c = rw (sym (c .before .before .before .read .ensures) ∙ c .before .
 
 pub stays-spec : {M : Type 1} → statement M
 stays-spec =
-    tie.close
-    (tie.spec
-    (λ c κs. search known)
-    (λ c. search known)
+    tie.close (tie.spec
+    (λ c κs. search known) (λ c. search known)
     stays-in-requires
-    (λ c. search known)
-    (λ c. search known)
-    (λ c. search known)
+    (λ c. search known) (λ c. search known) (λ c. search known)
     returns-2)

@@ -63,8 +63,7 @@ returns-3 c =
 
 pub stays-in-spec : {M : Type 1} → statement M
 stays-in-spec =
-    tie.close
-    (tie.spec
+    tie.close (tie.spec
     (λ c κs. search known)
     returns
     (λ c κs. search known)

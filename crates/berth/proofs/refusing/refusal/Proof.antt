@@ -39,12 +39,4 @@ returns-3 c =
     (c .refusal-past-lengths .ensures)
 
 pub refusal-spec : {M : Type 1} → statement M
-refusal-spec =
-    tie.close
-    (tie.spec
-    (λ c κs. search known)
-    returns
-    book-fits-requires
-    returns-2
-    refusal-past-lengths-requires
-    returns-3)
+refusal-spec = tie.close (tie.spec (λ c κs. search known) returns book-fits-requires returns-2 refusal-past-lengths-requires returns-3)

@@ -60,8 +60,7 @@ returns c =
 
 pub report-spec : {M : Type 1} → statement M
 report-spec =
-    tie.close
-    (tie.spec
+    tie.close (tie.spec
     slot-count-requires
     mul-table
     add-number

@@ -35,12 +35,6 @@ returns c =
 
 pub read-dial-spec : {M : Type 1} → statement M
 read-dial-spec =
-    tie.close
-    (tie.spec
-    (λ c κs. search known)
-    (λ c. search needs)
-    (λ c κs. search known)
-    (λ c. search needs)
-    (λ c. search needs)
-    (λ c. search needs)
+    tie.close (tie.spec
+    (λ c κs. search known) (λ c. search needs) (λ c κs. search known) (λ c. search needs) (λ c. search needs) (λ c. search needs)
     returns)

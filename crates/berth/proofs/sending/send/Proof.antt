@@ -25,12 +25,7 @@ returns-2 c = let e = after-deliver (c .before) .deliver .ensures in
 
 pub send-spec : {M : Type 1} → statement M
 send-spec =
-    tie.close
-    (tie.spec
+    tie.close (tie.spec
     returns
-    (λ c κs. search known)
-    (λ c. search known)
-    (λ c. search known)
-    (λ c. search known)
-    (λ c. search known)
+    (λ c κs. search known) (λ c. search known) (λ c. search known) (λ c. search known) (λ c. search known)
     returns-2)

@@ -125,8 +125,7 @@ returns c =
 
 pub send-all-spec : {M : Type 1} → statement M
 send-all-spec =
-    tie.close
-    (tie.spec
+    tie.close (tie.spec
     Inv-loop
     μ-loop
     slot-count-requires
@@ -141,8 +140,5 @@ send-all-spec =
     add-slot
     (λ c. search needs)
     loop-again
-    (λ c. search known)
-    (λ c. search known)
-    (λ c. search known)
-    (λ c. search known)
+    (λ c. search known) (λ c. search known) (λ c. search known) (λ c. search known)
     returns)

@@ -46,27 +46,13 @@ returns-4 c = let e = after-agree (c .before) .agree .ensures in
 
 pub make-spec : {M : Type 1} → statement M
 make-spec =
-    tie.close
-    (tie.spec
-    (λ c. search known)
-    (λ c κs. search known)
-    (λ c. search known)
-    (λ c κs. search known)
-    (λ c. search known)
-    (λ c κs. search known)
-    (λ c. search known)
-    (λ c κs. search known)
-    (λ c. search known)
-    (λ c. search known)
-    (λ c. search known)
-    (λ c. search known)
+    tie.close (tie.spec
+    (λ c. search known) (λ c κs. search known) (λ c. search known) (λ c κs. search known) (λ c. search known) (λ c κs. search known)
+    (λ c. search known) (λ c κs. search known) (λ c. search known) (λ c. search known) (λ c. search known) (λ c. search known)
     returns
     (λ c. search known)
     returns-2
-    (λ c. search known)
-    (λ c. search known)
-    (λ c. search known)
+    (λ c. search known) (λ c. search known) (λ c. search known)
     returns-3
-    (λ c. search known)
-    (λ c. search known)
+    (λ c. search known) (λ c. search known)
     returns-4)

@@ -93,31 +93,17 @@ returns-3 c =
 
 pub file-delivery-spec : {M : Type 1} → statement M
 file-delivery-spec =
-    tie.close
-    (tie.spec
-    (λ c κs. search known)
-    (λ c. search needs)
-    (λ c. search needs)
+    tie.close (tie.spec
+    (λ c κs. search known) (λ c. search needs) (λ c. search needs)
     mul-count
     slice-read-count
     (λ c κs. search known)
     returns
-    (λ c. search needs)
-    (λ c. search needs)
-    (λ c. search needs)
-    (λ c κs. search known)
-    (λ c κs. search known)
-    (λ c. search needs)
-    (λ c. search needs)
-    (λ c. search needs)
-    (λ c. search needs)
-    (λ c. search needs)
+    (λ c. search needs) (λ c. search needs) (λ c. search needs) (λ c κs. search known) (λ c κs. search known) (λ c. search needs)
+    (λ c. search needs) (λ c. search needs) (λ c. search needs) (λ c. search needs)
     raised-requires
     mul-counts
     slice-write-counts
-    (λ c. search known)
-    (λ c. search known)
-    (λ c. search known)
-    (λ c. search known)
+    (λ c. search known) (λ c. search known) (λ c. search known) (λ c. search known)
     returns-2
     returns-3)

@@ -48,8 +48,7 @@ returns-4 c =
 
 pub cells-fit-spec : {M : Type 1} → statement M
 cells-fit-spec =
-    tie.close
-    (tie.spec
+    tie.close (tie.spec
     (λ c κs. search known)
     returns
     (λ c κs. search known)

@@ -77,8 +77,7 @@ returns-5 c = rw (found (c .before .before), sym (c .before .is-stored .ensures)
 
 pub file-number-spec : {M : Type 1} → statement M
 file-number-spec =
-    tie.close
-    (tie.spec
+    tie.close (tie.spec
     returns
     returns-2
     returns-3
@@ -86,13 +85,10 @@ file-number-spec =
     slice-read-against-agreed
     (λ c. search known)
     slice-read-against-agreed-2
-    (λ c κs. search known)
-    (λ c κs. search known)
-    (λ c. search known)
+    (λ c κs. search known) (λ c κs. search known) (λ c. search known)
     slice-write-numbers
     (λ c. search known)
     slice-write-versions
-    (λ c. search known)
-    (λ c. search known)
+    (λ c. search known) (λ c. search known)
     returns-4
     returns-5)

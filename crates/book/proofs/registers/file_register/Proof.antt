@@ -100,8 +100,7 @@ returns-6 c = rw (found (c .before .before), sym (c .before .is-stored .ensures)
 
 pub file-register-spec : {M : Type 1} → statement M
 file-register-spec =
-    tie.close
-    (tie.spec
+    tie.close (tie.spec
     returns
     returns-2
     returns-3
@@ -112,17 +111,13 @@ file-register-spec =
     slice-read-against-boundary-2
     (λ c. search known)
     slice-read-against-boundary-3
-    (λ c κs. search known)
-    (λ c κs. search known)
-    (λ c. search known)
+    (λ c κs. search known) (λ c κs. search known) (λ c. search known)
     slice-write-readings
     (λ c. search known)
     slice-write-versions
     cast-widths
     (λ c. search known)
     slice-write-widths
-    (λ c. search known)
-    (λ c. search known)
-    (λ c. search known)
+    (λ c. search known) (λ c. search known) (λ c. search known)
     returns-5
     returns-6)

@@ -96,19 +96,16 @@ returns-2 c = all-passed _ _ _ (c .before .loop .inv) (c .loop-test .left)
 
 pub bad-count-spec : {M : Type 1} → statement M
 bad-count-spec =
-    tie.close
-    (tie.spec
+    tie.close (tie.spec
     Inv-loop
     μ-loop
     loop-holds
     slots-per-day-requires
-    (λ c. search known)
-    (λ c. omega arith)
+    (λ c. search known) (λ c. omega arith)
     cast-count
     mul-delivered
     delivered-requires
     returns
-    (λ c. omega arith)
-    (λ c. omega arith)
+    (λ c. omega arith) (λ c. omega arith)
     loop-again
     returns-2)

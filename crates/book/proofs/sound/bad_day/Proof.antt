@@ -40,15 +40,12 @@ returns-2 c =
 
 pub bad-day-spec : {M : Type 1} → statement M
 bad-day-spec =
-    tie.close
-    (tie.spec
+    tie.close (tie.spec
     Inv-loop
     μ-loop
     loop-holds
-    (λ c. omega arith)
-    (λ c κs. search known)
+    (λ c. omega arith) (λ c κs. search known)
     returns
-    (λ c. omega arith)
-    (λ c. omega arith)
+    (λ c. omega arith) (λ c. omega arith)
     loop-again
     returns-2)

@@ -43,20 +43,13 @@ returns-2 c =
 
 pub bad-read-spec : {M : Type 1} → statement M
 bad-read-spec =
-    tie.close
-    (tie.spec
+    tie.close (tie.spec
     Inv-loop
     μ-loop
     loop-holds
-    (λ c. search known)
-    (λ c. omega arith)
-    (λ c. search known)
-    (λ c. omega arith)
-    (λ c. search needs)
-    (λ c. omega arith)
+    (λ c. search known) (λ c. omega arith) (λ c. search known) (λ c. omega arith) (λ c. search needs) (λ c. omega arith)
     (λ c κs. search known)
     returns
-    (λ c. omega arith)
-    (λ c. omega arith)
+    (λ c. omega arith) (λ c. omega arith)
     loop-again
     returns-2)

@@ -60,18 +60,11 @@ returns c =
 
 pub bad-slot-spec : {M : Type 1} → statement M
 bad-slot-spec =
-    tie.close
-    (tie.spec
+    tie.close (tie.spec
     Inv-loop
     μ-loop
     loop-holds
-    (λ c. search known)
-    (λ c. omega arith)
-    (λ c. search known)
-    (λ c. omega arith)
-    (λ c. omega arith)
-    (λ c κs. search known)
-    (λ c. omega arith)
-    (λ c. omega arith)
+    (λ c. search known) (λ c. omega arith) (λ c. search known) (λ c. omega arith) (λ c. omega arith) (λ c κs. search known)
+    (λ c. omega arith) (λ c. omega arith)
     loop-again
     returns)

@@ -108,8 +108,7 @@ returns-4 c =
 
 pub cells-ok-spec : {M : Type 1} → statement M
 cells-ok-spec =
-    tie.close
-    (tie.spec
+    tie.close (tie.spec
     bad-slot-requires
     returns
     (λ c κs. search known)

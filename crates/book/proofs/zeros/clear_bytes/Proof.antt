@@ -25,14 +25,11 @@ returns c = cleared-all _ _ _ (c .before .loop .inv) (c .loop-test .left)
 
 pub clear-bytes-spec : {M : Type 1} → statement M
 clear-bytes-spec =
-    tie.close
-    (tie.spec
+    tie.close (tie.spec
     Inv-loop
     μ-loop
     loop-holds
-    (λ c. search known)
-    (λ c. search needs)
-    (λ c. search needs)
+    (λ c. search known) (λ c. search needs) (λ c. search needs)
     loop-again
     (λ c. search known)
     returns)

@@ -80,13 +80,8 @@ same-length-10 c = after-widths2 (c .before) .widths2 .given ∙ after-widths (c
 
 pub publish-lent-spec : {M : Type 1} → statement M
 publish-lent-spec =
-    tie.close
-    (tie.spec
-    (λ c κs. search needs)
-    (λ c κs. search needs)
-    (λ c κs. search needs)
-    (λ c κs. search needs)
-    (λ c κs. search needs)
+    tie.close (tie.spec
+    (λ c κs. search needs) (λ c κs. search needs) (λ c κs. search needs) (λ c κs. search needs) (λ c κs. search needs)
     (λ c κs. search needs)
     same-length
     same-length-2
@@ -98,5 +93,4 @@ publish-lent-spec =
     same-length-8
     same-length-9
     same-length-10
-    (λ c. search needs)
-    (λ c. search needs))
+    (λ c. search needs) (λ c. search needs))

@@ -37,11 +37,8 @@ slice-aggregate-publish-lent-10 c = sym (length-take-le _ _ (search needs))
 
 pub publish-rows-spec : {M : Type 1} → statement M
 publish-rows-spec =
-    tie.close
-    (tie.spec
-    (λ c κs. search needs)
-    (λ c κs. search needs)
-    (λ c. search needs)
+    tie.close (tie.spec
+    (λ c κs. search needs) (λ c κs. search needs) (λ c. search needs)
     slice-aggregate-publish-lent
     (λ c. search needs)
     slice-aggregate-publish-lent-2
@@ -49,11 +46,9 @@ publish-rows-spec =
     slice-aggregate-publish-lent-3
     (λ c. search needs)
     slice-aggregate-publish-lent-4
-    (λ c. search needs)
-    (λ c. search needs)
+    (λ c. search needs) (λ c. search needs)
     slice-aggregate-publish-lent-5
-    (λ c. search needs)
-    (λ c. search needs)
+    (λ c. search needs) (λ c. search needs)
     slice-aggregate-publish-lent-6
     (λ c. search needs)
     slice-aggregate-publish-lent-7
@@ -61,9 +56,6 @@ publish-rows-spec =
     slice-aggregate-publish-lent-8
     (λ c. search needs)
     slice-aggregate-publish-lent-9
-    (λ c. search needs)
-    (λ c. search needs)
+    (λ c. search needs) (λ c. search needs)
     slice-aggregate-publish-lent-10
-    (λ c κs. search needs)
-    (λ c. search needs)
-    (λ c. search needs))
+    (λ c κs. search needs) (λ c. search needs) (λ c. search needs))

@@ -10,11 +10,7 @@ slice-aggregate-publish-rows c = sym (length-take-le _ _ (search needs))
 
 pub publish-before-spec : {M : Type 1} → statement M
 publish-before-spec =
-    tie.close
-    (tie.spec
-    (λ c. search needs)
-    (λ c. search needs)
+    tie.close (tie.spec
+    (λ c. search needs) (λ c. search needs)
     slice-aggregate-publish-rows
-    (λ c κs. search needs)
-    (λ c. search needs)
-    (λ c. search needs))
+    (λ c κs. search needs) (λ c. search needs) (λ c. search needs))

@@ -96,8 +96,7 @@ returns c = let a = (start-at-loop (c .before)) .args in
 
 pub fills-before-spec : {M : Type 1} → statement M
 fills-before-spec =
-    tie.close
-    (tie.spec
+    tie.close (tie.spec
     Inv-loop
     μ-loop
     since-good-requires
@@ -105,7 +104,6 @@ fills-before-spec =
     loop-holds
     outage-zero-requires
     line-on-requires
-    (λ c. omega arith)
-    (λ c. omega arith)
+    (λ c. omega arith) (λ c. omega arith)
     loop-again
     returns)

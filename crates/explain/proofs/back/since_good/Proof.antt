@@ -54,8 +54,7 @@ returns-2 c = record { low = c .before .loop .inv .inside; good = λ z. absurd (
 
 pub since-good-spec : {M : Type 1} → statement M
 since-good-spec =
-    tie.close
-    (tie.spec
+    tie.close (tie.spec
     Inv-loop
     μ-loop
     loop-holds

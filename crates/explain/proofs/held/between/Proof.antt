@@ -102,8 +102,7 @@ returns c = let a = (entry (after-slots-per-day c)) .args in
 
 pub between-spec : {M : Type 1} → statement M
 between-spec =
-    tie.close
-    (tie.spec
+    tie.close (tie.spec
     (λ c κs. search known)
     mul-start
     (λ c. search needs)

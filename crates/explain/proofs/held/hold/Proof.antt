@@ -158,20 +158,15 @@ returns-3 c =
 
 pub hold-spec : {M : Type 1} → statement M
 hold-spec =
-    tie.close
-    (tie.spec
+    tie.close (tie.spec
     slots-per-day-requires
     div-day
     last-read-requires
-    (λ c. search known)
-    (λ c. search known)
-    (λ c κs. search known)
+    (λ c. search known) (λ c. search known) (λ c κs. search known)
     returns
     add-next-read
     next-read-requires
-    (λ c. search known)
-    (λ c. search known)
-    (λ c κs. search known)
+    (λ c. search known) (λ c. search known) (λ c κs. search known)
     returns-2
     between-requires
     returns-3)

@@ -60,16 +60,13 @@ returns-3 c = let r = (start (c .before)) .args .read-versions .now in
 
 pub last-read-spec : {M : Type 1} → statement M
 last-read-spec =
-    tie.close
-    (tie.spec
+    tie.close (tie.spec
     Inv-loop
     μ-loop
     loop-holds
-    (λ c. search needs)
-    (λ c. omega arith)
+    (λ c. search needs) (λ c. omega arith)
     returns
-    (λ c. omega arith)
-    (λ c. omega arith)
+    (λ c. omega arith) (λ c. omega arith)
     loop-again
     (λ c. omega arith)
     returns-2

@@ -133,8 +133,7 @@ returns-5 c =
 
 pub slot-at-spec : {M : Type 1} → statement M
 slot-at-spec =
-    tie.close
-    (tie.spec
+    tie.close (tie.spec
     (λ c κs. search known)
     returns
     first-day-requires

@@ -31,12 +31,4 @@ returns-3 c =
     rw (sym (c .before .before .before .is-substituted .ensures) ∙ not-false _ (c .before .before .if1 .left), ne-eqb _ _ (c .if2 .left))
 
 pub shares-by-spec : {M : Type 1} → statement M
-shares-by-spec =
-    tie.close
-    (tie.spec
-    (λ c κs. search known)
-    (λ c κs. search known)
-    returns
-    (λ c κs. search known)
-    returns-2
-    returns-3)
+shares-by-spec = tie.close (tie.spec (λ c κs. search known) (λ c κs. search known) returns (λ c κs. search known) returns-2 returns-3)

@@ -65,14 +65,12 @@ returns c =
 
 pub totals-spec : {M : Type 1} → statement M
 totals-spec =
-    tie.close
-    (tie.spec
+    tie.close (tie.spec
     Inv-loop
     μ-loop
     loop-holds
     (λ c κs. search needs)
     with-slot-requires
-    (λ c. search needs)
-    (λ c. search needs)
+    (λ c. search needs) (λ c. search needs)
     loop-again
     returns)

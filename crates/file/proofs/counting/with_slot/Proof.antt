@@ -33,16 +33,10 @@ with-rest-requires c κs =
 
 pub with-slot-spec : {M : Type 1} → statement M
 with-slot-spec =
-    tie.close
-    (tie.spec
+    tie.close (tie.spec
     (λ c κs. search known)
     with-plain-requires
-    (λ c. search known)
-    (λ c κs. search known)
-    (λ c. search known)
-    (λ c κs. search known)
-    (λ c. search known)
-    (λ c κs. search known)
+    (λ c. search known) (λ c κs. search known) (λ c. search known) (λ c κs. search known) (λ c. search known) (λ c κs. search known)
     (λ c. search known)
     with-rest-requires
     (λ c. search known))

@@ -63,16 +63,13 @@ returns c =
 
 pub number-spec : {M : Type 1} → statement M
 number-spec =
-    tie.close
-    (tie.spec
+    tie.close (tie.spec
     Inv-loop
     μ-loop
     loop-holds
     (λ c. search known)
     mul-n
-    (λ c. search needs)
-    (λ c. search needs)
-    (λ c κs. search known)
+    (λ c. search needs) (λ c. search needs) (λ c κs. search known)
     add-n
     (λ c. search needs)
     loop-again

@@ -57,16 +57,12 @@ returns-2 c =
 
 pub has-kind-spec : {M : Type 1} → statement M
 has-kind-spec =
-    tie.close
-    (tie.spec
+    tie.close (tie.spec
     Inv-loop
     μ-loop
     loop-holds
-    (λ c. search needs)
-    (λ c κs. search needs)
-    (λ c κs. search known)
+    (λ c. search needs) (λ c κs. search needs) (λ c κs. search known)
     returns
-    (λ c. search needs)
-    (λ c. search needs)
+    (λ c. search needs) (λ c. search needs)
     loop-again
     returns-2)

@@ -21,14 +21,8 @@ returns-5 c = rw (c .before .before .enum-told4 .given .1, ne-eqb _ _ (c .if1 .l
 
 pub is-kind-spec : {M : Type 1} → statement M
 is-kind-spec =
-    tie.close
-    (tie.spec
-    (λ c. search known)
-    (λ c. search known)
-    (λ c. search known)
-    (λ c κs. search known)
-    (λ c. search known)
-    (λ c κs. search known)
+    tie.close (tie.spec
+    (λ c. search known) (λ c. search known) (λ c. search known) (λ c κs. search known) (λ c. search known) (λ c κs. search known)
     returns
     returns-2
     returns-3

@@ -10,13 +10,7 @@ returns c = rw (slot-at _ _, c .before .before .number .ensures .0)
 
 pub slot-at-spec : {M : Type 1} → statement M
 slot-at-spec =
-    tie.close
-    (tie.spec
-    (λ c. search needs)
-    (λ c κs. search needs)
-    (λ c. search known)
-    (λ c. search needs)
-    (λ c. search needs)
-    (λ c. search needs)
+    tie.close (tie.spec
+    (λ c. search needs) (λ c κs. search needs) (λ c. search known) (λ c. search needs) (λ c. search needs) (λ c. search needs)
     (λ c. search needs)
     returns)

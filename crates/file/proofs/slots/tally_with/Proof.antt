@@ -31,14 +31,8 @@ returns-2 c = λ k. let args = before (after-is-kindless c) .args in record {
 
 pub tally-with-spec : {M : Type 1} → statement M
 tally-with-spec =
-    tie.close
-    (tie.spec
-    (λ c. search needs)
-    (λ c. search needs)
-    (λ c κs. search known)
+    tie.close (tie.spec
+    (λ c. search needs) (λ c. search needs) (λ c κs. search known)
     returns
-    (λ c κs. search known)
-    (λ c κs. search known)
-    (λ c κs. search known)
-    (λ c κs. search known)
+    (λ c κs. search known) (λ c κs. search known) (λ c κs. search known) (λ c κs. search known)
     returns-2)

@@ -115,21 +115,14 @@ returns-3 c =
 
 pub outside-ok-spec : {M : Type 1} → statement M
 outside-ok-spec =
-    tie.close
-    (tie.spec
-    (λ c κs. search known)
-    (λ c. search needs)
-    (λ c κs. search needs)
+    tie.close (tie.spec
+    (λ c κs. search known) (λ c. search needs) (λ c κs. search needs)
     returns
-    (λ c κs. search known)
-    (λ c κs. search needs)
-    (λ c. search needs)
+    (λ c κs. search known) (λ c κs. search needs) (λ c. search needs)
     mul-start
     has-kind-requires-2
     returns-2
-    (λ c. search needs)
-    (λ c κs. search needs)
-    (λ c. search needs)
+    (λ c. search needs) (λ c κs. search needs) (λ c. search needs)
     mul-end
     sub-has-kind
     has-kind-requires-3

@@ -45,15 +45,10 @@ returns-2 c =
 
 pub span-at-spec : {M : Type 1} → statement M
 span-at-spec =
-    tie.close
-    (tie.spec
-    (λ c κs. search known)
-    (λ c. search needs)
-    (λ c. search needs)
-    (λ c. search needs)
+    tie.close (tie.spec
+    (λ c κs. search known) (λ c. search needs) (λ c. search needs) (λ c. search needs)
     ranged-from-requires
     returns
-    (λ c. search needs)
-    (λ c. search needs)
+    (λ c. search needs) (λ c. search needs)
     exact-from-requires
     returns-2)

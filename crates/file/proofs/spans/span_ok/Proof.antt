@@ -52,8 +52,7 @@ returns-4 c =
 
 pub span-ok-spec : {M : Type 1} → statement M
 span-ok-spec =
-    tie.close
-    (tie.spec
+    tie.close (tie.spec
     (λ c κs. search known)
     returns
     returns-2

@@ -58,15 +58,13 @@ returns-2 c = sym (c .before .loop .inv .known ∙ all-done _ (c .before .loop .
 
 pub spans-ok-spec : {M : Type 1} → statement M
 spans-ok-spec =
-    tie.close
-    (tie.spec
+    tie.close (tie.spec
     Inv-loop
     μ-loop
     (λ c. search needs)
     loop-holds
     (λ c κs. search known)
     returns
-    (λ c. search needs)
-    (λ c. search needs)
+    (λ c. search needs) (λ c. search needs)
     loop-again
     returns-2)

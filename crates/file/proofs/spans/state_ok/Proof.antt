@@ -56,16 +56,12 @@ returns c = let s = after-per-day c .before .span-at .ensures in
 
 pub state-ok-spec : {M : Type 1} → statement M
 state-ok-spec =
-    tie.close
-    (tie.spec
-    (λ c κs. search known)
-    (λ c κs. search known)
-    (λ c. search needs)
+    tie.close (tie.spec
+    (λ c κs. search known) (λ c κs. search known) (λ c. search needs)
     mul-a
     sub-k
     (λ c. search needs)
     mul-k
     tally-of-requires
-    (λ c κs. search known)
-    (λ c κs. search known)
+    (λ c κs. search known) (λ c κs. search known)
     returns)

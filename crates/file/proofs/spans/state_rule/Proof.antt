@@ -55,15 +55,4 @@ returns-9 c =
     simp (ne-eqb _ _ (if1 .left), ne-eqb _ _ (if4 .left), ne-eqb _ _ (c .if8 .left), if3 .left, c .before .if7 .left)
 
 pub state-rule-spec : {M : Type 1} → statement M
-state-rule-spec =
-    tie.close
-    (tie.spec
-    returns
-    returns-2
-    returns-3
-    returns-4
-    returns-5
-    returns-6
-    returns-7
-    returns-8
-    returns-9)
+state-rule-spec = tie.close (tie.spec returns returns-2 returns-3 returns-4 returns-5 returns-6 returns-7 returns-8 returns-9)

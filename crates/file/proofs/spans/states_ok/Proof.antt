@@ -63,15 +63,13 @@ returns-2 c = sym (c .before .loop .inv .known ∙ all-done _ (c .before .loop .
 
 pub states-ok-spec : {M : Type 1} → statement M
 states-ok-spec =
-    tie.close
-    (tie.spec
+    tie.close (tie.spec
     Inv-loop
     μ-loop
     (λ c. search needs)
     loop-holds
     state-ok-requires
     returns
-    (λ c. search needs)
-    (λ c. search needs)
+    (λ c. search needs) (λ c. search needs)
     loop-again
     returns-2)

@@ -47,32 +47,12 @@ returns c =
 
 pub figures-at-spec : {M : Type 1} → statement M
 figures-at-spec =
-    tie.close
-    (tie.spec
-    (λ c. search known)
-    (λ c κs. search needs)
-    (λ c. search needs)
-    (λ c. search needs)
-    (λ c κs. search needs)
-    (λ c. search needs)
-    (λ c. search needs)
-    (λ c. search needs)
+    tie.close (tie.spec
+    (λ c. search known) (λ c κs. search needs) (λ c. search needs) (λ c. search needs) (λ c κs. search needs) (λ c. search needs)
+    (λ c. search needs) (λ c. search needs)
     cast-t11
-    (λ c. search needs)
-    (λ c κs. search needs)
-    (λ c. search needs)
-    (λ c. search needs)
-    (λ c κs. search needs)
-    (λ c. search known)
-    (λ c. search needs)
-    (λ c κs. search needs)
-    (λ c. search known)
-    (λ c. search needs)
-    (λ c κs. search needs)
-    (λ c. search known)
-    (λ c. search needs)
-    (λ c κs. search needs)
-    (λ c. search needs)
-    (λ c. search needs)
+    (λ c. search needs) (λ c κs. search needs) (λ c. search needs) (λ c. search needs) (λ c κs. search needs) (λ c. search known)
+    (λ c. search needs) (λ c κs. search needs) (λ c. search known) (λ c. search needs) (λ c κs. search needs) (λ c. search known)
+    (λ c. search needs) (λ c κs. search needs) (λ c. search needs) (λ c. search needs)
     cast-t29
     returns)

@@ -45,14 +45,10 @@ returns-4 c =
 
 pub head-ok-spec : {M : Type 1} → statement M
 head-ok-spec =
-    tie.close
-    (tie.spec
+    tie.close (tie.spec
     (λ c κs. search known)
     returns
     returns-2
     returns-3
-    (λ c. search needs)
-    (λ c. search needs)
-    (λ c. search needs)
-    (λ c. search known)
+    (λ c. search needs) (λ c. search needs) (λ c. search needs) (λ c. search known)
     returns-4)

@@ -83,19 +83,13 @@ returns-4 c =
 
 pub trailer-ok-spec : {M : Type 1} → statement M
 trailer-ok-spec =
-    tie.close
-    (tie.spec
-    (λ c. search known)
-    (λ c κs. search known)
+    tie.close (tie.spec
+    (λ c. search known) (λ c κs. search known)
     returns
     (λ c κs. search known)
     returns-2
-    (λ c. search needs)
-    (λ c κs. search needs)
-    (λ c κs. search known)
+    (λ c. search needs) (λ c κs. search needs) (λ c κs. search known)
     returns-3
     slot-count-requires
-    (λ c. search needs)
-    (λ c. search needs)
-    (λ c. search needs)
+    (λ c. search needs) (λ c. search needs) (λ c. search needs)
     returns-4)

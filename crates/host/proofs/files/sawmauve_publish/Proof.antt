@@ -20,10 +20,6 @@ returns c =
 
 pub sawmauve-publish-spec : {M : Type 1} → statement M
 sawmauve-publish-spec =
-    tie.close
-    (tie.spec
-    (λ c κs. search known)
-    (λ c κs. search known)
-    (λ c κs. search known)
-    (λ c. search known)
+    tie.close (tie.spec
+    (λ c κs. search known) (λ c κs. search known) (λ c κs. search known) (λ c. search known)
     returns)

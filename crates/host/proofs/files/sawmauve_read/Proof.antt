@@ -86,15 +86,9 @@ returns-3 c =
 
 pub sawmauve-read-spec : {M : Type 1} → statement M
 sawmauve-read-spec =
-    tie.close
-    (tie.spec
+    tie.close (tie.spec
     returns
-    (λ c κs. search known)
-    (λ c. search known)
-    (λ c. search needs)
-    (λ c. search needs)
-    (λ c. search needs)
-    (λ c. search needs)
+    (λ c κs. search known) (λ c. search known) (λ c. search needs) (λ c. search needs) (λ c. search needs) (λ c. search needs)
     (λ c. search needs)
     slice-write-figures-3
     (λ c. search needs)
@@ -108,8 +102,7 @@ sawmauve-read-spec =
     slice-write-figures-8
     (λ c. search needs)
     slice-write-figures-9
-    (λ c. search known)
-    (λ c. search needs)
+    (λ c. search known) (λ c. search needs)
     same-length
     returns-2
     returns-3)

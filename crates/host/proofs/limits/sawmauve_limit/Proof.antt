@@ -14,12 +14,7 @@ returns-2 c = ap limitCode (sym (c .before .loaded2 .given .1) ∙ c .before .be
 
 pub sawmauve-limit-spec : {M : Type 1} → statement M
 sawmauve-limit-spec =
-    tie.close
-    (tie.spec
-    (λ c κs. search known)
-    (λ c. search known)
-    (λ c. search known)
-    (λ c. search needs)
-    (λ c. search needs)
+    tie.close (tie.spec
+    (λ c κs. search known) (λ c. search known) (λ c. search known) (λ c. search needs) (λ c. search needs)
     returns
     returns-2)

@@ -64,16 +64,11 @@ returns c = let a = start c .args in
 
 pub put-digits-spec : {M : Type 1} → statement M
 put-digits-spec =
-    tie.close
-    (tie.spec
+    tie.close (tie.spec
     Inv-loop
     μ-loop
     loop-holds
-    (λ c. search known)
-    (λ c. search needs)
-    (λ c. search needs)
-    (λ c κs. search known)
-    (λ c. search needs)
+    (λ c. search known) (λ c. search needs) (λ c. search needs) (λ c κs. search known) (λ c. search needs)
     loop-again
     (λ c κs. search known)
     same-length

@@ -20,14 +20,10 @@ returns-3 c = λ t.
 
 pub delivery-at-spec : {M : Type 1} → statement M
 delivery-at-spec =
-    tie.close
-    (tie.spec
-    (λ c. search known)
-    (λ c κs. search known)
+    tie.close (tie.spec
+    (λ c. search known) (λ c κs. search known)
     returns
-    (λ c. search needs)
-    (λ c κs. search needs)
-    (λ c κs. search known)
+    (λ c. search needs) (λ c κs. search needs) (λ c κs. search known)
     returns-2
     (λ c κs. search needs)
     returns-3)

@@ -24,12 +24,10 @@ returns-3 c = λ some.
 
 pub delivery-end-spec : {M : Type 1} → statement M
 delivery-end-spec =
-    tie.close
-    (tie.spec
+    tie.close (tie.spec
     (λ c. search known)
     returns
-    (λ c. search needs)
-    (λ c κs. search needs)
+    (λ c. search needs) (λ c κs. search needs)
     returns-2
     (λ c κs. search needs)
     returns-3)

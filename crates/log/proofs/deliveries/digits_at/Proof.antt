@@ -55,8 +55,7 @@ returns-3 c =
 
 pub digits-at-spec : {M : Type 1} → statement M
 digits-at-spec =
-    tie.close
-    (tie.spec
+    tie.close (tie.spec
     Inv-loop
     μ-loop
     (λ c. search needs)
@@ -67,7 +66,6 @@ digits-at-spec =
     mul-value
     (λ c. search needs)
     add-value
-    (λ c. search needs)
-    (λ c. search needs)
+    (λ c. search needs) (λ c. search needs)
     loop-again
     returns-3)

@@ -51,8 +51,7 @@ returns-3 c =
 
 pub digits-end-spec : {M : Type 1} → statement M
 digits-end-spec =
-    tie.close
-    (tie.spec
+    tie.close (tie.spec
     Inv-loop
     μ-loop
     (λ c. search needs)
@@ -60,7 +59,6 @@ digits-end-spec =
     (λ c. search needs)
     returns
     returns-2
-    (λ c. search needs)
-    (λ c. search needs)
+    (λ c. search needs) (λ c. search needs)
     loop-again
     returns-3)

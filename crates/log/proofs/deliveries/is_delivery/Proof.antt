@@ -35,15 +35,10 @@ returns-3 c = λ t.
 
 pub is-delivery-spec : {M : Type 1} → statement M
 is-delivery-spec =
-    tie.close
-    (tie.spec
-    (λ c κs. search needs)
-    (λ c κs. search known)
+    tie.close (tie.spec
+    (λ c κs. search needs) (λ c κs. search known)
     returns
-    (λ c. search needs)
-    (λ c κs. search needs)
-    (λ c κs. search known)
+    (λ c. search needs) (λ c κs. search needs) (λ c κs. search known)
     returns-2
-    (λ c. search needs)
-    (λ c. search needs)
+    (λ c. search needs) (λ c. search needs)
     returns-3)

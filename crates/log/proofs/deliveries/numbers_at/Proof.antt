@@ -80,10 +80,8 @@ returns-5 c = λ t.
 
 pub numbers-at-spec : {M : Type 1} → statement M
 numbers-at-spec =
-    tie.close
-    (tie.spec
-    (λ c κs. search needs)
-    (λ c κs. search known)
+    tie.close (tie.spec
+    (λ c κs. search needs) (λ c κs. search known)
     returns
     field-at-requires-2
     (λ c κs. search known)

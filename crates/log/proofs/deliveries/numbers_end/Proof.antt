@@ -84,8 +84,7 @@ returns-4 c = λ some.
 
 pub numbers-end-spec : {M : Type 1} → statement M
 numbers-end-spec =
-    tie.close
-    (tie.spec
+    tie.close (tie.spec
     (λ c κs. search needs)
     returns
     field-end-requires-2

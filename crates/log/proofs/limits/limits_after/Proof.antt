@@ -86,22 +86,14 @@ returns-3 c =
 
 pub limits-after-spec : {M : Type 1} → statement M
 limits-after-spec =
-    tie.close
-    (tie.spec
+    tie.close (tie.spec
     Inv-loop
     μ-loop
     loop-holds
     (λ c κs. search known)
     returns
-    (λ c. search needs)
-    (λ c κs. search needs)
-    (λ c. search known)
-    (λ c. search known)
-    (λ c. search known)
-    (λ c κs. search known)
-    (λ c. search known)
-    (λ c. search known)
-    (λ c κs. search known)
+    (λ c. search needs) (λ c κs. search needs) (λ c. search known) (λ c. search known) (λ c. search known) (λ c κs. search known)
+    (λ c. search known) (λ c. search known) (λ c κs. search known)
     returns-2
     (λ c. search needs)
     array-write-values

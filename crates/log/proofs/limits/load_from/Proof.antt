@@ -38,10 +38,8 @@ returns-2 c = c .load2 .ensures
 
 pub load-from-spec : {M : Type 1} → statement M
 load-from-spec =
-    tie.close
-    (tie.spec
-    (λ c. search needs)
-    (λ c κs. search known)
+    tie.close (tie.spec
+    (λ c. search needs) (λ c κs. search known)
     returns
     array-share-prefix-values
     slice-aggregate-load-2

@@ -25,11 +25,8 @@ returns-2 c =
 
 pub agreed-after-spec : {M : Type 1} → statement M
 agreed-after-spec =
-    tie.close
-    (tie.spec
+    tie.close (tie.spec
     (λ c κs. search known)
     returns
-    (λ c. search known)
-    (λ c. search known)
-    (λ c. search known)
+    (λ c. search known) (λ c. search known) (λ c. search known)
     returns-2)

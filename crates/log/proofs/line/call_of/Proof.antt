@@ -115,28 +115,17 @@ returns-6 c =
 
 pub call-of-spec : {M : Type 1} → statement M
 call-of-spec =
-    tie.close
-    (tie.spec
+    tie.close (tie.spec
     (λ c κs. search known)
     slice-aggregate-word
-    (λ c. search known)
-    (λ c κs. search known)
-    (λ c κs. search known)
+    (λ c. search known) (λ c κs. search known) (λ c κs. search known)
     returns
-    (λ c. search known)
-    (λ c κs. search known)
-    (λ c κs. search known)
+    (λ c. search known) (λ c κs. search known) (λ c κs. search known)
     returns-2
-    (λ c. search known)
-    (λ c κs. search known)
-    (λ c κs. search known)
+    (λ c. search known) (λ c κs. search known) (λ c κs. search known)
     returns-3
-    (λ c. search known)
-    (λ c κs. search known)
-    (λ c κs. search known)
+    (λ c. search known) (λ c κs. search known) (λ c κs. search known)
     returns-4
-    (λ c. search known)
-    (λ c κs. search known)
-    (λ c κs. search known)
+    (λ c. search known) (λ c κs. search known) (λ c κs. search known)
     returns-5
     returns-6)

@@ -56,13 +56,10 @@ returns-4 c =
 
 pub entry-of-spec : {M : Type 1} → statement M
 entry-of-spec =
-    tie.close
-    (tie.spec
-    (λ c κs. search known)
-    (λ c κs. search known)
+    tie.close (tie.spec
+    (λ c κs. search known) (λ c κs. search known)
     returns
-    (λ c. search needs)
-    (λ c κs. search known)
+    (λ c. search needs) (λ c κs. search known)
     returns-2
     (λ c κs. search known)
     returns-3

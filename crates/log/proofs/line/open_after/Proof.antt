@@ -61,22 +61,12 @@ returns-4 c =
 
 pub open-after-spec : {M : Type 1} → statement M
 open-after-spec =
-    tie.close
-    (tie.spec
+    tie.close (tie.spec
     returns
-    (λ c. search needs)
-    (λ c κs. search needs)
-    (λ c. search known)
-    (λ c. search known)
-    (λ c. search known)
-    (λ c κs. search known)
-    (λ c. search known)
-    (λ c. search known)
+    (λ c. search needs) (λ c κs. search needs) (λ c. search known) (λ c. search known) (λ c. search known) (λ c κs. search known)
+    (λ c. search known) (λ c. search known)
     returns-2
     (λ c κs. search known)
     returns-3
-    (λ c. search known)
-    (λ c. search known)
-    (λ c. search known)
-    (λ c. search known)
+    (λ c. search known) (λ c. search known) (λ c. search known) (λ c. search known)
     returns-4)

@@ -25,13 +25,8 @@ returns-2 c =
 
 pub register-after-spec : {M : Type 1} → statement M
 register-after-spec =
-    tie.close
-    (tie.spec
-    (λ c κs. search known)
-    (λ c κs. search known)
+    tie.close (tie.spec
+    (λ c κs. search known) (λ c κs. search known)
     returns
-    (λ c. search known)
-    (λ c. search known)
-    (λ c. search known)
-    (λ c. search known)
+    (λ c. search known) (λ c. search known) (λ c. search known) (λ c. search known)
     returns-2)

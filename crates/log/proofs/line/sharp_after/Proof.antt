@@ -24,12 +24,4 @@ returns-2 c =
     (at-values-after .values-after .ensures .1 (not-false _ (c .before .before .before .if1 .left)))
 
 pub sharp-after-spec : {M : Type 1} → statement M
-sharp-after-spec =
-    tie.close
-    (tie.spec
-    (λ c κs. search known)
-    returns
-    (λ c. search known)
-    (λ c. search known)
-    (λ c. search known)
-    returns-2)
+sharp-after-spec = tie.close (tie.spec (λ c κs. search known) returns (λ c. search known) (λ c. search known) (λ c. search known) returns-2)

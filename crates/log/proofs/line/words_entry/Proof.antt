@@ -36,14 +36,10 @@ returns-2 c =
 
 pub words-entry-spec : {M : Type 1} → statement M
 words-entry-spec =
-    tie.close
-    (tie.spec
+    tie.close (tie.spec
     (λ c κs. search known)
     slice-aggregate-is-same
-    (λ c. search known)
-    (λ c κs. search known)
-    (λ c κs. search known)
+    (λ c. search known) (λ c κs. search known) (λ c κs. search known)
     returns
-    (λ c κs. search known)
-    (λ c κs. search known)
+    (λ c κs. search known) (λ c κs. search known)
     returns-2)

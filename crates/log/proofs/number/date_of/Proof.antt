@@ -82,30 +82,17 @@ returns-7 c =
 
 pub date-of-spec : {M : Type 1} → statement M
 date-of-spec =
-    tie.close
-    (tie.spec
+    tie.close (tie.spec
     returns
     (λ c. search needs)
     returns-2
     (λ c. search needs)
     returns-3
     slice-aggregate-number-of
-    (λ c κs. search known)
-    (λ c. search known)
-    (λ c. search known)
+    (λ c κs. search known) (λ c. search known) (λ c. search known)
     returns-4
-    (λ c. search known)
-    (λ c. search known)
-    (λ c. search needs)
-    (λ c κs. search known)
-    (λ c. search known)
-    (λ c. search known)
+    (λ c. search known) (λ c. search known) (λ c. search needs) (λ c κs. search known) (λ c. search known) (λ c. search known)
     returns-5
-    (λ c. search known)
-    (λ c. search known)
-    (λ c. search needs)
-    (λ c κs. search known)
-    (λ c. search known)
-    (λ c. search known)
+    (λ c. search known) (λ c. search known) (λ c. search needs) (λ c κs. search known) (λ c. search known) (λ c. search known)
     returns-6
     returns-7)

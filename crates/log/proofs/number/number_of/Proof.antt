@@ -80,8 +80,7 @@ returns-5 c =
 
 pub number-of-spec : {M : Type 1} → statement M
 number-of-spec =
-    tie.close
-    (tie.spec
+    tie.close (tie.spec
     Inv-loop
     μ-loop
     returns
@@ -89,12 +88,9 @@ number-of-spec =
     (λ c. search known)
     returns-2
     returns-3
-    (λ c. search needs)
-    (λ c. search needs)
-    (λ c. search needs)
+    (λ c. search needs) (λ c. search needs) (λ c. search needs)
     returns-4
-    (λ c. search needs)
-    (λ c. search needs)
+    (λ c. search needs) (λ c. search needs)
     loop-again
     (λ c. search needs)
     returns-5)

@@ -60,16 +60,13 @@ returns-3 c =
 
 pub is-same-spec : {M : Type 1} → statement M
 is-same-spec =
-    tie.close
-    (tie.spec
+    tie.close (tie.spec
     Inv-loop
     μ-loop
     returns
     loop-holds
-    (λ c. search known)
-    (λ c. search needs)
+    (λ c. search known) (λ c. search needs)
     returns-2
-    (λ c. search needs)
-    (λ c. search needs)
+    (λ c. search needs) (λ c. search needs)
     loop-again
     returns-3)

@@ -101,24 +101,14 @@ returns-3 c = (
 
 pub values-after-spec : {M : Type 1} → statement M
 values-after-spec =
-    tie.close
-    (tie.spec
+    tie.close (tie.spec
     Inv-loop
     μ-loop
     loop-holds
     returns
-    (λ c. search needs)
-    (λ c κs. search needs)
-    (λ c. search known)
-    (λ c. search known)
-    (λ c. search known)
-    (λ c κs. search known)
-    (λ c. search known)
-    (λ c. search known)
+    (λ c. search needs) (λ c κs. search needs) (λ c. search known) (λ c. search known) (λ c. search known) (λ c κs. search known)
+    (λ c. search known) (λ c. search known)
     returns-2
-    (λ c. search needs)
-    (λ c. search needs)
-    (λ c. search needs)
-    (λ c. search needs)
+    (λ c. search needs) (λ c. search needs) (λ c. search needs) (λ c. search needs)
     loop-again
     returns-3)

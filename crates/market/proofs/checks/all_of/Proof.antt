@@ -54,15 +54,12 @@ returns-2 c = sym (c .before .loop .inv .known ∙ all-done _ (c .before .loop .
 
 pub all-of-spec : {M : Type 1} → statement M
 all-of-spec =
-    tie.close
-    (tie.spec
+    tie.close (tie.spec
     Inv-loop
     μ-loop
     loop-holds
-    (λ c. search known)
-    (λ c κs. search known)
+    (λ c. search known) (λ c κs. search known)
     returns
-    (λ c. search needs)
-    (λ c. search needs)
+    (λ c. search needs) (λ c. search needs)
     loop-again
     returns-2)

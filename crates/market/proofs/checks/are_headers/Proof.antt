@@ -46,8 +46,7 @@ returns-4 c =
 
 pub are-headers-spec : {M : Type 1} → statement M
 are-headers-spec =
-    tie.close
-    (tie.spec
+    tie.close (tie.spec
     (λ c κs. search known)
     returns
     (λ c κs. search known)

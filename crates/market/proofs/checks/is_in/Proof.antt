@@ -14,14 +14,8 @@ returns-3 c = rw (c .before .enum-told3 .given .1, c .is-digit .ensures)
 
 pub is-in-spec : {M : Type 1} → statement M
 is-in-spec =
-    tie.close
-    (tie.spec
-    (λ c. search known)
-    (λ c κs. search known)
-    (λ c. search known)
-    (λ c κs. search known)
-    (λ c. search known)
-    (λ c κs. search known)
+    tie.close (tie.spec
+    (λ c. search known) (λ c κs. search known) (λ c. search known) (λ c κs. search known) (λ c. search known) (λ c κs. search known)
     returns
     returns-2
     returns-3)

@@ -35,14 +35,7 @@ returns c =
 
 pub put-400-spec : {M : Type 1} → statement M
 put-400-spec =
-    tie.close
-    (tie.spec
-    (λ c. search known)
-    (λ c κs. search known)
-    (λ c κs. search known)
-    (λ c κs. search known)
-    (λ c κs. search known)
-    (λ c. search known)
-    (λ c κs. search known)
-    (λ c. search needs)
+    tie.close (tie.spec
+    (λ c. search known) (λ c κs. search known) (λ c κs. search known) (λ c κs. search known) (λ c κs. search known) (λ c. search known)
+    (λ c κs. search known) (λ c. search needs)
     returns)

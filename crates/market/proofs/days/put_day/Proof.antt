@@ -51,13 +51,8 @@ returns-2 c = let a = start-out2 (c .before) .args in
 
 pub put-day-spec : {M : Type 1} → statement M
 put-day-spec =
-    tie.close
-    (tie.spec
-    (λ c κs. search known)
-    (λ c κs. search needs)
-    (λ c κs. search known)
-    (λ c. search known)
+    tie.close (tie.spec
+    (λ c κs. search known) (λ c κs. search needs) (λ c κs. search known) (λ c. search known)
     returns
-    (λ c κs. search known)
-    (λ c. search needs)
+    (λ c κs. search known) (λ c. search needs)
     returns-2)

@@ -78,8 +78,7 @@ returns c = let done : c .before .loop .d ≡ start (c .before) .args .days = om
 
 pub put-days-spec : {M : Type 1} → statement M
 put-days-spec =
-    tie.close
-    (tie.spec
+    tie.close (tie.spec
     Inv-loop
     μ-loop
     loop-holds
@@ -87,8 +86,7 @@ put-days-spec =
     (λ c. search needs)
     mul-t16
     put-day-requires
-    (λ c. search needs)
-    (λ c. search needs)
+    (λ c. search needs) (λ c. search needs)
     loop-again
     same-length
     returns)

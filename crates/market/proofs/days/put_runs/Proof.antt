@@ -77,21 +77,12 @@ returns c = let done : c .before .loop .j ≡ entry (c .before) .args .n = omega
 
 pub put-runs-spec : {M : Type 1} → statement M
 put-runs-spec =
-    tie.close
-    (tie.spec
+    tie.close (tie.spec
     Inv-loop
     μ-loop
     loop-holds
-    (λ c κs. search needs)
-    (λ c. search needs)
-    (λ c κs. search needs)
-    (λ c. search needs)
-    (λ c. search needs)
-    (λ c κs. search known)
-    (λ c. search needs)
-    (λ c κs. search known)
-    (λ c. search needs)
-    (λ c. search needs)
+    (λ c κs. search needs) (λ c. search needs) (λ c κs. search needs) (λ c. search needs) (λ c. search needs) (λ c κs. search known)
+    (λ c. search needs) (λ c κs. search known) (λ c. search needs) (λ c. search needs)
     loop-again
     same-length
     returns)

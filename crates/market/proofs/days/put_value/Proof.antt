@@ -28,13 +28,7 @@ returns c =
 
 pub put-value-spec : {M : Type 1} → statement M
 put-value-spec =
-    tie.close
-    (tie.spec
-    (λ c. search needs)
-    (λ c κs. search needs)
-    (λ c κs. search known)
-    (λ c. search known)
-    (λ c κs. search known)
-    (λ c κs. search known)
+    tie.close (tie.spec
+    (λ c. search needs) (λ c κs. search needs) (λ c κs. search known) (λ c. search known) (λ c κs. search known) (λ c κs. search known)
     (λ c. search known)
     returns)

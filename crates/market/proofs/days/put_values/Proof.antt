@@ -53,15 +53,11 @@ returns c = let done : c .before .loop .i ≡ start c .args .k = omega arith in
 
 pub put-values-spec : {M : Type 1} → statement M
 put-values-spec =
-    tie.close
-    (tie.spec
+    tie.close (tie.spec
     Inv-loop
     μ-loop
     loop-holds
-    (λ c. search needs)
-    (λ c κs. search needs)
-    (λ c. search needs)
-    (λ c. search needs)
+    (λ c. search needs) (λ c κs. search needs) (λ c. search needs) (λ c. search needs)
     loop-again
     same-length
     returns)

@@ -42,15 +42,8 @@ returns c =
 
 pub put-100-spec : {M : Type 1} → statement M
 put-100-spec =
-    tie.close
-    (tie.spec
-    (λ c. search known)
-    (λ c κs. search known)
+    tie.close (tie.spec
+    (λ c. search known) (λ c κs. search known)
     slice-aggregate-put-field
-    (λ c κs. search known)
-    (λ c κs. search known)
-    (λ c κs. search known)
-    (λ c. search known)
-    (λ c κs. search known)
-    (λ c. search needs)
+    (λ c κs. search known) (λ c κs. search known) (λ c κs. search known) (λ c. search known) (λ c κs. search known) (λ c. search needs)
     returns)

@@ -53,16 +53,7 @@ returns c =
 
 pub put-200-spec : {M : Type 1} → statement M
 put-200-spec =
-    tie.close
-    (tie.spec
-    (λ c κs. search known)
-    (λ c κs. search known)
-    (λ c κs. search known)
-    (λ c. search known)
-    (λ c κs. search known)
-    (λ c κs. search known)
-    (λ c κs. search known)
-    (λ c. search known)
-    (λ c κs. search known)
-    (λ c. search needs)
+    tie.close (tie.spec
+    (λ c κs. search known) (λ c κs. search known) (λ c κs. search known) (λ c. search known) (λ c κs. search known)
+    (λ c κs. search known) (λ c κs. search known) (λ c. search known) (λ c κs. search known) (λ c. search needs)
     returns)

@@ -31,13 +31,7 @@ returns c =
 
 pub put-meter-spec : {M : Type 1} → statement M
 put-meter-spec =
-    tie.close
-    (tie.spec
-    (λ c. search known)
-    (λ c κs. search known)
-    (λ c κs. search known)
-    (λ c κs. search known)
-    (λ c κs. search known)
-    (λ c κs. search known)
-    (λ c. search needs)
+    tie.close (tie.spec
+    (λ c. search known) (λ c κs. search known) (λ c κs. search known) (λ c κs. search known) (λ c κs. search known)
+    (λ c κs. search known) (λ c. search needs)
     returns)

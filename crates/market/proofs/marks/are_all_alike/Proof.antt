@@ -61,17 +61,13 @@ returns-2 c = sym (c .before .loop .inv .known ∙ all-done _ (c .before .loop .
 
 pub are-all-alike-spec : {M : Type 1} → statement M
 are-all-alike-spec =
-    tie.close
-    (tie.spec
+    tie.close (tie.spec
     Inv-loop
     μ-loop
     (λ c κs. search needs)
     loop-holds
-    (λ c. search needs)
-    (λ c κs. search needs)
-    (λ c κs. search known)
+    (λ c. search needs) (λ c κs. search needs) (λ c κs. search known)
     returns
-    (λ c. search needs)
-    (λ c. search needs)
+    (λ c. search needs) (λ c. search needs)
     loop-again
     returns-2)

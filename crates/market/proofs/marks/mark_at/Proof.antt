@@ -18,14 +18,8 @@ returns-2 c = rw (slot-at _ _, sym (c .before .before .has-code .ensures) ∙ no
 
 pub mark-at-spec : {M : Type 1} → statement M
 mark-at-spec =
-    tie.close
-    (tie.spec
-    (λ c. search needs)
-    (λ c. search needs)
-    (λ c. search needs)
-    (λ c. search needs)
-    (λ c. search needs)
-    (λ c. search needs)
+    tie.close (tie.spec
+    (λ c. search needs) (λ c. search needs) (λ c. search needs) (λ c. search needs) (λ c. search needs) (λ c. search needs)
     (λ c κs. search known)
     returns
     (λ c κs. search known)

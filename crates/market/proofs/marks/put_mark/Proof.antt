@@ -51,19 +51,8 @@ returns-2 c =
 
 pub put-mark-spec : {M : Type 1} → statement M
 put-mark-spec =
-    tie.close
-    (tie.spec
-    (λ c. search known)
-    (λ c κs. search known)
-    (λ c κs. search known)
-    (λ c. search known)
-    (λ c κs. search known)
-    (λ c. search known)
+    tie.close (tie.spec
+    (λ c. search known) (λ c κs. search known) (λ c κs. search known) (λ c. search known) (λ c κs. search known) (λ c. search known)
     returns
-    (λ c. search needs)
-    (λ c κs. search known)
-    (λ c κs. search known)
-    (λ c. search known)
-    (λ c κs. search known)
-    (λ c. search needs)
+    (λ c. search needs) (λ c κs. search known) (λ c κs. search known) (λ c. search known) (λ c κs. search known) (λ c. search needs)
     returns-2)

@@ -133,8 +133,7 @@ returns c = walk-last _ _ _ (c .before .loop .inv .walked) (omega arith)
 
 pub fill-all-spec : {M : Type 1} → statement M
 fill-all-spec =
-    tie.close
-    (tie.spec
+    tie.close (tie.spec
     Inv-loop
     μ-loop
     loop-holds
@@ -144,15 +143,6 @@ fill-all-spec =
     add-i
     loop-less
     loop-again
-    (λ c. search known)
-    (λ c. search known)
-    (λ c. search known)
-    (λ c. search known)
-    (λ c. search known)
-    (λ c. search known)
-    (λ c. search known)
-    (λ c. search known)
-    (λ c. search known)
-    (λ c. search known)
-    (λ c. search known)
+    (λ c. search known) (λ c. search known) (λ c. search known) (λ c. search known) (λ c. search known) (λ c. search known)
+    (λ c. search known) (λ c. search known) (λ c. search known) (λ c. search known) (λ c. search known)
     returns)

@@ -46,27 +46,13 @@ returns-5 c = λ limits. rw (c .enum-told4 .given .1) (refl, refl)
 
 pub play-line-spec : {M : Type 1} → statement M
 play-line-spec =
-    tie.close
-    (tie.spec
-    (λ c. search known)
-    (λ c. search known)
-    (λ c. search known)
-    (λ c. search known)
-    (λ c κs. search known)
-    (λ c κs. search known)
+    tie.close (tie.spec
+    (λ c. search known) (λ c. search known) (λ c. search known) (λ c. search known) (λ c κs. search known) (λ c κs. search known)
     (λ c. search known)
     returns
     returns-2
     returns-3
-    (λ c. search known)
-    (λ c. search known)
-    (λ c. search known)
-    (λ c. search known)
-    (λ c. search known)
-    (λ c. search known)
-    (λ c. search known)
-    (λ c. search known)
-    (λ c. search known)
-    (λ c. search known)
+    (λ c. search known) (λ c. search known) (λ c. search known) (λ c. search known) (λ c. search known) (λ c. search known)
+    (λ c. search known) (λ c. search known) (λ c. search known) (λ c. search known)
     returns-4
     returns-5)

@@ -58,23 +58,14 @@ returns-2 c = leading-none (c .before .loop .inv) (omega arith)
 
 pub find-opening-spec : {M : Type 1} → statement M
 find-opening-spec =
-    tie.close
-    (tie.spec
+    tie.close (tie.spec
     Inv-loop
     μ-loop
     (λ c κs. search known)
     loop-holds
-    (λ c κs. search known)
-    (λ c. search known)
-    (λ c. search known)
-    (λ c. search known)
-    (λ c κs. search known)
-    (λ c. search needs)
-    (λ c κs. search known)
-    (λ c κs. search known)
-    (λ c κs. search known)
+    (λ c κs. search known) (λ c. search known) (λ c. search known) (λ c. search known) (λ c κs. search known) (λ c. search needs)
+    (λ c κs. search known) (λ c κs. search known) (λ c κs. search known)
     returns
-    (λ c κs. search known)
-    (λ c. search needs)
+    (λ c κs. search known) (λ c. search needs)
     loop-again
     returns-2)

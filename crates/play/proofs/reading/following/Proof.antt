@@ -61,13 +61,11 @@ returns-2 c = following-last (c .before .loop .inv) (omega arith)
 
 pub following-spec : {M : Type 1} → statement M
 following-spec =
-    tie.close
-    (tie.spec
+    tie.close (tie.spec
     Inv-loop
     μ-loop
     loop-holds
-    (λ c κs. search known)
-    (λ c. search needs)
+    (λ c κs. search known) (λ c. search needs)
     returns
     add-calls
     loop-less

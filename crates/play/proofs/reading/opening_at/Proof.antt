@@ -22,12 +22,8 @@ returns-4 c = rw (c .before .step2 .given .1)
 
 pub opening-at-spec : {M : Type 1} → statement M
 opening-at-spec =
-    tie.close
-    (tie.spec
-    (λ c. search known)
-    (λ c. search known)
-    (λ c. search known)
-    (λ c. search known)
+    tie.close (tie.spec
+    (λ c. search known) (λ c. search known) (λ c. search known) (λ c. search known)
     returns
     returns-2
     returns-3

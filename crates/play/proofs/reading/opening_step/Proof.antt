@@ -24,12 +24,7 @@ returns-2 c = rw (sym (c .before .before .before .limit-at .ensures) ∙ c .befo
 
 pub opening-step-spec : {M : Type 1} → statement M
 opening-step-spec =
-    tie.close
-    (tie.spec
-    (λ c κs. search known)
-    (λ c. search known)
-    (λ c κs. search known)
-    (λ c κs. search known)
-    (λ c. search known)
+    tie.close (tie.spec
+    (λ c κs. search known) (λ c. search known) (λ c κs. search known) (λ c κs. search known) (λ c. search known)
     returns
     returns-2)

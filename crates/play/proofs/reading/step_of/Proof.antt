@@ -28,14 +28,8 @@ returns-5 c = rw (c .enum-told4 .given .1) (step-neither _)
 
 pub step-of-spec : {M : Type 1} → statement M
 step-of-spec =
-    tie.close
-    (tie.spec
-    (λ c. search known)
-    (λ c. search known)
-    (λ c κs. search known)
-    (λ c. search known)
-    (λ c κs. search known)
-    (λ c. search known)
+    tie.close (tie.spec
+    (λ c. search known) (λ c. search known) (λ c κs. search known) (λ c. search known) (λ c κs. search known) (λ c. search known)
     (λ c. search known)
     returns
     returns-2

@@ -27,13 +27,8 @@ returns-5 c = rw (c .enum-told5 .given .1)
 
 pub table-after-spec : {M : Type 1} → statement M
 table-after-spec =
-    tie.close
-    (tie.spec
-    (λ c. search known)
-    (λ c. search known)
-    (λ c. search known)
-    (λ c. search known)
-    (λ c. search known)
+    tie.close (tie.spec
+    (λ c. search known) (λ c. search known) (λ c. search known) (λ c. search known) (λ c. search known)
     returns
     returns-2
     returns-3

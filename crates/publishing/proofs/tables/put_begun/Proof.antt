@@ -51,14 +51,9 @@ returns-2 c = let e = c .enum-told .given .1 in (
 
 pub put-begun-spec : {M : Type 1} → statement M
 put-begun-spec =
-    tie.close
-    (tie.spec
-    (λ c. search known)
-    (λ c. search needs)
-    (λ c. search needs)
+    tie.close (tie.spec
+    (λ c. search known) (λ c. search needs) (λ c. search needs)
     put-span-requires
-    (λ c. search needs)
-    (λ c. search known)
-    (λ c. search known)
+    (λ c. search needs) (λ c. search known) (λ c. search known)
     returns
     returns-2)

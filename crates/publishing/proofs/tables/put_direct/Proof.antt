@@ -208,8 +208,7 @@ returns-2 c =
 
 pub put-direct-spec : {M : Type 1} → statement M
 put-direct-spec =
-    tie.close
-    (tie.spec
+    tie.close (tie.spec
     Inv-loop
     μ-loop
     loop-holds

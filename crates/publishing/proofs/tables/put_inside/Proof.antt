@@ -300,8 +300,7 @@ returns c =
 
 pub put-inside-spec : {M : Type 1} → statement M
 put-inside-spec =
-    tie.close
-    (tie.spec
+    tie.close (tie.spec
     Inv-loop
     μ-loop
     loop-holds

@@ -122,8 +122,7 @@ returns c =
 
 pub put-tables-spec : {M : Type 1} → statement M
 put-tables-spec =
-    tie.close
-    (tie.spec
+    tie.close (tie.spec
     Inv-loop
     μ-loop
     slot-count-requires

@@ -71,10 +71,8 @@ returns-4 c =
 
 pub sawmauve-explain-spec : {M : Type 1} → statement M
 sawmauve-explain-spec =
-    tie.close
-    (tie.spec
-    (λ c κs. search known)
-    (λ c κs. search known)
+    tie.close (tie.spec
+    (λ c κs. search known) (λ c κs. search known)
     returns
     returns-2
     (λ c. search needs)

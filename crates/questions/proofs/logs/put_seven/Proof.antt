@@ -21,12 +21,8 @@ returns c = seven-set (c .args .fields .now) ((c) .pre)
 
 pub put-seven-spec : {M : Type 1} → statement M
 put-seven-spec =
-    tie.close
-    (tie.spec
-    (λ c. search needs)
-    (λ c. search needs)
-    (λ c. search needs)
-    (λ c. search needs)
+    tie.close (tie.spec
+    (λ c. search needs) (λ c. search needs) (λ c. search needs) (λ c. search needs)
     slice-write-fields-5
     slice-write-fields-6
     slice-write-fields-7

@@ -21,19 +21,8 @@ returns c =
 
 pub sawmauve-play-spec : {M : Type 1} → statement M
 sawmauve-play-spec =
-    tie.close
-    (tie.spec
-    (λ c κs. search known)
-    (λ c κs. search known)
-    (λ c. search known)
-    (λ c. search known)
-    (λ c. search known)
-    (λ c. search known)
-    (λ c. search known)
-    (λ c. search known)
-    (λ c. search known)
-    (λ c. search known)
-    (λ c. search known)
-    (λ c. search known)
+    tie.close (tie.spec
+    (λ c κs. search known) (λ c κs. search known) (λ c. search known) (λ c. search known) (λ c. search known) (λ c. search known)
+    (λ c. search known) (λ c. search known) (λ c. search known) (λ c. search known) (λ c. search known) (λ c. search known)
     (λ c. search known)
     returns)

@@ -34,17 +34,9 @@ returns-4 c = rw (after-call4 (c .before) .call4 .given .1) (refl, c .before .be
 
 pub tell-call-spec : {M : Type 1} → statement M
 tell-call-spec =
-    tie.close
-    (tie.spec
-    (λ c. search known)
-    (λ c κs. search known)
-    (λ c. search known)
-    (λ c κs. search known)
-    (λ c. search known)
-    (λ c κs. search known)
-    (λ c. search known)
-    (λ c κs. search known)
-    (λ c. search known)
+    tie.close (tie.spec
+    (λ c. search known) (λ c κs. search known) (λ c. search known) (λ c κs. search known) (λ c. search known) (λ c κs. search known)
+    (λ c. search known) (λ c κs. search known) (λ c. search known)
     returns
     (λ c. search known)
     returns-2

@@ -28,23 +28,12 @@ returns-3 c = rw (after-line (c .before) .line .given .1) (refl, c .before .befo
 
 pub tell-line-spec : {M : Type 1} → statement M
 tell-line-spec =
-    tie.close
-    (tie.spec
-    (λ c. search known)
-    (λ c κs. search known)
-    (λ c. search known)
-    (λ c κs. search known)
-    (λ c. search known)
-    (λ c κs. search known)
-    (λ c. search known)
-    (λ c κs. search known)
-    (λ c. search known)
-    (λ c. search known)
+    tie.close (tie.spec
+    (λ c. search known) (λ c κs. search known) (λ c. search known) (λ c κs. search known) (λ c. search known) (λ c κs. search known)
+    (λ c. search known) (λ c κs. search known) (λ c. search known) (λ c. search known)
     returns
     (λ c. search known)
     returns-2
     (λ c. search known)
     returns-3
-    (λ c. search known)
-    (λ c. search known)
-    (λ c. search known))
+    (λ c. search known) (λ c. search known) (λ c. search known))

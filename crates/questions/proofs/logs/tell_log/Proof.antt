@@ -40,18 +40,9 @@ returns c =
 
 pub tell-log-spec : {M : Type 1} → statement M
 tell-log-spec =
-    tie.close
-    (tie.spec
-    (λ c. search known)
-    (λ c. search needs)
-    (λ c. search needs)
-    (λ c. search needs)
-    (λ c. search needs)
-    (λ c. search needs)
-    (λ c. search needs)
-    (λ c. search needs)
-    (λ c. search needs)
-    (λ c. search needs)
+    tie.close (tie.spec
+    (λ c. search known) (λ c. search needs) (λ c. search needs) (λ c. search needs) (λ c. search needs) (λ c. search needs)
+    (λ c. search needs) (λ c. search needs) (λ c. search needs) (λ c. search needs)
     slice-write-figures-5
     (λ c. search needs)
     slice-write-figures-6
@@ -59,12 +50,7 @@ tell-log-spec =
     slice-write-figures-7
     slice-write-figures-8
     slice-write-figures-9
-    (λ c. search known)
-    (λ c. search known)
-    (λ c. search known)
-    (λ c. search needs)
+    (λ c. search known) (λ c. search known) (λ c. search known) (λ c. search needs)
     same-length
     returns
-    (λ c. search known)
-    (λ c. search known)
-    (λ c. search known))
+    (λ c. search known) (λ c. search known) (λ c. search known))

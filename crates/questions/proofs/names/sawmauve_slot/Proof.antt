@@ -38,14 +38,11 @@ returns-3 c =
 
 pub sawmauve-slot-spec : {M : Type 1} → statement M
 sawmauve-slot-spec =
-    tie.close
-    (tie.spec
-    (λ c κs. search known)
-    (λ c κs. search known)
+    tie.close (tie.spec
+    (λ c κs. search known) (λ c κs. search known)
     returns
     (λ c κs. search known)
     returns-2
     day-number-requires
-    (λ c κs. search known)
-    (λ c κs. search known)
+    (λ c κs. search known) (λ c κs. search known)
     returns-3)

@@ -58,20 +58,13 @@ returns-3 c =
 
 pub sawmauve-simulate-spec : {M : Type 1} → statement M
 sawmauve-simulate-spec =
-    tie.close
-    (tie.spec
-    (λ c κs. search known)
-    (λ c κs. search known)
+    tie.close (tie.spec
+    (λ c κs. search known) (λ c κs. search known)
     returns
     returns-2
     (λ c κs. search known)
     tell-requires
-    (λ c. search known)
-    (λ c. search known)
-    (λ c. search known)
-    (λ c. search known)
-    (λ c. search known)
-    (λ c. search known)
+    (λ c. search known) (λ c. search known) (λ c. search known) (λ c. search known) (λ c. search known) (λ c. search known)
     same-length-7
     same-length-8
     same-length-9

@@ -32,14 +32,8 @@ returns c = let found = c .before .before .before .simulated .given .0 .0 in
 
 pub tell-spec : {M : Type 1} → statement M
 tell-spec =
-    tie.close
-    (tie.spec
-    (λ c. search known)
-    (λ c. search needs)
-    (λ c. search needs)
-    (λ c. search needs)
-    (λ c. search known)
-    (λ c. search needs)
+    tie.close (tie.spec
+    (λ c. search known) (λ c. search needs) (λ c. search needs) (λ c. search needs) (λ c. search known) (λ c. search needs)
     (λ c. search known)
     returns
     (λ c. search known))

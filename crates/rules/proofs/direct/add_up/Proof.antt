@@ -154,8 +154,7 @@ returns-2 c =
 
 pub add-up-spec : {M : Type 1} → statement M
 add-up-spec =
-    tie.close
-    (tie.spec
+    tie.close (tie.spec
     Inv-loop
     μ-loop
     loop-holds

@@ -66,14 +66,8 @@ returns-2 c =
 
 pub fill-cause-spec : {M : Type 1} → statement M
 fill-cause-spec =
-    tie.close
-    (tie.spec
-    (λ c κs. search known)
-    (λ c. search needs)
-    (λ c. search needs)
-    (λ c. search needs)
-    (λ c. search needs)
-    (λ c κs. search known)
+    tie.close (tie.spec
+    (λ c κs. search known) (λ c. search needs) (λ c. search needs) (λ c. search needs) (λ c. search needs) (λ c κs. search known)
     returns
     unscaled-requires
     returns-2)

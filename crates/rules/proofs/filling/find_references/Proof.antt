@@ -261,8 +261,7 @@ returns-2 c =
 
 pub find-references-spec : {M : Type 1} → statement M
 find-references-spec =
-    tie.close
-    (tie.spec
+    tie.close (tie.spec
     Inv-weeks
     μ-weeks
     (λ c κs. search known)

@@ -69,20 +69,15 @@ cast-t16 c =
 
 pub mean-of-spec : {M : Type 1} → statement M
 mean-of-spec =
-    tie.close
-    (tie.spec
+    tie.close (tie.spec
     Inv-loop
     μ-loop
     loop-holds
-    (λ c. omega arith)
-    (λ c. search needs)
-    (λ c. search needs)
+    (λ c. omega arith) (λ c. search needs) (λ c. search needs)
     add-sum
-    (λ c. search needs)
-    (λ c. omega arith)
+    (λ c. search needs) (λ c. omega arith)
     loop-again
-    (λ c. omega arith)
-    (λ c. omega arith)
+    (λ c. omega arith) (λ c. omega arith)
     cast-t15
     cast-t16
     (λ c. omega arith)

@@ -67,12 +67,4 @@ returns-2 c =
     rw (← values search) (simp (from-some x n, m .0), shape-exact _ _ _ (omega arith) q)
 
 pub same-day-spec : {M : Type 1} → statement M
-same-day-spec =
-    tie.close
-    (tie.spec
-    (λ c κs. search known)
-    (λ c κs. search known)
-    returns
-    mean-of-requires
-    shape-of-requires
-    returns-2)
+same-day-spec = tie.close (tie.spec (λ c κs. search known) (λ c κs. search known) returns mean-of-requires shape-of-requires returns-2)

@@ -70,16 +70,13 @@ returns-3 c =
 
 pub is-rising-spec : {M : Type 1} → statement M
 is-rising-spec =
-    tie.close
-    (tie.spec
+    tie.close (tie.spec
     Inv-loop
     μ-loop
     loop-holds
-    (λ c. search known)
-    (λ c. omega arith)
+    (λ c. search known) (λ c. omega arith)
     returns
     returns-2
-    (λ c. omega arith)
-    (λ c. omega arith)
+    (λ c. omega arith) (λ c. omega arith)
     loop-again
     returns-3)

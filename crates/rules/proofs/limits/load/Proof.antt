@@ -47,13 +47,10 @@ returns-4 c =
 
 pub load-spec : {M : Type 1} → statement M
 load-spec =
-    tie.close
-    (tie.spec
+    tie.close (tie.spec
     (λ c κs. search known)
     returns
     returns-2
     returns-3
-    (λ c. search known)
-    (λ c. search needs)
-    (λ c. search needs)
+    (λ c. search known) (λ c. search needs) (λ c. search needs)
     returns-4)

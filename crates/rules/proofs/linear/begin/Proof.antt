@@ -110,20 +110,17 @@ returns-4 c =
 
 pub begin-spec : {M : Type 1} → statement M
 begin-spec =
-    tie.close
-    (tie.spec
+    tie.close (tie.spec
     (λ c κs. search known)
     returns
     is-good-requires
     (λ c κs. search known)
     returns-2
-    (λ c κs. search known)
-    (λ c κs. search known)
+    (λ c κs. search known) (λ c κs. search known)
     returns-3
     add-after
     cast-t12
-    (λ c. search needs)
-    (λ c. search needs)
+    (λ c. search needs) (λ c. search needs)
     mul-t16
     shared-slice-read-t18
     returns-4)

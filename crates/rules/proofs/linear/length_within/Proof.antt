@@ -138,8 +138,7 @@ returns-5 c = let a = start (c .before .before) .args in
 
 pub length-within-spec : {M : Type 1} → statement M
 length-within-spec =
-    tie.close
-    (tie.spec
+    tie.close (tie.spec
     Inv-loop
     μ-loop
     div-most
@@ -149,12 +148,10 @@ length-within-spec =
     returns
     is-good-requires
     returns-2
-    (λ c. search known)
-    (λ c. omega arith)
+    (λ c. search known) (λ c. omega arith)
     returns-3
     outage-zero-requires
     returns-4
-    (λ c. omega arith)
-    (λ c. omega arith)
+    (λ c. omega arith) (λ c. omega arith)
     loop-again
     returns-5)

@@ -28,13 +28,10 @@ returns c = value-line (start (c .before) .args .line) (start (c .before) .pre) 
 
 pub line-value-spec : {M : Type 1} → statement M
 line-value-spec =
-    tie.close
-    (tie.spec
-    (λ c. search needs)
-    (λ c. search needs)
+    tie.close (tie.spec
+    (λ c. search needs) (λ c. search needs)
     sub-rise
-    (λ c. search needs)
-    (λ c. search needs)
+    (λ c. search needs) (λ c. search needs)
     mul-floor-over
     (λ c κs. search needs)
     add-result

@@ -65,13 +65,4 @@ returns-5 c =
     )
 
 pub head-ok-spec : {M : Type 1} → statement M
-head-ok-spec =
-    tie.close
-    (tie.spec
-    (λ c κs. search known)
-    returns
-    (λ c κs. search known)
-    returns-2
-    returns-3
-    returns-4
-    returns-5)
+head-ok-spec = tie.close (tie.spec (λ c κs. search known) returns (λ c κs. search known) returns-2 returns-3 returns-4 returns-5)

@@ -61,17 +61,12 @@ returns-2 c =
 
 pub outage-after-spec : {M : Type 1} → statement M
 outage-after-spec =
-    tie.close
-    (tie.spec
+    tie.close (tie.spec
     Inv-loop
     μ-loop
     loop-holds
-    (λ c. search known)
-    (λ c. omega arith)
-    (λ c. omega arith)
-    (λ c κs. search known)
+    (λ c. search known) (λ c. omega arith) (λ c. omega arith) (λ c κs. search known)
     returns
-    (λ c. omega arith)
-    (λ c. omega arith)
+    (λ c. omega arith) (λ c. omega arith)
     loop-again
     returns-2)

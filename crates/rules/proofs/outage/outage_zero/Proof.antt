@@ -59,19 +59,14 @@ returns-5 c =
 
 pub outage-zero-spec : {M : Type 1} → statement M
 outage-zero-spec =
-    tie.close
-    (tie.spec
-    (λ c. search known)
-    (λ c. search known)
+    tie.close (tie.spec
+    (λ c. search known) (λ c. search known)
     returns
     (λ c κs. search needs)
     returns-2
-    (λ c. search needs)
-    (λ c. search needs)
-    (λ c. search needs)
+    (λ c. search needs) (λ c. search needs) (λ c. search needs)
     returns-3
-    (λ c. search needs)
-    (λ c κs. search known)
+    (λ c. search needs) (λ c κs. search known)
     returns-4
     (λ c κs. search needs)
     returns-5)

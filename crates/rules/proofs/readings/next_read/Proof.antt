@@ -53,15 +53,12 @@ returns-2 c = let r = c .before .before .args .read-versions .now in
 
 pub next-read-spec : {M : Type 1} → statement M
 next-read-spec =
-    tie.close
-    (tie.spec
+    tie.close (tie.spec
     Inv-loop
     μ-loop
     loop-holds
-    (λ c. search known)
-    (λ c. omega arith)
+    (λ c. search known) (λ c. omega arith)
     returns
-    (λ c. omega arith)
-    (λ c. omega arith)
+    (λ c. omega arith) (λ c. omega arith)
     loop-again
     returns-2)

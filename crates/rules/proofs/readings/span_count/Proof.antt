@@ -57,16 +57,11 @@ returns-2 c = let r = c .before .before .before .args .read-versions .now in
 
 pub span-count-spec : {M : Type 1} → statement M
 span-count-spec =
-    tie.close
-    (tie.spec
+    tie.close (tie.spec
     Inv-loop
     μ-loop
     loop-holds
-    (λ c. search known)
-    (λ c. omega arith)
-    (λ c. omega arith)
-    (λ c. omega arith)
-    (λ c. omega arith)
+    (λ c. search known) (λ c. omega arith) (λ c. omega arith) (λ c. omega arith) (λ c. omega arith)
     loop-again
     returns
     (λ c. omega arith)

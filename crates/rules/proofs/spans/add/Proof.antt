@@ -27,17 +27,9 @@ returns-4 c = added-none _ _ _ (c .enum-told4 .given .1)
 
 pub add-spec : {M : Type 1} → statement M
 add-spec =
-    tie.close
-    (tie.spec
-    (λ c. search needs)
-    (λ c. search known)
-    (λ c κs. search needs)
-    (λ c. search known)
-    (λ c. search needs)
-    (λ c. search needs)
-    (λ c. search known)
-    (λ c κs. search needs)
-    (λ c. search known)
+    tie.close (tie.spec
+    (λ c. search needs) (λ c. search known) (λ c κs. search needs) (λ c. search known) (λ c. search needs) (λ c. search needs)
+    (λ c. search known) (λ c κs. search needs) (λ c. search known)
     returns
     returns-2
     returns-3

@@ -38,19 +38,10 @@ returns c =
 
 pub compare-spec : {M : Type 1} → statement M
 compare-spec =
-    tie.close
-    (tie.spec
-    (λ c. search needs)
-    (λ c. search needs)
-    (λ c. search needs)
-    (λ c. search needs)
+    tie.close (tie.spec
+    (λ c. search needs) (λ c. search needs) (λ c. search needs) (λ c. search needs)
     advanced-requires
-    (λ c. search needs)
-    (λ c. search needs)
-    (λ c. search needs)
-    (λ c. search needs)
+    (λ c. search needs) (λ c. search needs) (λ c. search needs) (λ c. search needs)
     range-of-requires
-    (λ c κs. search known)
-    (λ c. search needs)
-    (λ c κs. search known)
+    (λ c κs. search known) (λ c. search needs) (λ c κs. search known)
     returns)

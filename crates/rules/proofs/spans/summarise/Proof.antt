@@ -260,8 +260,7 @@ returns c =
 
 pub summarise-spec : {M : Type 1} → statement M
 summarise-spec =
-    tie.close
-    (tie.spec
+    tie.close (tie.spec
     Inv-loop
     μ-loop
     add-to

@@ -127,8 +127,7 @@ returns-3 c =
 
 pub enter-spec : {M : Type 1} → statement M
 enter-spec =
-    tie.close
-    (tie.spec
+    tie.close (tie.spec
     (λ c κs. search known)
     returns
     slots-per-day-requires
@@ -137,9 +136,6 @@ enter-spec =
     next-read-requires
     (λ c. search known)
     reach-requires
-    (λ c. search known)
-    (λ c κs. search known)
-    (λ c κs. search known)
-    (λ c κs. search known)
+    (λ c. search known) (λ c κs. search known) (λ c κs. search known) (λ c κs. search known)
     returns-2
     returns-3)

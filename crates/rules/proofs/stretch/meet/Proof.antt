@@ -96,10 +96,8 @@ returns c =
 
 pub meet-spec : {M : Type 1} → statement M
 meet-spec =
-    tie.close
-    (tie.spec
-    (λ c κs. search known)
-    (λ c. search needs)
+    tie.close (tie.spec
+    (λ c κs. search known) (λ c. search needs)
     mul-summarise
     summarise-requires
     compare-requires

@@ -71,14 +71,12 @@ returns-2 c = let a = start-stretch c .args in
 
 pub reach-spec : {M : Type 1} → statement M
 reach-spec =
-    tie.close
-    (tie.spec
+    tie.close (tie.spec
     (λ c. search needs)
     shared-slice-read-if1
     slots-per-day-requires
     mul-unscaled-to
-    (λ c κs. search known)
-    (λ c κs. search known)
+    (λ c κs. search known) (λ c κs. search known)
     returns
     meet-requires
     returns-2)

@@ -74,14 +74,8 @@ returns-2 c =
 
 pub fill-at-spec : {M : Type 1} → statement M
 fill-at-spec =
-    tie.close
-    (tie.spec
-    (λ c. search needs)
-    (λ c κs. search known)
-    (λ c κs. search known)
-    (λ c. search needs)
-    (λ c. search needs)
-    (λ c κs. search known)
+    tie.close (tie.spec
+    (λ c. search needs) (λ c κs. search known) (λ c κs. search known) (λ c. search needs) (λ c. search needs) (λ c κs. search known)
     returns
     outage-zero-requires
     fill-cause-requires

@@ -57,13 +57,11 @@ returns-2 c =
 
 pub way-back-spec : {M : Type 1} → statement M
 way-back-spec =
-    tie.close
-    (tie.spec
+    tie.close (tie.spec
     (λ c. search needs)
     way-within-requires
     returns
-    (λ c κs. search known)
-    (λ c. search needs)
+    (λ c κs. search known) (λ c. search needs)
     add-number
     to-sunday-requires
     (λ c. search needs)

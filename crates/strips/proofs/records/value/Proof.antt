@@ -37,25 +37,9 @@ returns c =
 
 pub value-spec : {M : Type 1} → statement M
 value-spec =
-    tie.close
-    (tie.spec
-    (λ c. search needs)
-    (λ c κs. search known)
-    (λ c. search needs)
-    (λ c. search needs)
-    (λ c κs. search known)
-    (λ c. search needs)
-    (λ c. search needs)
-    (λ c. search needs)
-    (λ c κs. search known)
-    (λ c. search needs)
-    (λ c. search needs)
-    (λ c. search known)
-    (λ c κs. search known)
-    (λ c. search needs)
-    (λ c. search needs)
-    (λ c. search needs)
-    (λ c. search needs)
-    (λ c. search needs)
+    tie.close (tie.spec
+    (λ c. search needs) (λ c κs. search known) (λ c. search needs) (λ c. search needs) (λ c κs. search known) (λ c. search needs)
+    (λ c. search needs) (λ c. search needs) (λ c κs. search known) (λ c. search needs) (λ c. search needs) (λ c. search known)
+    (λ c κs. search known) (λ c. search needs) (λ c. search needs) (λ c. search needs) (λ c. search needs) (λ c. search needs)
     (λ c. search needs)
     returns)

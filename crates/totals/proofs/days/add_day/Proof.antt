@@ -51,25 +51,14 @@ returns c = replaced-all _ _ _ _ (c .before .loop .inv) (c .loop-test .left)
 
 pub add-day-spec : {M : Type 1} → statement M
 add-day-spec =
-    tie.close
-    (tie.spec
+    tie.close (tie.spec
     Inv-loop
     μ-loop
     loop-holds
-    (λ c. search needs)
-    (λ c. search needs)
-    (λ c. search needs)
-    (λ c. search needs)
-    (λ c. search needs)
-    (λ c. search needs)
-    (λ c. search needs)
-    (λ c κs. search known)
-    (λ c. search needs)
-    (λ c. search known)
+    (λ c. search needs) (λ c. search needs) (λ c. search needs) (λ c. search needs) (λ c. search needs) (λ c. search needs)
+    (λ c. search needs) (λ c κs. search known) (λ c. search needs) (λ c. search known)
     add-totals
-    (λ c. search known)
-    (λ c. search needs)
-    (λ c. search needs)
+    (λ c. search known) (λ c. search needs) (λ c. search needs)
     loop-again
     (λ c. search known)
     returns)

@@ -25,15 +25,11 @@ returns c = replaced-all _ _ _ _ (c .before .loop .inv) (c .loop-test .left)
 
 pub clear-spec : {M : Type 1} → statement M
 clear-spec =
-    tie.close
-    (tie.spec
+    tie.close (tie.spec
     Inv-loop
     μ-loop
     loop-holds
-    (λ c. search needs)
-    (λ c. search known)
-    (λ c. search needs)
-    (λ c. search needs)
+    (λ c. search needs) (λ c. search known) (λ c. search needs) (λ c. search needs)
     loop-again
     (λ c. search known)
     returns)

@@ -47,15 +47,10 @@ returns c = let done : c .before .loop .i ≡ c .before .before .before .args .k
 
 pub sum-of-spec : {M : Type 1} → statement M
 sum-of-spec =
-    tie.close
-    (tie.spec
+    tie.close (tie.spec
     Inv-loop
     μ-loop
     loop-holds
-    (λ c. search needs)
-    (λ c κs. search needs)
-    (λ c. search needs)
-    (λ c. search needs)
-    (λ c. search needs)
+    (λ c. search needs) (λ c κs. search needs) (λ c. search needs) (λ c. search needs) (λ c. search needs)
     loop-again
     returns)

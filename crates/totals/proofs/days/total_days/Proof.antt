@@ -95,8 +95,7 @@ returns c =
 
 pub total-days-spec : {M : Type 1} → statement M
 total-days-spec =
-    tie.close
-    (tie.spec
+    tie.close (tie.spec
     Inv-loop
     μ-loop
     (λ c κs. search known)
@@ -105,8 +104,7 @@ total-days-spec =
     mul-sum-of
     sum-of-requires
     add-day-requires
-    (λ c. search needs)
-    (λ c. search needs)
+    (λ c. search needs) (λ c. search needs)
     loop-again
     same-length
     returns)
