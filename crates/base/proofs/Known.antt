@@ -1,5 +1,5 @@
--- What `search` is handed at a need that is trivial, or that stands among what is known at its place: `search known`. It tries no
--- arithmetic, and so takes a third of the time of `search needs` in a function of ten lists.
+-- What `search` is handed at a need that is trivial, or that stands among what is known at its place: `search known`. It tries eight
+-- lemmas, where the kit's `needs` has forty and arithmetic.
 use native.Mathlib.Nat.{le-refl}
 use borrow.Author.Needs.{zero≤, scaled-fits}
 use lib.Dec.{lit<, lit≤}
