@@ -47,13 +47,13 @@ abbrev pub Each : (P : Type 0) → List Bool → Type 0
 Each P [] = Unit {0}
 Each P (t ∷ ts) = (t ≡ true → P) × Each P ts
 
-pub one-of : (P : Type 0) (ts : List Bool) → Each P ts → one_of ts ≡ true → P
-one-of P [] h e = absurd (false≢true e)
-one-of P (t ∷ ts) h e = ⊎_elim h.0 (one-of P ts h.1) (or_parts t (one_of ts) e)
+pub one_of_lem : (P : Type 0) (ts : List Bool) → Each P ts → one_of ts ≡ true → P
+one_of_lem P [] h e = absurd (false≢true e)
+one_of_lem P (t ∷ ts) h e = ⊎_elim h.0 (one_of_lem P ts h.1) (or_parts t (one_of ts) e)
 
 -- the outcome of a code's test for the number that the definition names
-pub tests-true : {m n k : ℕ} → m ≡ n → m ≡ k → eqb n k ≡ true
-tests-true e h = eq-eqb _ _ (sym e ∙ h)
+pub tests_true : {m n k : ℕ} → m ≡ n → m ≡ k → eqb n k ≡ true
+tests_true e h = eq-eqb _ _ (sym e ∙ h)
 
-pub tests-false : {m n k : ℕ} → m ≡ n → (m ≡ k → ⊥) → eqb n k ≡ false
-tests-false e h = ne_eqb _ _ (λ f. h (e ∙ f))
+pub tests_false : {m n k : ℕ} → m ≡ n → (m ≡ k → ⊥) → eqb n k ≡ false
+tests_false e h = ne_eqb _ _ (λ f. h (e ∙ f))

@@ -13,8 +13,8 @@ unless refused [] answer = answer
 unless refused (rule n broken ∷ rules) answer = cond broken (refused n) (unless refused rules answer)
 
 -- its number, or 0
-abbrev pub firstBroken : List Rule → ℕ
-firstBroken rules = unless (λ n. n) rules 0
+abbrev pub first_broken : List Rule → ℕ
+first_broken rules = unless (λ n. n) rules 0
 
 -- a call that is done or refused as one number: 0, or the refusal's
 abbrev pub code_of : Performed → ℕ

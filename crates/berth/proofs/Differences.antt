@@ -36,11 +36,11 @@ module _ (a b : ℕ) (p : a ≤ 11_520_000_000_000) (q : b ≤ 57_600_000_000) w
   minus_is : to_z w64 a -ℤ to_z w64 b ≡ pos a -ℤ pos b
   minus_is = λ t. to_z_pos w64 a (omega arith) t -ℤ to_z_pos w64 b (omega arith) t
 
-  pub minus-fits : SFits w64 (to_z w64 a -ℤ to_z w64 b)
-  minus-fits = subst (SFits w64) (sym minus_is) (record { sfits = omega (arith, mag_low a b 11_520_000_000_000 p (omega arith)) })
+  pub minus_fits : SFits w64 (to_z w64 a -ℤ to_z w64 b)
+  minus_fits = subst (SFits w64) (sym minus_is) (record { sfits = omega (arith, mag_low a b 11_520_000_000_000 p (omega arith)) })
 
-  pub minus-read : to_z w64 (of_z w64 (to_z w64 a -ℤ to_z w64 b)) ≡ pos a -ℤ pos b
-  minus-read = to_z-of_z w64 _ minus-fits ∙ minus_is
+  pub minus_read : to_z w64 (of_z w64 (to_z w64 a -ℤ to_z w64 b)) ≡ pos a -ℤ pos b
+  minus_read = to_z-of_z w64 _ minus_fits ∙ minus_is
 
-  pub minus-again : (z : ℤ) → z ≡ pos a -ℤ pos b → to_z w64 (of_z w64 z) ≡ pos a -ℤ pos b
-  minus-again z e = to_z-of_z w64 z (subst (SFits w64) (minus_is ∙ sym e) minus-fits) ∙ e
+  pub minus_again : (z : ℤ) → z ≡ pos a -ℤ pos b → to_z w64 (of_z w64 z) ≡ pos a -ℤ pos b
+  minus_again z e = to_z-of_z w64 z (subst (SFits w64) (minus_is ∙ sym e) minus_fits) ∙ e

@@ -24,13 +24,13 @@ stepped loss most b =
     record { x = second; lost = ltb (first % 1000) loss; value = second % (most + 1) }
 
 -- the berth after i steps from a seed
-unfoldable pub berthAfter : Head → ℕ → ℕ → ℕ → Berth
-berthAfter h seed loss zero = seeded seed
-berthAfter h seed loss (suc i) = stepped loss (most_of h) (berthAfter h seed loss i)
+unfoldable pub berth_after : Head → ℕ → ℕ → ℕ → Berth
+berth_after h seed loss zero = seeded seed
+berth_after h seed loss (suc i) = stepped loss (most_of h) (berth_after h seed loss i)
 
 -- whether slot i is lost, and its true value
-unfoldable pub lostAt : Head → ℕ → ℕ → ℕ → Bool
-lostAt h seed loss i = (berthAfter h seed loss (suc i)).lost
+unfoldable pub lost_at : Head → ℕ → ℕ → ℕ → Bool
+lost_at h seed loss i = (berth_after h seed loss (suc i)).lost
 
 unfoldable pub value_at : Head → ℕ → ℕ → ℕ → ℕ
-value_at h seed loss i = (berthAfter h seed loss (suc i)).value
+value_at h seed loss i = (berth_after h seed loss (suc i)).value

@@ -5,12 +5,12 @@ mod reporting;
 mod sending;
 
 ghost use Rattle.std.specs.Prelude.{true, ◌++◌, ◌≡◌, ◌≤◌, length, drop};
-ghost use Rattle.rules.specs.Opening.{headOk};
-ghost use Rattle.book.specs.Cells.{bookFits};
-ghost use Rattle.book.specs.Lent.{lentBook};
-ghost use Rattle.claim.specs.Claim.{leftBy, plainFile};
-ghost use Rattle.berth.specs.Run.{trueTotal, runCalls, reportOf, simulateAnswer, simulateLists, simulateBytes};
-ghost use Rattle.berth.specs.Inner.Refusing.{fileSize};
+ghost use Rattle.rules.specs.Opening.{head_ok};
+ghost use Rattle.book.specs.Cells.{book_fits};
+ghost use Rattle.book.specs.Lent.{lent_book};
+ghost use Rattle.claim.specs.Claim.{left_by, plain_file};
+ghost use Rattle.berth.specs.Run.{true_total, run_calls, report_of, simulate_answer, simulate_lists, simulate_bytes};
+ghost use Rattle.berth.specs.Inner.Refusing.{file_size};
 
 use rules::Head;
 
@@ -45,11 +45,11 @@ fn make_calls(
     counts: &mut [u16],
     widths: &mut [u16],
 ) -> u64
-    requires { let book = lentBook values versions statuses holidays readings read_versions agreed agreed_versions counts widths in
-        (headOk head ≡ true) × (bookFits head book ≡ true) }
-    ensures { (result ≡ trueTotal head seed loss)
-        × (lentBook values.exit versions.exit statuses.exit holidays.exit readings.exit read_versions.exit
-        agreed.exit agreed_versions.exit counts.exit widths.exit ≡ leftBy head (runCalls head seed loss)) }
+    requires { let book = lent_book values versions statuses holidays readings read_versions agreed agreed_versions counts widths in
+        (head_ok head ≡ true) × (book_fits head book ≡ true) }
+    ensures { (result ≡ true_total head seed loss)
+        × (lent_book values.exit versions.exit statuses.exit holidays.exit readings.exit read_versions.exit
+        agreed.exit agreed_versions.exit counts.exit widths.exit ≡ left_by head (run_calls head seed loss)) }
 {
     book::open(
         head,
@@ -86,15 +86,15 @@ fn run(
     widths: &mut [u16],
     out: &mut [u8],
 ) -> Report
-    requires { (headOk head ≡ true)
-        × (bookFits head (lentBook values versions statuses holidays readings read_versions agreed agreed_versions counts widths)
+    requires { (head_ok head ≡ true)
+        × (book_fits head (lent_book values versions statuses holidays readings read_versions agreed agreed_versions counts widths)
         ≡ true)
-        × (fileSize head ≤ length out.old) }
-    ensures { (result ≡ reportOf head seed loss)
-        × (lentBook values.exit versions.exit statuses.exit holidays.exit readings.exit read_versions.exit
-        agreed.exit agreed_versions.exit counts.exit widths.exit ≡ leftBy head (runCalls head seed loss))
+        × (file_size head ≤ length out.old) }
+    ensures { (result ≡ report_of head seed loss)
+        × (lent_book values.exit versions.exit statuses.exit holidays.exit readings.exit read_versions.exit
+        agreed.exit agreed_versions.exit counts.exit widths.exit ≡ left_by head (run_calls head seed loss))
         × (out.new
-        ≡ plainFile head (runCalls head seed loss) ++ drop (length (plainFile head (runCalls head seed loss))) out.old) }
+        ≡ plain_file head (run_calls head seed loss) ++ drop (length (plain_file head (run_calls head seed loss))) out.old) }
 {
     let total = make_calls(
         head,
@@ -145,13 +145,13 @@ pub fn simulate(
     widths: &mut [u16],
     out: &mut [u8],
 ) -> Simulated
-    ensures { let book = lentBook values.entry versions.entry statuses.entry holidays.entry readings.entry
+    ensures { let book = lent_book values.entry versions.entry statuses.entry holidays.entry readings.entry
         read_versions.entry agreed.entry agreed_versions.entry counts.entry widths.entry in
-        (result ≡ simulateAnswer head seed loss book out.old)
-        × (lentBook values.exit versions.exit statuses.exit holidays.exit readings.exit read_versions.exit
+        (result ≡ simulate_answer head seed loss book out.old)
+        × (lent_book values.exit versions.exit statuses.exit holidays.exit readings.exit read_versions.exit
         agreed.exit agreed_versions.exit counts.exit widths.exit
-        ≡ simulateLists head seed loss book out.old)
-        × (out.new ≡ simulateBytes head seed loss book out.old) }
+        ≡ simulate_lists head seed loss book out.old)
+        × (out.new ≡ simulate_bytes head seed loss book out.old) }
 {
     let broken = refusing::refusal(
         head,

@@ -1,28 +1,28 @@
 // What a run is refused for, found before anything is written (02, W12).
 ghost use Rattle.std.specs.Prelude.{true, [], ◌∷◌, ◌≡◌, ltb, eqb, length};
-ghost use Rattle.base.specs.Refusals.{firstBroken};
+ghost use Rattle.base.specs.Refusals.{first_broken};
 ghost use Rattle.base.specs.Refusals.Rule.{rule};
-ghost use Rattle.rules.specs.Opening.{headOk};
-ghost use Rattle.book.specs.Cells.{bookFits};
-ghost use Rattle.book.specs.Lent.{lentBook};
-ghost use Rattle.berth.specs.Run.{runRules};
-ghost use Rattle.berth.specs.Inner.Refusing.{fileSize};
+ghost use Rattle.rules.specs.Opening.{head_ok};
+ghost use Rattle.book.specs.Cells.{book_fits};
+ghost use Rattle.book.specs.Lent.{lent_book};
+ghost use Rattle.berth.specs.Run.{run_rules};
+ghost use Rattle.berth.specs.Inner.Refusing.{file_size};
 
 use book::lengths;
 use rules::{Head, opening};
 
 // The length of the file of a run.
 fn file_size(head: Head) -> usize
-    requires { headOk head ≡ true }
-    ensures { result ≡ fileSize head }
+    requires { head_ok head ≡ true }
+    ensures { result ≡ file_size head }
 {
     6 * opening::slot_count(head) + 14 + 32
 }
 
 // 7, 20, 21, or 0.
 fn refusal_past_lengths(head: Head, seed: u32, loss: u32, room: usize) -> u8
-    requires { headOk head ≡ true }
-    ensures { result ≡ firstBroken (rule 7 (ltb room (fileSize head)) ∷ rule 20 (eqb seed 0) ∷ rule 21 (ltb 1000 loss) ∷ []) }
+    requires { head_ok head ≡ true }
+    ensures { result ≡ first_broken (rule 7 (ltb room (file_size head)) ∷ rule 20 (eqb seed 0) ∷ rule 21 (ltb 1000 loss) ∷ []) }
 {
     if room < file_size(head) {
         return 7;
@@ -53,9 +53,9 @@ pub fn refusal(
     widths: &[u16],
     out: &[u8],
 ) -> u8
-    ensures { let book = lentBook values.entry versions.entry statuses.entry holidays.entry readings.entry
+    ensures { let book = lent_book values.entry versions.entry statuses.entry holidays.entry readings.entry
         read_versions.entry agreed.entry agreed_versions.entry counts.entry widths.entry in
-        result ≡ firstBroken (runRules head seed loss (bookFits head book) (length out.now)) }
+        result ≡ first_broken (run_rules head seed loss (book_fits head book) (length out.now)) }
 {
     if !opening::head_ok(head) {
         return 1;

@@ -1,19 +1,19 @@
 // The slots of a run sent one after another, and the dial read (02, W12).
 ghost use Rattle.std.specs.Prelude.{true, ◌≡◌, ◌%◌};
-ghost use Rattle.base.specs.Numbers.{dialModulus};
-ghost use Rattle.rules.specs.Opening.{headOk, slotCount};
-ghost use Rattle.book.specs.Filling.{registerAfter};
-ghost use Rattle.book.specs.Lent.{lentReads};
+ghost use Rattle.base.specs.Numbers.{dial_modulus};
+ghost use Rattle.rules.specs.Opening.{head_ok, slot_count};
+ghost use Rattle.book.specs.Filling.{register_after};
+ghost use Rattle.book.specs.Lent.{lent_reads};
 ghost use Rattle.berth.specs.Steps.{most_of};
-ghost use Rattle.berth.specs.Run.{trueTotal};
-ghost use Rattle.berth.specs.Inner.Sending.{lentSent, sentOne, sentFrom};
+ghost use Rattle.berth.specs.Run.{true_total};
+ghost use Rattle.berth.specs.Inner.Sending.{lent_sent, sent_one, sent_from};
 
 use crate::generator::Berth;
 use rules::{Head, opening};
 
 // The most that a slot may hold: floor(limit × L / 60).
 fn most_of(head: Head) -> u32
-    requires { headOk head ≡ true }
+    requires { head_ok head ≡ true }
     ensures { result ≡ most_of head }
 {
     head.limit * head.interval / 60
@@ -29,8 +29,8 @@ fn send(
     slot: u32,
     berth: Berth,
 )
-    ensures { let sent = lentSent values.entry versions.entry statuses.entry counts.entry in
-        lentSent values.exit versions.exit statuses.exit counts.exit ≡ sentOne head sent slot berth }
+    ensures { let sent = lent_sent values.entry versions.entry statuses.entry counts.entry in
+        lent_sent values.exit versions.exit statuses.exit counts.exit ≡ sent_one head sent slot berth }
 {
     if berth.lost {
         return;
@@ -58,10 +58,10 @@ pub fn send_all(
     statuses: &mut [u8],
     counts: &mut [u16],
 ) -> u64
-    requires { headOk head ≡ true }
-    ensures { (result ≡ trueTotal head seed loss)
-        × (lentSent values.exit versions.exit statuses.exit counts.exit
-        ≡ sentFrom head seed loss (lentSent values.entry versions.entry statuses.entry counts.entry) (slotCount head)) }
+    requires { head_ok head ≡ true }
+    ensures { (result ≡ true_total head seed loss)
+        × (lent_sent values.exit versions.exit statuses.exit counts.exit
+        ≡ sent_from head seed loss (lent_sent values.entry versions.entry statuses.entry counts.entry) (slot_count head)) }
 {
     let slots = opening::slot_count(head) as u32;
     let most = most_of(head);
@@ -85,9 +85,9 @@ pub fn read_dial(
     widths: &mut [u16],
     total: u64,
 )
-    ensures { lentReads readings.exit read_versions.exit widths.exit
-        ≡ registerAfter head (registerAfter head (lentReads readings.entry read_versions.entry widths.entry) 0 1 0 0)
-        head.days 1 (total % dialModulus) 0 }
+    ensures { lent_reads readings.exit read_versions.exit widths.exit
+        ≡ register_after head (register_after head (lent_reads readings.entry read_versions.entry widths.entry) 0 1 0 0)
+        head.days 1 (total % dial_modulus) 0 }
 {
     book::register(head, readings, read_versions, widths, 0, 1, 0, 0);
     let reading = (total % 100_000_000) as u32;

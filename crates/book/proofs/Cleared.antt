@@ -6,8 +6,8 @@ use native.Mathlib.Omega.{arith}
 use lib.ListN.{length, set, drop, replicate, length-set, drop_of_length-le}
 use borrow.Author.Fill.{fill_more}
 use Rattle.rules.specs.declared.Head.{Head}
-use Rattle.rules.specs.Opening.{slotCount}
-use Rattle.rules.specs.Lent.{slots, agreedLists, cells}
+use Rattle.rules.specs.Opening.{slot_count}
+use Rattle.rules.specs.Lent.{slots, agreed_lists, cells}
 use Rattle.book.specs.Opening.{opened}
 use Rattle.book.proofs.EachCall.{book}
 
@@ -17,8 +17,8 @@ pub record Cleared (d : List ℕ) (list : List ℕ) (i : ℕ) : Type 0 where
   pub size : length list ≡ length d
   pub within : i ≤ length d
 
-pub cleared-next : (d list : List ℕ) (i : ℕ) → Cleared d list i → i < length list → Cleared d (set list i 0) (i + 1)
-cleared-next d list i c lt =
+pub cleared_next : (d list : List ℕ) (i : ℕ) → Cleared d list i → i < length list → Cleared d (set list i 0) (i + 1)
+cleared_next d list i c lt =
     let e = c.size in
     let below : i < length d = omega arith in
     record {
@@ -27,8 +27,8 @@ cleared-next d list i c lt =
       within = omega arith;
     }
 
-pub cleared-all : (d list : List ℕ) (i : ℕ) → Cleared d list i → length list ≤ i → list ≡ replicate (length d) 0
-cleared-all d list i c le =
+pub cleared_all : (d list : List ℕ) (i : ℕ) → Cleared d list i → length list ≤ i → list ≡ replicate (length d) 0
+cleared_all d list i c le =
     let s = c.size in
     let w = c.within in
     let e : i ≡ length d = omega arith in
@@ -36,20 +36,20 @@ cleared-all d list i c le =
     c.cells ∙ rw (drop_of_length-le d {i = i} over, append-nil, e)
 
 -- ten lists of zeros are those of an opened book
-pub opened-lists : (h : Head) {values versions statuses holidays readings readVersions agreed agreed-versions counts widths : List ℕ}
-    → values ≡ replicate (slotCount h) 0 → versions ≡ replicate (slotCount h) 0 → statuses ≡ replicate (slotCount h) 0
-    → holidays ≡ replicate h.days 0 → readings ≡ replicate (suc h.days) 0 → readVersions ≡ replicate (suc h.days) 0
-    → agreed ≡ replicate (slotCount h) 0 → agreed-versions ≡ replicate (slotCount h) 0
+pub opened_lists : (h : Head) {values versions statuses holidays readings read_versions agreed agreed-versions counts widths : List ℕ}
+    → values ≡ replicate (slot_count h) 0 → versions ≡ replicate (slot_count h) 0 → statuses ≡ replicate (slot_count h) 0
+    → holidays ≡ replicate h.days 0 → readings ≡ replicate (suc h.days) 0 → read_versions ≡ replicate (suc h.days) 0
+    → agreed ≡ replicate (slot_count h) 0 → agreed-versions ≡ replicate (slot_count h) 0
     → counts ≡ replicate h.days 0 → widths ≡ replicate (suc h.days) 0
-    → book (cells (slots values versions statuses) holidays readings readVersions (agreedLists agreed agreed-versions) widths) counts
+    → book (cells (slots values versions statuses) holidays readings read_versions (agreed_lists agreed agreed-versions) widths) counts
     ≡ opened h
 unfolding opened
-opened-lists h values versions statuses holidays readings readVersions agreed agreed-versions counts widths = λ t. record {
+opened_lists h values versions statuses holidays readings read_versions agreed agreed-versions counts widths = λ t. record {
   cells = record {
     slots = record { values = values t; versions = versions t; statuses = statuses t };
     holidays = holidays t;
     readings = readings t;
-    readVersions = readVersions t;
+    read_versions = read_versions t;
     agreed = record { values = agreed t; versions = agreed-versions t };
     widths = widths t;
   };

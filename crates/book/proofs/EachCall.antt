@@ -4,15 +4,15 @@ use mathlib.Core.Path.{◌≡◌}
 use Prim.Native.Nat.{ℕ}
 use Rattle.rules.specs.declared.Head.{Head}
 use Rattle.rules.specs.Opening.{Cells}
-use Rattle.rules.specs.Lent.{slots, agreedLists, cells}
+use Rattle.rules.specs.Lent.{slots, agreed_lists, cells}
 use Rattle.book.specs.declared.calls.Call.{Call}
 use Rattle.book.specs.declared.calls.Call.TheVariants.{Delivery, Holiday, Register, Agreed}
 use Rattle.book.specs.Answers.{Answer}
-use Rattle.book.specs.Arguments.{callMeant}
-use Rattle.book.specs.Cells.{Book, reads_of, withSlots, withHolidays, withReads, withAgreed}
-use Rattle.book.specs.Lent.{readLists}
-use Rattle.book.specs.Filling.{deliverAnswer, deliverAfter, countsAfter, holidayAnswer, holidayAfter, registerAnswer, registerAfter}
-use Rattle.book.specs.Filling.{agreeAnswer, agreeAfter, answer, after}
+use Rattle.book.specs.Arguments.{call_meant}
+use Rattle.book.specs.Cells.{Book, reads_of, with_slots, with_holidays, with_reads, with_agreed}
+use Rattle.book.specs.Lent.{read_lists}
+use Rattle.book.specs.Filling.{deliver_answer, deliver_after, counts_after, holiday_answer, holiday_after, register_answer, register_after}
+use Rattle.book.specs.Filling.{agree_answer, agree_after, answer, after}
 
 -- the lists of a book
 abbrev pub book : Cells → List ℕ → Book
@@ -21,50 +21,50 @@ book b counts = record { cells = b; counts = counts }
 module _ (h : Head) (b : Cells) (counts : List ℕ) (call : Call) (a : Answer) where
   pub delivered : (slot version value status : ℕ) (values versions statuses after-counts : List ℕ)
       → call ≡ Delivery slot version value status
-      → a ≡ deliverAnswer h b.slots counts slot version value status
-      → slots values versions statuses ≡ deliverAfter h b.slots counts slot version value status
-      → after-counts ≡ countsAfter h b.slots counts slot version value status
-      → (a ≡ answer h (book b counts) (callMeant call))
-      × (book (withSlots b (slots values versions statuses)) after-counts ≡ after h (book b counts) (callMeant call))
+      → a ≡ deliver_answer h b.slots counts slot version value status
+      → slots values versions statuses ≡ deliver_after h b.slots counts slot version value status
+      → after-counts ≡ counts_after h b.slots counts slot version value status
+      → (a ≡ answer h (book b counts) (call_meant call))
+      × (book (with_slots b (slots values versions statuses)) after-counts ≡ after h (book b counts) (call_meant call))
   unfolding answer after
   delivered slot version value status values versions statuses after-counts k e p s =
       rw k (
         e,
-        λ t. record { cells = withSlots b (p t); counts = s t },
+        λ t. record { cells = with_slots b (p t); counts = s t },
       )
 
-  pub named : (day : ℕ) (holidays : List ℕ) → call ≡ Holiday day → a ≡ holidayAnswer h b.holidays day
-      → holidays ≡ holidayAfter h b.holidays day
-      → (a ≡ answer h (book b counts) (callMeant call))
-      × (book (withHolidays b holidays) counts ≡ after h (book b counts) (callMeant call))
+  pub named : (day : ℕ) (holidays : List ℕ) → call ≡ Holiday day → a ≡ holiday_answer h b.holidays day
+      → holidays ≡ holiday_after h b.holidays day
+      → (a ≡ answer h (book b counts) (call_meant call))
+      × (book (with_holidays b holidays) counts ≡ after h (book b counts) (call_meant call))
   unfolding answer after
   named day holidays k e p =
       rw k (
         e,
-        λ t. record { cells = withHolidays b (p t); counts = counts },
+        λ t. record { cells = with_holidays b (p t); counts = counts },
       )
 
-  pub registered : (boundary version reading width : ℕ) (readings readVersions widths : List ℕ) → call ≡ Register boundary version reading
+  pub registered : (boundary version reading width : ℕ) (readings read_versions widths : List ℕ) → call ≡ Register boundary version reading
       width
-      → a ≡ registerAnswer h (reads_of b) boundary version reading width
-      → readLists readings readVersions widths ≡ registerAfter h (reads_of b) boundary version reading width
-      → (a ≡ answer h (book b counts) (callMeant call))
-      × (book (withReads b (readLists readings readVersions widths)) counts ≡ after h (book b counts) (callMeant call))
+      → a ≡ register_answer h (reads_of b) boundary version reading width
+      → read_lists readings read_versions widths ≡ register_after h (reads_of b) boundary version reading width
+      → (a ≡ answer h (book b counts) (call_meant call))
+      × (book (with_reads b (read_lists readings read_versions widths)) counts ≡ after h (book b counts) (call_meant call))
   unfolding answer after
-  registered boundary version reading width readings readVersions widths k e p =
+  registered boundary version reading width readings read_versions widths k e p =
       rw k (
         e,
-        λ t. record { cells = withReads b (p t); counts = counts },
+        λ t. record { cells = with_reads b (p t); counts = counts },
       )
 
   pub settled : (slot version value : ℕ) (values versions : List ℕ) → call ≡ Agreed slot version value
-      → a ≡ agreeAnswer h b.agreed slot version value
-      → agreedLists values versions ≡ agreeAfter h b.agreed slot version value
-      → (a ≡ answer h (book b counts) (callMeant call))
-      × (book (withAgreed b (agreedLists values versions)) counts ≡ after h (book b counts) (callMeant call))
+      → a ≡ agree_answer h b.agreed slot version value
+      → agreed_lists values versions ≡ agree_after h b.agreed slot version value
+      → (a ≡ answer h (book b counts) (call_meant call))
+      × (book (with_agreed b (agreed_lists values versions)) counts ≡ after h (book b counts) (call_meant call))
   unfolding answer after
   settled slot version value values versions k e p =
       rw k (
         e,
-        λ t. record { cells = withAgreed b (p t); counts = counts },
+        λ t. record { cells = with_agreed b (p t); counts = counts },
       )

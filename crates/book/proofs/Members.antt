@@ -11,57 +11,57 @@ use Rattle.base.proofs.Logic.{or_parts}
 use Rattle.book.specs.Arguments.{Call}
 use Rattle.book.specs.Arguments.Call.{delivery, holiday, register, agreed}
 use Rattle.book.specs.Contents.{Measured, DialRead}
-use Rattle.book.specs.Plain.{Said, deliveries, keptReads, agreements, named}
+use Rattle.book.specs.Plain.{Said, deliveries, kept_reads, agreements, named}
 
 -- the call that said it
-abbrev pub deliveredAs : ℕ → Said Measured → Call
-deliveredAs i s = delivery i s.version s.content.value s.content.status
+abbrev pub delivered_as : ℕ → Said Measured → Call
+delivered_as i s = delivery i s.version s.content.value s.content.status
 
-abbrev pub readAs : ℕ → Said DialRead → Call
-readAs d s = register d s.version s.content.reading s.content.width
+abbrev pub read_as : ℕ → Said DialRead → Call
+read_as d s = register d s.version s.content.reading s.content.width
 
-abbrev pub agreedAs : ℕ → Said ℕ → Call
-agreedAs i s = agreed i s.version s.content
+abbrev pub agreed_as : ℕ → Said ℕ → Call
+agreed_as i s = agreed i s.version s.content
 
 -- what stands in a list, where x may have been put in front, was said by c, where d may have said x
-said-by : {A : Type 0} (t : Bool) (x s : Said A) (ss : List (Said A)) (c d : Call) (kept : List Call) → (t ≡ true → s ≡ x → c ≡ d)
+said_by : {A : Type 0} (t : Bool) (x s : Said A) (ss : List (Said A)) (c d : Call) (kept : List Call) → (t ≡ true → s ≡ x → c ≡ d)
     → (Memᴰ s ss → Memᴰ c kept) → Memᴰ s (cond t (x ∷ ss) ss) → Memᴰ c (d ∷ kept)
-said-by true x s ss c d kept here rest (Memᴰ.head q) = Memᴰ.head (here refl q)
-said-by true x s ss c d kept here rest (Memᴰ.tail m) = Memᴰ.tail (rest m)
-said-by false x s ss c d kept here rest m = Memᴰ.tail (rest m)
+said_by true x s ss c d kept here rest (Memᴰ.head q) = Memᴰ.head (here refl q)
+said_by true x s ss c d kept here rest (Memᴰ.tail m) = Memᴰ.tail (rest m)
+said_by false x s ss c d kept here rest m = Memᴰ.tail (rest m)
 
 -- what is said of a slot was said by a kept delivery
-pub deliveries-from : (i : ℕ) (kept : List Call) (s : Said Measured) → Memᴰ s (deliveries i kept) → Memᴰ (deliveredAs i s) kept
+pub deliveries_from : (i : ℕ) (kept : List Call) (s : Said Measured) → Memᴰ s (deliveries i kept) → Memᴰ (delivered_as i s) kept
 unfolding deliveries
-deliveries-from i (delivery slot version value status ∷ kept) s m =
-    said-by (eqb slot i) (record { version = version; content = record { value = value; status = status } }) s
-    (deliveries i kept) (deliveredAs i s) (delivery slot version value status) kept
-    (λ e q. rw (q, eqb-true slot i e)) (deliveries-from i kept s) m
-deliveries-from i (holiday day ∷ kept) s m = Memᴰ.tail (deliveries-from i kept s m)
-deliveries-from i (register boundary version reading width ∷ kept) s m = Memᴰ.tail (deliveries-from i kept s m)
-deliveries-from i (agreed slot version value ∷ kept) s m = Memᴰ.tail (deliveries-from i kept s m)
+deliveries_from i (delivery slot version value status ∷ kept) s m =
+    said_by (eqb slot i) (record { version = version; content = record { value = value; status = status } }) s
+    (deliveries i kept) (delivered_as i s) (delivery slot version value status) kept
+    (λ e q. rw (q, eqb-true slot i e)) (deliveries_from i kept s) m
+deliveries_from i (holiday day ∷ kept) s m = Memᴰ.tail (deliveries_from i kept s m)
+deliveries_from i (register boundary version reading width ∷ kept) s m = Memᴰ.tail (deliveries_from i kept s m)
+deliveries_from i (agreed slot version value ∷ kept) s m = Memᴰ.tail (deliveries_from i kept s m)
 
 -- and of a boundary by a kept register read
-pub reads-from : (d : ℕ) (kept : List Call) (s : Said DialRead) → Memᴰ s (keptReads d kept) → Memᴰ (readAs d s) kept
-unfolding keptReads
-reads-from d (delivery slot version value status ∷ kept) s m = Memᴰ.tail (reads-from d kept s m)
-reads-from d (holiday day ∷ kept) s m = Memᴰ.tail (reads-from d kept s m)
-reads-from d (register boundary version reading width ∷ kept) s m =
-    said-by (eqb boundary d) (record { version = version; content = record { reading = reading; width = width } }) s
-    (keptReads d kept) (readAs d s) (register boundary version reading width) kept
-    (λ e q. rw (q, eqb-true boundary d e)) (reads-from d kept s) m
-reads-from d (agreed slot version value ∷ kept) s m = Memᴰ.tail (reads-from d kept s m)
+pub reads_from : (d : ℕ) (kept : List Call) (s : Said DialRead) → Memᴰ s (kept_reads d kept) → Memᴰ (read_as d s) kept
+unfolding kept_reads
+reads_from d (delivery slot version value status ∷ kept) s m = Memᴰ.tail (reads_from d kept s m)
+reads_from d (holiday day ∷ kept) s m = Memᴰ.tail (reads_from d kept s m)
+reads_from d (register boundary version reading width ∷ kept) s m =
+    said_by (eqb boundary d) (record { version = version; content = record { reading = reading; width = width } }) s
+    (kept_reads d kept) (read_as d s) (register boundary version reading width) kept
+    (λ e q. rw (q, eqb-true boundary d e)) (reads_from d kept s) m
+reads_from d (agreed slot version value ∷ kept) s m = Memᴰ.tail (reads_from d kept s m)
 
 -- and of an agreed slot by a kept agreed call
-pub agreements-from : (i : ℕ) (kept : List Call) (s : Said ℕ) → Memᴰ s (agreements i kept) → Memᴰ (agreedAs i s) kept
+pub agreements_from : (i : ℕ) (kept : List Call) (s : Said ℕ) → Memᴰ s (agreements i kept) → Memᴰ (agreed_as i s) kept
 unfolding agreements
-agreements-from i (delivery slot version value status ∷ kept) s m = Memᴰ.tail (agreements-from i kept s m)
-agreements-from i (holiday day ∷ kept) s m = Memᴰ.tail (agreements-from i kept s m)
-agreements-from i (register boundary version reading width ∷ kept) s m = Memᴰ.tail (agreements-from i kept s m)
-agreements-from i (agreed slot version value ∷ kept) s m =
-    said-by (eqb slot i) (record { version = version; content = value }) s
-    (agreements i kept) (agreedAs i s) (agreed slot version value) kept
-    (λ e q. rw (q, eqb-true slot i e)) (agreements-from i kept s) m
+agreements_from i (delivery slot version value status ∷ kept) s m = Memᴰ.tail (agreements_from i kept s m)
+agreements_from i (holiday day ∷ kept) s m = Memᴰ.tail (agreements_from i kept s m)
+agreements_from i (register boundary version reading width ∷ kept) s m = Memᴰ.tail (agreements_from i kept s m)
+agreements_from i (agreed slot version value ∷ kept) s m =
+    said_by (eqb slot i) (record { version = version; content = value }) s
+    (agreements i kept) (agreed_as i s) (agreed slot version value) kept
+    (λ e q. rw (q, eqb-true slot i e)) (agreements_from i kept s) m
 
 -- what a kept delivery says of its slot is among what is said of it
 said_of : {A : Type 0} (t : Bool) (x s : Said A) (ss : List (Said A)) (c d : Call) (kept : List Call) → (c ≡ d → (t ≡ true) × (s ≡ x))
@@ -71,17 +71,17 @@ said_of true x s ss c d kept here rest (Memᴰ.tail m) = Memᴰ.tail (rest m)
 said_of false x s ss c d kept here rest (Memᴰ.tail m) = rest m
 
 -- a call that says nothing of it
-other-call : {c d : Call} {kept : List Call} → (c ≡ d → ⊥) → Memᴰ c (d ∷ kept) → Memᴰ c kept
-other-call ne (Memᴰ.head e) = absurd (ne e)
-other-call ne (Memᴰ.tail m) = m
+other_call : {c d : Call} {kept : List Call} → (c ≡ d → ⊥) → Memᴰ c (d ∷ kept) → Memᴰ c kept
+other_call ne (Memᴰ.head e) = absurd (ne e)
+other_call ne (Memᴰ.tail m) = m
 
-pub deliveries-of : (i : ℕ) (kept : List Call) (s : Said Measured) → Memᴰ (deliveredAs i s) kept → Memᴰ s (deliveries i kept)
+pub deliveries_of : (i : ℕ) (kept : List Call) (s : Said Measured) → Memᴰ (delivered_as i s) kept → Memᴰ s (deliveries i kept)
 unfolding deliveries
-deliveries-of i (delivery slot version value status ∷ kept) s m =
+deliveries_of i (delivery slot version value status ∷ kept) s m =
     said_of (eqb slot i) (record { version = version; content = record { value = value; status = status } }) s
-    (deliveries i kept) (deliveredAs i s) (delivery slot version value status) kept (λ e. parts e) (deliveries-of i kept s) m
+    (deliveries i kept) (delivered_as i s) (delivery slot version value status) kept (λ e. parts e) (deliveries_of i kept s) m
   where
-    parts : deliveredAs i s ≡ delivery slot version value status
+    parts : delivered_as i s ≡ delivery slot version value status
         → (eqb slot i ≡ true) × (s ≡ record { version = version; content = record { value = value; status = status } })
     parts e =
         let at : slot ≡ i = cc in
@@ -89,22 +89,22 @@ deliveries-of i (delivery slot version value status ∷ kept) s m =
         let x : s.content.value ≡ value = cc in
         let y : s.content.status ≡ status = cc in
         (eq-eqb slot i at, λ t. record { version = v t; content = record { value = x t; status = y t } })
-deliveries-of i (holiday day ∷ kept) s m = deliveries-of i kept s (other-call (λ e. let z : ◌≡◌ {A = ℕ} 0 1 = cc in omega arith) m)
-deliveries-of i (register boundary version reading width ∷ kept) s m =
-    deliveries-of i kept s (other-call (λ e. let z : ◌≡◌ {A = ℕ} 0 1 = cc in omega arith) m)
-deliveries-of i (agreed slot version value ∷ kept) s m =
-    deliveries-of i kept s (other-call (λ e. let z : ◌≡◌ {A = ℕ} 0 1 = cc in omega arith) m)
+deliveries_of i (holiday day ∷ kept) s m = deliveries_of i kept s (other_call (λ e. let z : ◌≡◌ {A = ℕ} 0 1 = cc in omega arith) m)
+deliveries_of i (register boundary version reading width ∷ kept) s m =
+    deliveries_of i kept s (other_call (λ e. let z : ◌≡◌ {A = ℕ} 0 1 = cc in omega arith) m)
+deliveries_of i (agreed slot version value ∷ kept) s m =
+    deliveries_of i kept s (other_call (λ e. let z : ◌≡◌ {A = ℕ} 0 1 = cc in omega arith) m)
 
-pub reads_of : (d : ℕ) (kept : List Call) (s : Said DialRead) → Memᴰ (readAs d s) kept → Memᴰ s (keptReads d kept)
-unfolding keptReads
+pub reads_of : (d : ℕ) (kept : List Call) (s : Said DialRead) → Memᴰ (read_as d s) kept → Memᴰ s (kept_reads d kept)
+unfolding kept_reads
 reads_of d (delivery slot version value status ∷ kept) s m =
-    reads_of d kept s (other-call (λ e. let z : ◌≡◌ {A = ℕ} 0 1 = cc in omega arith) m)
-reads_of d (holiday day ∷ kept) s m = reads_of d kept s (other-call (λ e. let z : ◌≡◌ {A = ℕ} 0 1 = cc in omega arith) m)
+    reads_of d kept s (other_call (λ e. let z : ◌≡◌ {A = ℕ} 0 1 = cc in omega arith) m)
+reads_of d (holiday day ∷ kept) s m = reads_of d kept s (other_call (λ e. let z : ◌≡◌ {A = ℕ} 0 1 = cc in omega arith) m)
 reads_of d (register boundary version reading width ∷ kept) s m =
     said_of (eqb boundary d) (record { version = version; content = record { reading = reading; width = width } }) s
-    (keptReads d kept) (readAs d s) (register boundary version reading width) kept (λ e. parts e) (reads_of d kept s) m
+    (kept_reads d kept) (read_as d s) (register boundary version reading width) kept (λ e. parts e) (reads_of d kept s) m
   where
-    parts : readAs d s ≡ register boundary version reading width
+    parts : read_as d s ≡ register boundary version reading width
         → (eqb boundary d ≡ true) × (s ≡ record { version = version; content = record { reading = reading; width = width } })
     parts e =
         let at : boundary ≡ d = cc in
@@ -112,20 +112,20 @@ reads_of d (register boundary version reading width ∷ kept) s m =
         let x : s.content.reading ≡ reading = cc in
         let y : s.content.width ≡ width = cc in
         (eq-eqb boundary d at, λ t. record { version = v t; content = record { reading = x t; width = y t } })
-reads_of d (agreed slot version value ∷ kept) s m = reads_of d kept s (other-call (λ e. let z : ◌≡◌ {A = ℕ} 0 1 = cc in omega arith) m)
+reads_of d (agreed slot version value ∷ kept) s m = reads_of d kept s (other_call (λ e. let z : ◌≡◌ {A = ℕ} 0 1 = cc in omega arith) m)
 
-pub agreements-of : (i : ℕ) (kept : List Call) (s : Said ℕ) → Memᴰ (agreedAs i s) kept → Memᴰ s (agreements i kept)
+pub agreements_of : (i : ℕ) (kept : List Call) (s : Said ℕ) → Memᴰ (agreed_as i s) kept → Memᴰ s (agreements i kept)
 unfolding agreements
-agreements-of i (delivery slot version value status ∷ kept) s m =
-    agreements-of i kept s (other-call (λ e. let z : ◌≡◌ {A = ℕ} 0 1 = cc in omega arith) m)
-agreements-of i (holiday day ∷ kept) s m = agreements-of i kept s (other-call (λ e. let z : ◌≡◌ {A = ℕ} 0 1 = cc in omega arith) m)
-agreements-of i (register boundary version reading width ∷ kept) s m =
-    agreements-of i kept s (other-call (λ e. let z : ◌≡◌ {A = ℕ} 0 1 = cc in omega arith) m)
-agreements-of i (agreed slot version value ∷ kept) s m =
+agreements_of i (delivery slot version value status ∷ kept) s m =
+    agreements_of i kept s (other_call (λ e. let z : ◌≡◌ {A = ℕ} 0 1 = cc in omega arith) m)
+agreements_of i (holiday day ∷ kept) s m = agreements_of i kept s (other_call (λ e. let z : ◌≡◌ {A = ℕ} 0 1 = cc in omega arith) m)
+agreements_of i (register boundary version reading width ∷ kept) s m =
+    agreements_of i kept s (other_call (λ e. let z : ◌≡◌ {A = ℕ} 0 1 = cc in omega arith) m)
+agreements_of i (agreed slot version value ∷ kept) s m =
     said_of (eqb slot i) (record { version = version; content = value }) s
-    (agreements i kept) (agreedAs i s) (agreed slot version value) kept (λ e. parts e) (agreements-of i kept s) m
+    (agreements i kept) (agreed_as i s) (agreed slot version value) kept (λ e. parts e) (agreements_of i kept s) m
   where
-    parts : agreedAs i s ≡ agreed slot version value → (eqb slot i ≡ true) × (s ≡ record { version = version; content = value })
+    parts : agreed_as i s ≡ agreed slot version value → (eqb slot i ≡ true) × (s ≡ record { version = version; content = value })
     parts e =
         let at : slot ≡ i = cc in
         let v : s.version ≡ version = cc in
@@ -133,20 +133,20 @@ agreements-of i (agreed slot version value ∷ kept) s m =
         (eq-eqb slot i at, λ t. record { version = v t; content = x t })
 
 -- a day is named exactly when its holiday call is kept
-pub named-from : (d : ℕ) (kept : List Call) → named d kept ≡ true → Memᴰ (holiday d) kept
+pub named_from : (d : ℕ) (kept : List Call) → named d kept ≡ true → Memᴰ (holiday d) kept
 unfolding named
-named-from d [] e = absurd (false≢true e)
-named-from d (delivery slot version value status ∷ kept) e = Memᴰ.tail (named-from d kept e)
-named-from d (holiday day ∷ kept) e =
-    ⊎_elim (λ q. Memᴰ.head (ap holiday (sym (eqb-true day d q)))) (λ q. Memᴰ.tail (named-from d kept q)) (or_parts _ _ e)
-named-from d (register boundary version reading width ∷ kept) e = Memᴰ.tail (named-from d kept e)
-named-from d (agreed slot version value ∷ kept) e = Memᴰ.tail (named-from d kept e)
+named_from d [] e = absurd (false≢true e)
+named_from d (delivery slot version value status ∷ kept) e = Memᴰ.tail (named_from d kept e)
+named_from d (holiday day ∷ kept) e =
+    ⊎_elim (λ q. Memᴰ.head (ap holiday (sym (eqb-true day d q)))) (λ q. Memᴰ.tail (named_from d kept q)) (or_parts _ _ e)
+named_from d (register boundary version reading width ∷ kept) e = Memᴰ.tail (named_from d kept e)
+named_from d (agreed slot version value ∷ kept) e = Memᴰ.tail (named_from d kept e)
 
-pub named-of : (d : ℕ) (kept : List Call) → Memᴰ (holiday d) kept → named d kept ≡ true
+pub named_of : (d : ℕ) (kept : List Call) → Memᴰ (holiday d) kept → named d kept ≡ true
 unfolding named
-named-of d (delivery slot version value status ∷ kept) m = named-of d kept (other-call (λ e. let z : ◌≡◌ {A = ℕ} 0 1 = cc in omega arith) m)
-named-of d (holiday day ∷ kept) (Memᴰ.head e) = let at : day ≡ d = cc in rw (eq-eqb day d at)
-named-of d (holiday day ∷ kept) (Memᴰ.tail m) = rw (named-of d kept m) (or-true (eqb day d))
-named-of d (register boundary version reading width ∷ kept) m =
-    named-of d kept (other-call (λ e. let z : ◌≡◌ {A = ℕ} 0 1 = cc in omega arith) m)
-named-of d (agreed slot version value ∷ kept) m = named-of d kept (other-call (λ e. let z : ◌≡◌ {A = ℕ} 0 1 = cc in omega arith) m)
+named_of d (delivery slot version value status ∷ kept) m = named_of d kept (other_call (λ e. let z : ◌≡◌ {A = ℕ} 0 1 = cc in omega arith) m)
+named_of d (holiday day ∷ kept) (Memᴰ.head e) = let at : day ≡ d = cc in rw (eq-eqb day d at)
+named_of d (holiday day ∷ kept) (Memᴰ.tail m) = rw (named_of d kept m) (or-true (eqb day d))
+named_of d (register boundary version reading width ∷ kept) m =
+    named_of d kept (other_call (λ e. let z : ◌≡◌ {A = ℕ} 0 1 = cc in omega arith) m)
+named_of d (agreed slot version value ∷ kept) m = named_of d kept (other_call (λ e. let z : ◌≡◌ {A = ℕ} 0 1 = cc in omega arith) m)

@@ -4,11 +4,11 @@ use mathlib.Core.Path.{◌≡◌, sym, ◌∙◌}
 use borrow.Author.Tests.{not-true, not-false}
 use Rattle.base.specs.Refusals.{unless}
 use Rattle.rules.specs.declared.Head.{Head}
-use Rattle.rules.specs.Opening.{headOk}
+use Rattle.rules.specs.Opening.{head_ok}
 use Rattle.book.specs.Answers.{Answer}
 use Rattle.book.specs.Answers.Answer.{refused}
-use Rattle.book.specs.Arguments.{Call, argumentRules}
-use Rattle.book.specs.Filling.{inputRules}
+use Rattle.book.specs.Arguments.{Call, argument_rules}
+use Rattle.book.specs.Filling.{input_rules}
 
 -- what the code's `if !test` tells of a test that a definition names
 pub passes : {r t : Bool} → r ≡ t → not r ≡ false → t ≡ true
@@ -18,8 +18,8 @@ pub fails : {r t : Bool} → r ≡ t → not r ≡ true → t ≡ false
 fails {r} e h = sym e ∙ not-true r h
 
 module _ (h : Head) (fit : Bool) (call : Call) (rest : Answer) where
-  pub refused-2 : headOk h ≡ true → fit ≡ false → unless refused (inputRules h fit call) rest ≡ refused 2
-  refused-2 ok unfit = rw (ok, unfit)
+  pub refused_2 : head_ok h ≡ true → fit ≡ false → unless refused (input_rules h fit call) rest ≡ refused 2
+  refused_2 ok unfit = rw (ok, unfit)
 
-  pub past-both : headOk h ≡ true → fit ≡ true → unless refused (inputRules h fit call) rest ≡ unless refused (argumentRules h call) rest
-  past-both ok fits = rw (ok, fits)
+  pub past_both : head_ok h ≡ true → fit ≡ true → unless refused (input_rules h fit call) rest ≡ unless refused (argument_rules h call) rest
+  past_both ok fits = rw (ok, fits)

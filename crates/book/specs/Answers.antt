@@ -14,40 +14,40 @@ pub data Answer : Type 0 where
   refused : ℕ → Answer
 
 -- 01's answer for each case of the two enums: of opening, and of a filling call
-abbrev pub openedMeant : Performed → Answer
-openedMeant performed.Done = done
-openedMeant (performed.Refused n) = refused n
+abbrev pub opened_meant : Performed → Answer
+opened_meant performed.Done = done
+opened_meant (performed.Refused n) = refused n
 
-abbrev pub receivedMeant : Received → Answer
-receivedMeant received.Stored = stored
-receivedMeant received.Late = late
-receivedMeant received.Repeat = repeat
-receivedMeant (received.Refused n) = refused n
+abbrev pub received_meant : Received → Answer
+received_meant received.Stored = stored
+received_meant received.Late = late
+received_meant received.Repeat = repeat
+received_meant (received.Refused n) = refused n
 
 -- an answer as one number: refusals are under 100, so 0, 100 and 101 are free
-abbrev pub answerCode : Answer → ℕ
-answerCode done = 0
-answerCode stored = 0
-answerCode late = 100
-answerCode repeat = 101
-answerCode (refused n) = n
+abbrev pub answer_code : Answer → ℕ
+answer_code done = 0
+answer_code stored = 0
+answer_code late = 100
+answer_code repeat = 101
+answer_code (refused n) = n
 
 -- "Stored, late and repeat are the accepted calls."
-abbrev pub isAccepted : Answer → Bool
-isAccepted done = false
-isAccepted stored = true
-isAccepted late = true
-isAccepted repeat = true
-isAccepted (refused n) = false
+abbrev pub is_accepted : Answer → Bool
+is_accepted done = false
+is_accepted stored = true
+is_accepted late = true
+is_accepted repeat = true
+is_accepted (refused n) = false
 
-abbrev pub isStored : Answer → Bool
-isStored done = false
-isStored stored = true
-isStored late = false
-isStored repeat = false
-isStored (refused n) = false
+abbrev pub is_stored : Answer → Bool
+is_stored done = false
+is_stored stored = true
+is_stored late = false
+is_stored repeat = false
+is_stored (refused n) = false
 
 -- the version before, the call's, and whether the contents are equal: higher stored, lower late, equal repeat or 10
-unfoldable pub byVersion : ℕ → ℕ → Bool → Answer
-byVersion before version same =
+unfoldable pub by_version : ℕ → ℕ → Bool → Answer
+by_version before version same =
     cond (ltb before version) stored (cond (ltb version before) late (cond same repeat (refused 10)))

@@ -1,9 +1,9 @@
 // Any of the filling calls as a value, made on all the lists.
 ghost use Rattle.std.specs.Prelude.{◌≡◌};
-ghost use Rattle.book.specs.Answers.{receivedMeant};
-ghost use Rattle.book.specs.Arguments.{callMeant};
+ghost use Rattle.book.specs.Answers.{received_meant};
+ghost use Rattle.book.specs.Arguments.{call_meant};
 ghost use Rattle.book.specs.Filling.{answer, after};
-ghost use Rattle.book.specs.Lent.{lentBook};
+ghost use Rattle.book.specs.Lent.{lent_book};
 
 use crate::Received;
 use rules::Head;
@@ -45,12 +45,12 @@ pub fn make(
     call: Call,
 ) -> Received
     ensures { let book =
-        lentBook values.entry versions.entry statuses.entry holidays.entry readings.entry read_versions.entry
+        lent_book values.entry versions.entry statuses.entry holidays.entry readings.entry read_versions.entry
         agreed.entry agreed_versions.entry counts.entry widths.entry in
-        (receivedMeant result ≡ answer head book (callMeant call))
-        × (lentBook values.exit versions.exit statuses.exit holidays.exit readings.exit read_versions.exit
+        (received_meant result ≡ answer head book (call_meant call))
+        × (lent_book values.exit versions.exit statuses.exit holidays.exit readings.exit read_versions.exit
         agreed.exit agreed_versions.exit counts.exit widths.exit
-        ≡ after head book (callMeant call)) }
+        ≡ after head book (call_meant call)) }
 {
     match call {
         Call::Delivery {

@@ -1,9 +1,9 @@
 // A delivery past the rules from its input: its cells and its day's count (01, The three calls that fill it; 02, W6).
 ghost use Rattle.std.specs.Prelude.{true, false, cond, ◌≡◌, ◌+◌, ◌/◌, eqb};
-ghost use Rattle.rules.specs.Opening.{headOk, slotsPerDay};
-ghost use Rattle.rules.specs.Lent.{lentSlots};
-ghost use Rattle.book.specs.Answers.{receivedMeant};
-ghost use Rattle.book.specs.Filling.{isFull, againstDelivery, slotsWith, countsWith};
+ghost use Rattle.rules.specs.Opening.{head_ok, slots_per_day};
+ghost use Rattle.rules.specs.Lent.{lent_slots};
+ghost use Rattle.book.specs.Answers.{received_meant};
+ghost use Rattle.book.specs.Filling.{is_full, against_delivery, slots_with, counts_with};
 ghost use Rattle.book.specs.Inner.Lent.{Deliverable};
 
 use crate::{Received, filing};
@@ -11,8 +11,8 @@ use rules::{Head, opening};
 
 // A first delivery finds n or more delivered in its day.
 fn is_full(head: Head, version: u32, count: u16) -> bool
-    requires { headOk head ≡ true }
-    ensures { result ≡ isFull head version count }
+    requires { head_ok head ≡ true }
+    ensures { result ≡ is_full head version count }
 {
     if version != 0 {
         return false;
@@ -22,7 +22,7 @@ fn is_full(head: Head, version: u32, count: u16) -> bool
 
 // The count of a day behind a stored delivery to a slot with this version.
 fn raised(head: Head, version: u32, count: u16) -> u16
-    requires { (headOk head ≡ true) × (isFull head version count ≡ false) }
+    requires { (head_ok head ≡ true) × (is_full head version count ≡ false) }
     ensures { result ≡ cond (eqb version 0) (count + 1) count }
 {
     if version == 0 {
@@ -42,13 +42,13 @@ pub fn file_delivery(
     value: u32,
     status: u8,
 ) -> Received
-    requires { Deliverable head (lentSlots values versions statuses) counts.old slot }
-    ensures { let slots = lentSlots values.entry versions.entry statuses.entry in
-        let found = againstDelivery head slots counts.old slot version value status in
-        (receivedMeant result ≡ found)
-        × (lentSlots values.exit versions.exit statuses.exit
-        ≡ slotsWith found slots slot version value status)
-        × (counts.new ≡ countsWith found versions.old counts.old slot (slot / slotsPerDay head)) }
+    requires { Deliverable head (lent_slots values versions statuses) counts.old slot }
+    ensures { let slots = lent_slots values.entry versions.entry statuses.entry in
+        let found = against_delivery head slots counts.old slot version value status in
+        (received_meant result ≡ found)
+        × (lent_slots values.exit versions.exit statuses.exit
+        ≡ slots_with found slots slot version value status)
+        × (counts.new ≡ counts_with found versions.old counts.old slot (slot / slots_per_day head)) }
 {
     let day = opening::day_of(head, slot);
     let old_version = versions[slot];

@@ -1,14 +1,14 @@
 // A call against its own cell: 11 goes before 10 (01, Numbers of a refusal).
 ghost use Rattle.std.specs.Prelude.{◌&&◌, ◌≡◌, eqb};
-ghost use Rattle.book.specs.Answers.{receivedMeant, isStored};
-ghost use Rattle.book.specs.Filling.{againstSlot, againstDay, againstBoundary, againstAgreed};
-ghost use Rattle.book.specs.Contents.{measured, dialRead};
+ghost use Rattle.book.specs.Answers.{received_meant, is_stored};
+ghost use Rattle.book.specs.Filling.{against_slot, against_day, against_boundary, against_agreed};
+ghost use Rattle.book.specs.Contents.{measured, dial_read};
 
 use crate::{Received, cells, versions};
 use base::EIGHT_DIGITS;
 
 pub fn is_stored(found: Received) -> bool
-    ensures { result ≡ isStored (receivedMeant found) }
+    ensures { result ≡ is_stored (received_meant found) }
 {
     match found {
         Received::Stored => true,
@@ -35,7 +35,7 @@ pub fn against_slot(
     value: u32,
     status: u8,
 ) -> Received
-    ensures { receivedMeant result ≡ againstSlot old_version (measured old_value old_status) version (measured value status) }
+    ensures { received_meant result ≡ against_slot old_version (measured old_value old_status) version (measured value status) }
 {
     if cells::slot_fault(old_version, old_value, old_status) {
         return Received::Refused(11);
@@ -45,7 +45,7 @@ pub fn against_slot(
 }
 
 pub fn against_day(cell: u8) -> Received
-    ensures { receivedMeant result ≡ againstDay cell }
+    ensures { received_meant result ≡ against_day cell }
 {
     if cells::day_fault(cell) {
         return Received::Refused(11);
@@ -73,7 +73,7 @@ pub fn against_boundary(
     reading: u32,
     width: u32,
 ) -> Received
-    ensures { receivedMeant result ≡ againstBoundary old_version (dialRead old_reading old_width) version (dialRead reading width) }
+    ensures { received_meant result ≡ against_boundary old_version (dial_read old_reading old_width) version (dial_read reading width) }
 {
     if cells::read_fault(old_version, old_reading, old_width) {
         return Received::Refused(11);
@@ -83,7 +83,7 @@ pub fn against_boundary(
 }
 
 pub fn against_agreed(old_version: u32, old_value: u32, version: u32, value: u32) -> Received
-    ensures { receivedMeant result ≡ againstAgreed old_version old_value version value }
+    ensures { received_meant result ≡ against_agreed old_version old_value version value }
 {
     if cells::number_fault(EIGHT_DIGITS, old_version, old_value) {
         return Received::Refused(11);

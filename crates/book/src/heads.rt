@@ -1,12 +1,12 @@
 // The head of a delivery (01, Opening): one whose first day lies before 2098 is tested in place, and never laid out for a call.
 ghost use Rattle.std.specs.Prelude.{true, ◌≡◌};
-ghost use Rattle.rules.specs.Opening.{headOk};
+ghost use Rattle.rules.specs.Opening.{head_ok};
 
 use rules::{Head, MOST_DAYS, MOST_LIMIT, MOST_TOLERANCE, opening};
 
 // Within its bounds, and early enough that no number of days takes it past 2099-12-31.
 fn is_early(head: Head) -> bool
-    ensures { result ≡ true → headOk head ≡ true }
+    ensures { result ≡ true → head_ok head ≡ true }
 {
     if 2098 <= head.year {
         return false;
@@ -23,7 +23,7 @@ fn is_early(head: Head) -> bool
 }
 
 pub fn head_ok(head: Head) -> bool
-    ensures { result ≡ headOk head }
+    ensures { result ≡ head_ok head }
 {
     if is_early(head) {
         return true;

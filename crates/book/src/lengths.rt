@@ -1,14 +1,14 @@
 // The lengths of lent lists (01, Numbers of a refusal, 2).
 ghost use Rattle.std.specs.Prelude.{true, ◌&&◌, [], ◌∷◌, ◌≡◌, suc};
 ghost use Rattle.base.specs.Lists.{every};
-ghost use Rattle.rules.specs.Opening.{headOk, slotCount};
-ghost use Rattle.book.specs.Cells.{allLong};
+ghost use Rattle.rules.specs.Opening.{head_ok, slot_count};
+ghost use Rattle.book.specs.Cells.{all_long};
 
 use rules::{Head, opening};
 
 pub fn slots_fit(head: Head, values: usize, versions: usize, statuses: usize) -> bool
-    requires { headOk head ≡ true }
-    ensures { result ≡ allLong (slotCount head) (values ∷ versions ∷ statuses ∷ []) }
+    requires { head_ok head ≡ true }
+    ensures { result ≡ all_long (slot_count head) (values ∷ versions ∷ statuses ∷ []) }
 {
     let n = opening::slot_count(head);
     if values != n {
@@ -22,7 +22,7 @@ pub fn slots_fit(head: Head, values: usize, versions: usize, statuses: usize) ->
 
 // a list of holidays, or of counts
 pub fn days_fit(head: Head, days: usize) -> bool
-    ensures { result ≡ allLong head.days (days ∷ []) }
+    ensures { result ≡ all_long head.days (days ∷ []) }
 {
     days == head.days as usize
 }
@@ -35,8 +35,8 @@ pub fn delivery_fits(
     statuses: usize,
     counts: usize,
 ) -> bool
-    requires { headOk head ≡ true }
-    ensures { result ≡ (allLong (slotCount head) (values ∷ versions ∷ statuses ∷ []) && allLong head.days (counts ∷ [])) }
+    requires { head_ok head ≡ true }
+    ensures { result ≡ (all_long (slot_count head) (values ∷ versions ∷ statuses ∷ []) && all_long head.days (counts ∷ [])) }
 {
     if !slots_fit(head, values, versions, statuses) {
         return false;
@@ -46,7 +46,7 @@ pub fn delivery_fits(
 
 // The lists of a register read (02, W10).
 pub fn reads_fit(head: Head, readings: usize, read_versions: usize, widths: usize) -> bool
-    ensures { result ≡ allLong (suc head.days) (readings ∷ read_versions ∷ widths ∷ []) }
+    ensures { result ≡ all_long (suc head.days) (readings ∷ read_versions ∷ widths ∷ []) }
 {
     let n = head.days as usize + 1;
     if readings != n {
@@ -59,8 +59,8 @@ pub fn reads_fit(head: Head, readings: usize, read_versions: usize, widths: usiz
 }
 
 pub fn agreed_fit(head: Head, agreed: usize, agreed_versions: usize) -> bool
-    requires { headOk head ≡ true }
-    ensures { result ≡ allLong (slotCount head) (agreed ∷ agreed_versions ∷ []) }
+    requires { head_ok head ≡ true }
+    ensures { result ≡ all_long (slot_count head) (agreed ∷ agreed_versions ∷ []) }
 {
     let n = opening::slot_count(head);
     if agreed != n {
@@ -82,12 +82,12 @@ fn cells_fit(
     agreed_versions: usize,
     widths: usize,
 ) -> bool
-    requires { headOk head ≡ true }
+    requires { head_ok head ≡ true }
     ensures { result ≡ every
-        (allLong (slotCount head) (values ∷ versions ∷ statuses ∷ [])
-        ∷ allLong head.days (holidays ∷ [])
-        ∷ allLong (suc head.days) (readings ∷ read_versions ∷ widths ∷ [])
-        ∷ allLong (slotCount head) (agreed ∷ agreed_versions ∷ [])
+        (all_long (slot_count head) (values ∷ versions ∷ statuses ∷ [])
+        ∷ all_long head.days (holidays ∷ [])
+        ∷ all_long (suc head.days) (readings ∷ read_versions ∷ widths ∷ [])
+        ∷ all_long (slot_count head) (agreed ∷ agreed_versions ∷ [])
         ∷ []) }
 {
     if !slots_fit(head, values, versions, statuses) {
@@ -116,14 +116,14 @@ pub fn book_fits(
     counts: usize,
     widths: usize,
 ) -> bool
-    requires { headOk head ≡ true }
+    requires { head_ok head ≡ true }
     ensures { result ≡ (every
-        (allLong (slotCount head) (values ∷ versions ∷ statuses ∷ [])
-        ∷ allLong head.days (holidays ∷ [])
-        ∷ allLong (suc head.days) (readings ∷ read_versions ∷ widths ∷ [])
-        ∷ allLong (slotCount head) (agreed ∷ agreed_versions ∷ [])
+        (all_long (slot_count head) (values ∷ versions ∷ statuses ∷ [])
+        ∷ all_long head.days (holidays ∷ [])
+        ∷ all_long (suc head.days) (readings ∷ read_versions ∷ widths ∷ [])
+        ∷ all_long (slot_count head) (agreed ∷ agreed_versions ∷ [])
         ∷ [])
-        && allLong head.days (counts ∷ [])) }
+        && all_long head.days (counts ∷ [])) }
 {
     if !cells_fit(
         head,

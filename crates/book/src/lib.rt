@@ -12,12 +12,12 @@ mod versions;
 mod zeros;
 
 ghost use Rattle.std.specs.Prelude.{◌≡◌};
-ghost use Rattle.rules.specs.Lent.{lentSlots, lentAgreed};
-ghost use Rattle.book.specs.Answers.{openedMeant, receivedMeant};
-ghost use Rattle.book.specs.Opening.{openAnswer, openAfter};
-ghost use Rattle.book.specs.Filling.{deliverAnswer, deliverAfter, countsAfter, holidayAnswer, holidayAfter};
-ghost use Rattle.book.specs.Filling.{registerAnswer, registerAfter, agreeAnswer, agreeAfter};
-ghost use Rattle.book.specs.Lent.{lentReads, lentBook};
+ghost use Rattle.rules.specs.Lent.{lent_slots, lent_agreed};
+ghost use Rattle.book.specs.Answers.{opened_meant, received_meant};
+ghost use Rattle.book.specs.Opening.{open_answer, open_after};
+ghost use Rattle.book.specs.Filling.{deliver_answer, deliver_after, counts_after, holiday_answer, holiday_after};
+ghost use Rattle.book.specs.Filling.{register_answer, register_after, agree_answer, agree_after};
+ghost use Rattle.book.specs.Lent.{lent_reads, lent_book};
 
 use base::Performed;
 use rules::{Head, opening};
@@ -45,12 +45,12 @@ pub fn open(
     widths: &mut [u16],
 ) -> Performed
     ensures { let book =
-        lentBook values.entry versions.entry statuses.entry holidays.entry readings.entry read_versions.entry
+        lent_book values.entry versions.entry statuses.entry holidays.entry readings.entry read_versions.entry
         agreed.entry agreed_versions.entry counts.entry widths.entry in
-        (openedMeant result ≡ openAnswer head book)
-        × (lentBook values.exit versions.exit statuses.exit holidays.exit readings.exit read_versions.exit
+        (opened_meant result ≡ open_answer head book)
+        × (lent_book values.exit versions.exit statuses.exit holidays.exit readings.exit read_versions.exit
         agreed.exit agreed_versions.exit counts.exit widths.exit
-        ≡ openAfter head book) }
+        ≡ open_after head book) }
 {
     if !opening::head_ok(head) {
         return Performed::Refused(1);
@@ -95,11 +95,11 @@ pub fn deliver(
     value: u32,
     status: u32,
 ) -> Received
-    ensures { let slots = lentSlots values.entry versions.entry statuses.entry in
-        (receivedMeant result ≡ deliverAnswer head slots counts.old slot version value status)
-        × (lentSlots values.exit versions.exit statuses.exit
-        ≡ deliverAfter head slots counts.old slot version value status)
-        × (counts.new ≡ countsAfter head slots counts.old slot version value status) }
+    ensures { let slots = lent_slots values.entry versions.entry statuses.entry in
+        (received_meant result ≡ deliver_answer head slots counts.old slot version value status)
+        × (lent_slots values.exit versions.exit statuses.exit
+        ≡ deliver_after head slots counts.old slot version value status)
+        × (counts.new ≡ counts_after head slots counts.old slot version value status) }
 {
     if !heads::head_ok(head) {
         return Received::Refused(1);
@@ -137,8 +137,8 @@ pub fn deliver(
 }
 
 pub fn holiday(head: Head, holidays: &mut [u8], day: u32) -> Received
-    ensures { (receivedMeant result ≡ holidayAnswer head holidays.old day)
-        × (holidays.new ≡ holidayAfter head holidays.old day) }
+    ensures { (received_meant result ≡ holiday_answer head holidays.old day)
+        × (holidays.new ≡ holiday_after head holidays.old day) }
 {
     if !opening::head_ok(head) {
         return Received::Refused(1);
@@ -167,10 +167,10 @@ pub fn register(
     reading: u32,
     width: u32,
 ) -> Received
-    ensures { let before = lentReads readings.entry read_versions.entry widths.entry in
-        (receivedMeant result ≡ registerAnswer head before boundary version reading width)
-        × (lentReads readings.exit read_versions.exit widths.exit
-        ≡ registerAfter head before boundary version reading width) }
+    ensures { let before = lent_reads readings.entry read_versions.entry widths.entry in
+        (received_meant result ≡ register_answer head before boundary version reading width)
+        × (lent_reads readings.exit read_versions.exit widths.exit
+        ≡ register_after head before boundary version reading width) }
 {
     if !opening::head_ok(head) {
         return Received::Refused(1);
@@ -197,10 +197,10 @@ pub fn agree(
     version: u32,
     value: u32,
 ) -> Received
-    ensures { let a = lentAgreed agreed.entry agreed_versions.entry in
-        (receivedMeant result ≡ agreeAnswer head a slot version value)
-        × (lentAgreed agreed.exit agreed_versions.exit
-        ≡ agreeAfter head a slot version value) }
+    ensures { let a = lent_agreed agreed.entry agreed_versions.entry in
+        (received_meant result ≡ agree_answer head a slot version value)
+        × (lent_agreed agreed.exit agreed_versions.exit
+        ≡ agree_after head a slot version value) }
 {
     if !opening::head_ok(head) {
         return Received::Refused(1);

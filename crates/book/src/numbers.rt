@@ -1,8 +1,8 @@
 // An agreed call past its head and its lists' lengths (02, W1).
 ghost use Rattle.std.specs.Prelude.{◌≡◌, length};
-ghost use Rattle.rules.specs.Lent.{lentAgreed};
-ghost use Rattle.book.specs.Answers.{receivedMeant};
-ghost use Rattle.book.specs.Inner.Numbers.{numberAnswer, numberAfter};
+ghost use Rattle.rules.specs.Lent.{lent_agreed};
+ghost use Rattle.book.specs.Answers.{received_meant};
+ghost use Rattle.book.specs.Inner.Numbers.{number_answer, number_after};
 
 use crate::{Received, filing};
 use base::EIGHT_DIGITS;
@@ -15,10 +15,10 @@ pub fn file_number(
     number: u32,
 ) -> Received
     requires { length versions.old ≡ length numbers.old }
-    ensures { let lent = lentAgreed numbers.entry versions.entry in
-        (receivedMeant result ≡ numberAnswer lent place version number)
-        × (lentAgreed numbers.exit versions.exit
-        ≡ numberAfter lent place version number) }
+    ensures { let lent = lent_agreed numbers.entry versions.entry in
+        (received_meant result ≡ number_answer lent place version number)
+        × (lent_agreed numbers.exit versions.exit
+        ≡ number_after lent place version number) }
 {
     let at = place as usize;
     if numbers.len() <= at {

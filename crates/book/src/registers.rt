@@ -1,8 +1,8 @@
 // A register read past its head and its lists' lengths (01, The three calls that fill it; 02, W10).
 ghost use Rattle.std.specs.Prelude.{◌≡◌, length};
-ghost use Rattle.book.specs.Answers.{receivedMeant};
-ghost use Rattle.book.specs.Lent.{lentReads};
-ghost use Rattle.book.specs.Inner.Numbers.{readAnswer, readAfter};
+ghost use Rattle.book.specs.Answers.{received_meant};
+ghost use Rattle.book.specs.Lent.{lent_reads};
+ghost use Rattle.book.specs.Inner.Numbers.{read_answer, read_after};
 
 use crate::{Received, filing};
 use base::EIGHT_DIGITS;
@@ -18,10 +18,10 @@ pub fn file_register(
     width: u32,
 ) -> Received
     requires { (length versions.old ≡ length readings.old) × (length widths.old ≡ length readings.old) }
-    ensures { let lent = lentReads readings.entry versions.entry widths.entry in
-        (receivedMeant result ≡ readAnswer lent boundary version reading width)
-        × (lentReads readings.exit versions.exit widths.exit
-        ≡ readAfter lent boundary version reading width) }
+    ensures { let lent = lent_reads readings.entry versions.entry widths.entry in
+        (received_meant result ≡ read_answer lent boundary version reading width)
+        × (lent_reads readings.exit versions.exit widths.exit
+        ≡ read_after lent boundary version reading width) }
 {
     let at = boundary as usize;
     if readings.len() <= at {

@@ -1,11 +1,11 @@
 // All cells of a book looked at for one that no calls could leave, and its counts (01, Numbers of a refusal, 11; 02, W1, W6 and W10).
 ghost use Rattle.std.specs.Prelude.{true, cond, ◌≡◌, ◌+◌, ◌≤◌, ltb, length, get_or};
 ghost use Rattle.base.specs.Lists.{sum, any};
-ghost use Rattle.rules.specs.Opening.{headOk, slotCount};
-ghost use Rattle.rules.specs.Lent.{lentSlots, lentAgreed, lentCells};
-ghost use Rattle.book.specs.Cells.{slotFault, agreedFault, slotFaultAt, dayFaultAt, readFaultAt, agreedFaultAt, countFaultAt};
-ghost use Rattle.book.specs.Cells.{cellsFit, cellsOk, bookFits, bookOk};
-ghost use Rattle.book.specs.Lent.{lentReads, lentBook};
+ghost use Rattle.rules.specs.Opening.{head_ok, slot_count};
+ghost use Rattle.rules.specs.Lent.{lent_slots, lent_agreed, lent_cells};
+ghost use Rattle.book.specs.Cells.{slot_fault, agreed_fault, slot_fault_at, day_fault_at, read_fault_at, agreed_fault_at, count_fault_at};
+ghost use Rattle.book.specs.Cells.{cells_fit, cells_ok, book_fits, book_ok};
+ghost use Rattle.book.specs.Lent.{lent_reads, lent_book};
 
 use crate::cells;
 use base::EIGHT_DIGITS;
@@ -13,21 +13,21 @@ use rules::{Head, opening};
 
 // The tests of cells.rt with no branch, so that several places are tested at once.
 fn slot_fault(version: u32, value: u32, status: u8) -> bool
-    ensures { result ≡ slotFault version value status }
+    ensures { result ≡ slot_fault version value status }
 {
     (7 < status) | ((version == 0) & ((value != 0) | (status != 0)))
 }
 
 fn agreed_fault(version: u32, value: u32) -> bool
-    ensures { result ≡ agreedFault version value }
+    ensures { result ≡ agreed_fault version value }
 {
     (EIGHT_DIGITS < value) | ((version == 0) & (value != 0))
 }
 
 fn bad_slot(values: &[u32], versions: &[u32], statuses: &[u8]) -> bool
     requires { (length versions.now ≡ length values.now) × (length statuses.now ≡ length values.now) }
-    ensures { let s = lentSlots values.entry versions.entry statuses.entry in
-        result ≡ any (slotFaultAt s) 0 (length s.values) }
+    ensures { let s = lent_slots values.entry versions.entry statuses.entry in
+        result ≡ any (slot_fault_at s) 0 (length s.values) }
 {
     let mut bad = false;
     let mut i = 0;
@@ -39,7 +39,7 @@ fn bad_slot(values: &[u32], versions: &[u32], statuses: &[u8]) -> bool
 }
 
 fn bad_day(holidays: &[u8]) -> bool
-    ensures { result ≡ any (dayFaultAt holidays.now) 0 (length holidays.now) }
+    ensures { result ≡ any (day_fault_at holidays.now) 0 (length holidays.now) }
 {
     let mut i = 0;
     while i < holidays.len() {
@@ -53,8 +53,8 @@ fn bad_day(holidays: &[u8]) -> bool
 
 fn bad_read(readings: &[u32], versions: &[u32], widths: &[u16]) -> bool
     requires { (length versions.now ≡ length readings.now) × (length widths.now ≡ length readings.now) }
-    ensures { let dial = lentReads readings.entry versions.entry widths.entry in
-        result ≡ any (readFaultAt dial) 0 (length dial.readings) }
+    ensures { let dial = lent_reads readings.entry versions.entry widths.entry in
+        result ≡ any (read_fault_at dial) 0 (length dial.readings) }
 {
     let mut i = 0;
     while i < readings.len() {
@@ -68,7 +68,7 @@ fn bad_read(readings: &[u32], versions: &[u32], widths: &[u16]) -> bool
 
 fn bad_agreed(values: &[u32], versions: &[u32]) -> bool
     requires { length versions.now ≡ length values.now }
-    ensures { result ≡ any (agreedFaultAt (lentAgreed values.entry versions.entry)) 0 (length values.now) }
+    ensures { result ≡ any (agreed_fault_at (lent_agreed values.entry versions.entry)) 0 (length values.now) }
 {
     let mut bad = false;
     let mut i = 0;
@@ -91,10 +91,10 @@ fn cells_ok(
     agreed_versions: &[u32],
     widths: &[u16],
 ) -> bool
-    requires { cellsFit head (lentCells values versions statuses holidays readings read_versions agreed agreed_versions widths)
+    requires { cells_fit head (lent_cells values versions statuses holidays readings read_versions agreed agreed_versions widths)
         ≡ true }
-    ensures { result ≡ cellsOk head
-        (lentCells values.entry versions.entry statuses.entry holidays.entry readings.entry read_versions.entry
+    ensures { result ≡ cells_ok head
+        (lent_cells values.entry versions.entry statuses.entry holidays.entry readings.entry read_versions.entry
         agreed.entry agreed_versions.entry widths.entry) }
 {
     if bad_slot(values, versions, statuses) {
@@ -127,8 +127,8 @@ fn delivered(versions: &[u32], first: usize, count: usize) -> u32
 
 // A day's count differs from the number of its delivered slots.
 fn bad_count(head: Head, versions: &[u32], counts: &[u16]) -> bool
-    requires { (headOk head ≡ true) × (length versions.now ≡ slotCount head) × (length counts.now ≡ head.days) }
-    ensures { result ≡ any (countFaultAt head versions.now counts.now) 0 (length counts.now) }
+    requires { (head_ok head ≡ true) × (length versions.now ≡ slot_count head) × (length counts.now ≡ head.days) }
+    ensures { result ≡ any (count_fault_at head versions.now counts.now) 0 (length counts.now) }
 {
     let mut day = 0;
     while day < counts.len() {
@@ -155,11 +155,11 @@ pub fn book_ok(
     counts: &[u16],
     widths: &[u16],
 ) -> bool
-    requires { (headOk head ≡ true)
-        × (bookFits head (lentBook values versions statuses holidays readings read_versions agreed agreed_versions counts widths)
+    requires { (head_ok head ≡ true)
+        × (book_fits head (lent_book values versions statuses holidays readings read_versions agreed agreed_versions counts widths)
         ≡ true) }
-    ensures { result ≡ bookOk head
-        (lentBook values.entry versions.entry statuses.entry holidays.entry readings.entry read_versions.entry
+    ensures { result ≡ book_ok head
+        (lent_book values.entry versions.entry statuses.entry holidays.entry readings.entry read_versions.entry
         agreed.entry agreed_versions.entry counts.entry widths.entry) }
 {
     if !cells_ok(

@@ -26,20 +26,20 @@ module _ (f : ℕ → ℕ) where
   place_here zero a n h = refl
   place_here (suc k) a n h = rw (lt-ltb n (f a) h)
 
-  place-on : (k a n : ℕ) → f a ≤ n → place f (suc k) a n ≡ place f k (suc a) (n - f a)
+  place_on : (k a n : ℕ) → f a ≤ n → place f (suc k) a n ≡ place f k (suc a) (n - f a)
   unfolding place
-  place-on k a n h = rw (le-ltb n (f a) h)
+  place_on k a n h = rw (le-ltb n (f a) h)
 
   -- one turn of a loop that goes up to `end`
-  pub place-next : (end a n : ℕ) → a < end → f a ≤ n → place f (end - a) a n ≡ place f (end - (a + 1)) (a + 1) (n - f a)
-  place-next end a n l h =
+  pub place_next : (end a n : ℕ) → a < end → f a ≤ n → place f (end - a) a n ≡ place f (end - (a + 1)) (a + 1) (n - f a)
+  place_next end a n l h =
       let e : end - a ≡ suc (end - suc a) = omega arith in
-      rw (e, add-one) (place-on (end - suc a) a n h)
+      rw (e, add-one) (place_on (end - suc a) a n h)
 
-  pub left-small : (k a n : ℕ) → (place f k a n).left ≤ n
+  pub left_small : (k a n : ℕ) → (place f k a n).left ≤ n
   unfolding place
-  left-small zero a n = le_refl n
-  left-small (suc k) a n = ⊎_elim (λ e. rw e (le_refl n)) (λ e. rw e (omega (arith, left-small k (suc a) (n - f a)))) (either (ltb n (f a)))
+  left_small zero a n = le_refl n
+  left_small (suc k) a n = ⊎_elim (λ e. rw e (le_refl n)) (λ e. rw e (omega (arith, left_small k (suc a) (n - f a)))) (either (ltb n (f a)))
 
   pub found : (j k a r : ℕ) → j ≤ k → r < f (a + j) → place f k a (sum f a j + r) ≡ record { at = a + j; left = r }
   unfolding sum
@@ -48,7 +48,7 @@ module _ (f : ℕ → ℕ) where
   found (suc j) (suc k) a r l h =
       let e : a + suc j ≡ suc a + j = omega arith in
       let s : sum f a (suc j) + r - f a ≡ sum f (suc a) j + r = omega (arith, sum_first f a j) in
-      place-on k a (sum f a (suc j) + r) (omega (arith, sum_first f a j))
+      place_on k a (sum f a (suc j) + r) (omega (arith, sum_first f a j))
       ∙ rw (s, e) (found j k (suc a) r (le_of_suc-le-suc l) (rw e at h))
 
   pub below : (j k a r : ℕ) → j ≤ k → r < f (a + j) → sum f a j + r < sum f a (suc k)

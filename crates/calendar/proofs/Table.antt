@@ -19,9 +19,9 @@ agreed f g (suc n) e k h =
     ⊎_elim (λ q. rw q (eqb-true (f n) (g n) p.0)) (λ q. agreed f g n p.1 k q) (eq-or-lt_of_le (le_of_suc-le-suc h))
 
 -- the same of ordinary years and of leap years
-abbrev pub both-agree : (Bool → ℕ → ℕ) → (Bool → ℕ → ℕ) → ℕ → Bool
-both-agree f g n = agree (f false) (g false) n && agree (f true) (g true) n
+abbrev pub both_agree : (Bool → ℕ → ℕ) → (Bool → ℕ → ℕ) → ℕ → Bool
+both_agree f g n = agree (f false) (g false) n && agree (f true) (g true) n
 
-pub both-agreed : (f g : Bool → ℕ → ℕ) (n : ℕ) → both-agree f g n ≡ true → (b : Bool) (k : ℕ) → k < n → f b k ≡ g b k
-both-agreed f g n e false k h = agreed (f false) (g false) n (and_parts (agree (f false) (g false) n) _ e).0 k h
-both-agreed f g n e true k h = agreed (f true) (g true) n (and_parts (agree (f false) (g false) n) _ e).1 k h
+pub both_agreed : (f g : Bool → ℕ → ℕ) (n : ℕ) → both_agree f g n ≡ true → (b : Bool) (k : ℕ) → k < n → f b k ≡ g b k
+both_agreed f g n e false k h = agreed (f false) (g false) n (and_parts (agree (f false) (g false) n) _ e).0 k h
+both_agreed f g n e true k h = agreed (f true) (g true) n (and_parts (agree (f false) (g false) n) _ e).1 k h

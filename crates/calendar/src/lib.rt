@@ -1,7 +1,7 @@
 // The Gregorian calendar from 2000-01-01 to 2099-12-31 (01, Opening). Day number 0 is 2000-01-01.
 ghost use Rattle.std.specs.Prelude.{true, ◌≡◌, ◌-◌, ◌≤◌, ◌<◌};
-ghost use Rattle.calendar.specs.Calendar.{dayCount, leap, monthLength, yearLength, daysBeforeMonth, daysBeforeYear};
-ghost use Rattle.calendar.specs.Calendar.{dayNumber, isDate, place, dateOf, weekday, toSunday};
+ghost use Rattle.calendar.specs.Calendar.{day_count, leap, month_length, year_length, days_before_month, days_before_year};
+ghost use Rattle.calendar.specs.Calendar.{day_number, is_date, place, date_of, weekday, to_sunday};
 
 // The days from 2000-01-01 to 2099-12-31.
 pub const DAY_COUNT: u32 = 36_525;
@@ -39,7 +39,7 @@ pub fn is_leap(year: u32) -> bool
 }
 
 fn year_length(year: u32) -> u32
-    ensures { result ≡ yearLength year }
+    ensures { result ≡ year_length year }
 {
     if is_leap(year) {
         return 366;
@@ -49,7 +49,7 @@ fn year_length(year: u32) -> u32
 
 // No date has month 0 or a month above 12: they are answered as the definition does.
 pub fn month_length(year: u32, month: u32) -> u32
-    ensures { result ≡ monthLength year month }
+    ensures { result ≡ month_length year month }
 {
     if 12 < month {
         return 0;
@@ -67,7 +67,7 @@ pub fn month_length(year: u32, month: u32) -> u32
 }
 
 pub fn is_date(year: u32, month: u32, day: u32) -> bool
-    ensures { result ≡ isDate year month day }
+    ensures { result ≡ is_date year month day }
 {
     if year < 2000 {
         return false;
@@ -94,7 +94,7 @@ pub fn is_date(year: u32, month: u32, day: u32) -> bool
 // The days of the years from 2000 to the one before `year`: 2000 and every fourth after it are leap years.
 pub fn days_before_year(year: u32) -> u32
     requires { (2000 ≤ year) × (year ≤ 2099) }
-    ensures { result ≡ daysBeforeYear (year - 2000) }
+    ensures { result ≡ days_before_year (year - 2000) }
 {
     let years = year - 2000;
     365 * years + (years + 3) / 4
@@ -102,7 +102,7 @@ pub fn days_before_year(year: u32) -> u32
 
 pub fn days_before_month(year: u32, month: u32) -> u32
     requires { (1 ≤ month) × (month ≤ 12) }
-    ensures { result ≡ daysBeforeMonth year (month - 1) }
+    ensures { result ≡ days_before_month year (month - 1) }
 {
     let row = is_leap(year) as usize;
     let column = (month - 1) as usize;
@@ -110,15 +110,15 @@ pub fn days_before_month(year: u32, month: u32) -> u32
 }
 
 pub fn day_number(year: u32, month: u32, day: u32) -> u32
-    requires { isDate year month day ≡ true }
-    ensures { result ≡ dayNumber year month day }
+    requires { is_date year month day ≡ true }
+    ensures { result ≡ day_number year month day }
 {
     days_before_year(year) + days_before_month(year, month) + (day - 1)
 }
 
 // The year of a day number.
 fn year_at(number: u32) -> Place
-    ensures { result ≡ place yearLength 99 2000 number }
+    ensures { result ≡ place year_length 99 2000 number }
 {
     let mut at: u32 = 2000;
     let mut left = number;
@@ -135,7 +135,7 @@ fn year_at(number: u32) -> Place
 
 // The month of a day of the year: the last that starts on it or before.
 fn month_at(year: Place) -> Place
-    ensures { result ≡ place (monthLength year.at) 11 1 year.left }
+    ensures { result ≡ place (month_length year.at) 11 1 year.left }
 {
     let mut at: u32 = 1;
     let mut start: u32 = 0;
@@ -157,8 +157,8 @@ fn month_at(year: Place) -> Place
 }
 
 pub fn date_of(number: u32) -> Date
-    requires { number < dayCount }
-    ensures { result ≡ dateOf number }
+    requires { number < day_count }
+    ensures { result ≡ date_of number }
 {
     let year = year_at(number);
     let month = month_at(year);
@@ -171,7 +171,7 @@ pub fn date_of(number: u32) -> Date
 
 // Sunday is 0 and Saturday 6: 2000-01-01 was a Saturday (02, W3).
 pub fn weekday(number: u32) -> u32
-    requires { number < dayCount }
+    requires { number < day_count }
     ensures { result ≡ weekday number }
 {
     (number + 6) % 7
@@ -179,8 +179,8 @@ pub fn weekday(number: u32) -> u32
 
 // The days back to the nearest Sunday strictly before a day.
 pub fn to_sunday(number: u32) -> u32
-    requires { number < dayCount }
-    ensures { result ≡ toSunday number }
+    requires { number < day_count }
+    ensures { result ≡ to_sunday number }
 {
     let past = weekday(number);
     if past == 0 {

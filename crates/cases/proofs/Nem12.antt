@@ -1,13 +1,13 @@
 -- Every worked figure holds of the definitions, by computing them.
 use Rattle.std.proofs.Common.{◌≡◌, true, refl}
 use Rattle.base.specs.Lists.{every, all}
-use Rattle.calendar.specs.Calendar.{leap, monthLengths, monthLength, yearLength, place, dateOf}
+use Rattle.calendar.specs.Calendar.{leap, month_lengths, month_length, year_length, place, date_of}
 use Rattle.line.specs.Line.{digits, places, decimal}
-use Rattle.market.specs.Fields.{fields, joined, kwh, dateField, codeFor, mark_of, marked, oneMark, endsRun, start_of}
-use Rattle.market.specs.Records.{record300, record400, runs, dayRecords}
+use Rattle.market.specs.Fields.{fields, joined, kwh, date_field, code_for, mark_of, marked, one_mark, ends_run, start_of}
+use Rattle.market.specs.Records.{record300, record400, runs, day_records}
 use Rattle.cases.specs.Nem12.{cases}
 
-pub nem12-cases : every cases ≡ true
-unfolding cases leap monthLengths monthLength yearLength place dateOf all digits places decimal fields joined kwh dateField codeFor mark_of
-    marked oneMark endsRun start_of record300 record400 runs dayRecords
-nem12-cases = refl
+pub nem12_cases : every cases ≡ true
+unfolding cases leap month_lengths month_length year_length place date_of all digits places decimal fields joined kwh date_field code_for mark_of
+    marked one_mark ends_run start_of record300 record400 runs day_records
+nem12_cases = refl

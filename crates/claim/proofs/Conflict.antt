@@ -5,20 +5,20 @@ use mathlib.Core.Path.{◌≡◌, refl, ap}
 use Prim.Native.Nat.{◌<◌}
 use native.Mathlib.Omega.{arith}
 use Rattle.base.specs.Lists.{sum, up_to}
-use Rattle.calendar.specs.Calendar.{leap, monthLengths, monthLength, yearLength, daysBeforeMonth, daysBeforeYear, dayNumber, isDate}
+use Rattle.calendar.specs.Calendar.{leap, month_lengths, month_length, year_length, days_before_month, days_before_year, day_number, is_date}
 use Rattle.rules.specs.declared.Head.{Head}
 use Rattle.rules.specs.declared.Outcome.{Outcome}
-use Rattle.rules.specs.Opening.{headOk, intervalOk, firstDay, slotsPerDay, slotCount}
-use Rattle.rules.specs.Tests.{isGap, timeChangeBit, partialBit, causeOf, causeAt, goodAt}
-use Rattle.rules.specs.Filling.{filledAt}
-use Rattle.rules.specs.Spans.{isRead, lastRead, nextRead, between, outcomeAt}
-use Rattle.book.specs.Answers.{byVersion}
+use Rattle.rules.specs.Opening.{head_ok, interval_ok, first_day, slots_per_day, slot_count}
+use Rattle.rules.specs.Tests.{is_gap, time_change_bit, partial_bit, cause_of, cause_at, good_at}
+use Rattle.rules.specs.Filling.{filled_at}
+use Rattle.rules.specs.Spans.{is_read, last_read, next_read, between, outcome_at}
+use Rattle.book.specs.Answers.{by_version}
 use Rattle.book.specs.Answers.Answer.{done}
-use Rattle.book.specs.Arguments.{Call, argumentRules}
+use Rattle.book.specs.Arguments.{Call, argument_rules}
 use Rattle.book.specs.Arguments.Call.{delivery}
-use Rattle.book.specs.Cells.{allLong, slotsFit, daysFit, readsFit, agreedFits, cellsFit, countsFit, bookFits}
-use Rattle.book.specs.Opening.{opened, openAnswer}
-use Rattle.book.specs.Plain.{deliveries, keptReads, highestVersion, contentWith, againstKept, plainAnswer, keep, keptOf, bookOf}
+use Rattle.book.specs.Cells.{all_long, slots_fit, days_fit, reads_fit, agreed_fits, cells_fit, counts_fit, book_fits}
+use Rattle.book.specs.Opening.{opened, open_answer}
+use Rattle.book.specs.Plain.{deliveries, kept_reads, highest_version, content_with, against_kept, plain_answer, keep, kept_of, book_of}
 use Rattle.claim.specs.Claim.{plain_of, ConflictMatters}
 use Rattle.claim.proofs.WholeLists.{claim}
 
@@ -33,9 +33,9 @@ five = delivery 0 1 5 0
 abbrev six : Call
 six = delivery 0 1 6 0
 
-opens : openAnswer day (opened day) ≡ done
-unfolding openAnswer opened bookFits cellsFit slotsFit daysFit readsFit agreedFits countsFit allLong headOk intervalOk firstDay slotsPerDay
-    slotCount leap monthLengths monthLength yearLength daysBeforeMonth daysBeforeYear dayNumber isDate sum
+opens : open_answer day (opened day) ≡ done
+unfolding open_answer opened book_fits cells_fit slots_fit days_fit reads_fit agreed_fits counts_fit all_long head_ok interval_ok first_day slots_per_day
+    slot_count leap month_lengths month_length year_length days_before_month days_before_year day_number is_date sum
 opens = refl
 
 -- either order has the same calls
@@ -45,19 +45,19 @@ turned a b x (Memᴰ.tail (Memᴰ.head e)) = Memᴰ.head e
 turned a b x (Memᴰ.tail (Memᴰ.tail m)) = absurd (Memᴰ.not-nil m)
 
 -- what is published of slot 0, by computing it
-published-first : ((outcomeAt day (plain_of day (five ∷ six ∷ [])) 0).value ≡ 5)
-    × ((outcomeAt day (plain_of day (six ∷ five ∷ [])) 0).value ≡ 6)
-unfolding outcomeAt between lastRead nextRead isRead filledAt goodAt causeAt causeOf isGap timeChangeBit partialBit up_to bookOf keptOf keep
-    plainAnswer againstKept deliveries keptReads highestVersion contentWith argumentRules byVersion headOk intervalOk firstDay slotsPerDay
-    slotCount leap monthLengths monthLength yearLength daysBeforeMonth daysBeforeYear dayNumber isDate sum
-published-first = (refl, refl)
+published_first : ((outcome_at day (plain_of day (five ∷ six ∷ [])) 0).value ≡ 5)
+    × ((outcome_at day (plain_of day (six ∷ five ∷ [])) 0).value ≡ 6)
+unfolding outcome_at between last_read next_read is_read filled_at good_at cause_at cause_of is_gap time_change_bit partial_bit up_to book_of kept_of keep
+    plain_answer against_kept deliveries kept_reads highest_version content_with argument_rules by_version head_ok interval_ok first_day slots_per_day
+    slot_count leap month_lengths month_length year_length days_before_month days_before_year day_number is_date sum
+published_first = (refl, refl)
 
-inside : 0 < slotCount day
-unfolding slotCount slotsPerDay
+inside : 0 < slot_count day
+unfolding slot_count slots_per_day
 inside = omega arith
 
-pub conflict-matters : ConflictMatters
-conflict-matters = record {
+pub conflict_matters : ConflictMatters
+conflict_matters = record {
   head = day;
   lists = opened day;
   opening = opens;
@@ -65,8 +65,8 @@ conflict-matters = record {
   theirs = six ∷ five ∷ [];
   calls = λ x. (turned five six x, turned six five x);
   differ = λ e.
-      let same = (claim day day (opened day) (opened day) (five ∷ six ∷ []) (six ∷ five ∷ []) opens opens).equal-exactly.0 e in
+      let same = (claim day day (opened day) (opened day) (five ∷ six ∷ []) (six ∷ five ∷ []) opens opens).equal_exactly.0 e in
       let value = ap (λ (o : Outcome). o.value) (same.slots 0 inside) in
-      let first = published-first in
+      let first = published_first in
       omega (arith, value, first.0, first.1);
 }

@@ -6,13 +6,13 @@ use Prim.Native.Nat.{ℕ}
 use lib.Dec.{ltb}
 use lib.ListN.{length}
 use Rattle.rules.specs.declared.Head.{Head}
-use Rattle.rules.specs.Opening.{headOk}
-use Rattle.book.specs.Cells.{Book, bookFits, bookOk}
+use Rattle.rules.specs.Opening.{head_ok}
+use Rattle.book.specs.Cells.{Book, book_fits, book_ok}
 use Rattle.publishing.specs.declared.Published.TheVariants as published
-use Rattle.publishing.specs.Publishing.{fileLength, publishAnswer}
+use Rattle.publishing.specs.Publishing.{file_length, publish_answer}
 
-module _ (h : Head) (b : Book) (out : List ℕ) (good : headOk h ≡ true) (fit : bookFits h b ≡ true) (ok : bookOk h b ≡ true) where
-  pub answer-last : publishAnswer h b out
-      ≡ cond (ltb (length out) (fileLength h b.cells)) (published.Refused 7) (published.Length (fileLength h b.cells))
-  unfolding publishAnswer
-  answer-last = rw (good, fit, ok)
+module _ (h : Head) (b : Book) (out : List ℕ) (good : head_ok h ≡ true) (fit : book_fits h b ≡ true) (ok : book_ok h b ≡ true) where
+  pub answer_last : publish_answer h b out
+      ≡ cond (ltb (length out) (file_length h b.cells)) (published.Refused 7) (published.Length (file_length h b.cells))
+  unfolding publish_answer
+  answer_last = rw (good, fit, ok)

@@ -6,68 +6,68 @@ use Prim.Native.Nat.{ℕ, ◌≤◌, ◌<◌, ◌^◌}
 use native.Mathlib.Omega.{arith}
 use borrow.Author.Tests.{eqb-true, eq-eqb, ltb-false, le-ltb, not-false}
 use lib.ListN.{length}
-use Rattle.base.proofs.Refusals.{unless-answered}
+use Rattle.base.proofs.Refusals.{unless_answered}
 use Rattle.base.specs.declared.Performed.{Performed}
 use Rattle.base.specs.declared.Performed.TheVariants as performed
 use Rattle.dial.specs.declared.Unpacked.TheVariants as unpacked
-use Rattle.dial.specs.Dial.{form, aboveNine, reading_of, packRules, packAnswer, bytesAfter, packAfter, unpackRules, unpackAnswer}
+use Rattle.dial.specs.Dial.{form, above_nine, reading_of, pack_rules, pack_answer, bytes_after, pack_after, unpack_rules, unpack_answer}
 use Rattle.dial.specs.Claim.{OneForm, AcceptsExactly, PackedThenUnpacked, UnpackedThenPacked}
-use Rattle.dial.proofs.PackedForm.{form-packed, packed-digits, reading-packed, reading-low, packed-reading}
+use Rattle.dial.proofs.PackedForm.{form_packed, packed_digits, reading_packed, reading_low, packed_reading}
 
 -- the form of a reading is read as that reading
-form-read : (reading : ℕ) → reading ≤ 99_999_999 → unpackAnswer (form reading) ≡ unpacked.Reading reading
-unfolding unpackAnswer form
-form-read reading h =
-    let digits : aboveNine (form reading) ≡ false = ap aboveNine (form-packed reading) ∙ packed-digits 4 reading in
-    let back : reading_of (form reading) ≡ reading = ap reading_of (form-packed reading) ∙ reading-packed 4 reading (omega arith) in
+form_read : (reading : ℕ) → reading ≤ 99_999_999 → unpack_answer (form reading) ≡ unpacked.Reading reading
+unfolding unpack_answer form
+form_read reading h =
+    let digits : above_nine (form reading) ≡ false = ap above_nine (form_packed reading) ∙ packed_digits 4 reading in
+    let back : reading_of (form reading) ≡ reading = ap reading_of (form_packed reading) ∙ reading_packed 4 reading (omega arith) in
     rw (digits, back)
 
 -- what is read as a reading is the form of that reading
-read-form : (bytes : List ℕ) (reading : ℕ) → unpackAnswer bytes ≡ unpacked.Reading reading → (reading ≤ 99_999_999) × (form reading ≡ bytes)
-unfolding unpackAnswer
-read-form bytes reading e =
+read_form : (bytes : List ℕ) (reading : ℕ) → unpack_answer bytes ≡ unpacked.Reading reading → (reading ≤ 99_999_999) × (form reading ≡ bytes)
+unfolding unpack_answer
+read_form bytes reading e =
     let (same, kept) =
-    unless-answered unpacked.Refused (λ a. a ≡ unpacked.Reading reading) (λ n r. let z : ◌≡◌ {A = ℕ} 0 1 = cc in omega arith)
-    (unpackRules bytes) _ e in
-    let digits : aboveNine bytes ≡ false = kept 1 in
+    unless_answered unpacked.Refused (λ a. a ≡ unpacked.Reading reading) (λ n r. let z : ◌≡◌ {A = ℕ} 0 1 = cc in omega arith)
+    (unpack_rules bytes) _ e in
+    let digits : above_nine bytes ≡ false = kept 1 in
     let long : length bytes ≡ 4 = eqb-true _ _ (not-false _ (kept 0)) in
     let read : reading_of bytes ≡ reading = cc in
-    let low : reading < 100 ^ 4 = rw (read, long) at (reading-low bytes digits) in
-    let back = rw (read, long) at (packed-reading bytes digits) in
-    (omega arith, form-packed reading ∙ back)
+    let low : reading < 100 ^ 4 = rw (read, long) at (reading_low bytes digits) in
+    let back = rw (read, long) at (packed_reading bytes digits) in
+    (omega arith, form_packed reading ∙ back)
 
 -- `unpack` accepts exactly the forms of readings, each as its reading
-pub accepts-exactly : AcceptsExactly
-accepts-exactly bytes reading = (
-  read-form bytes reading,
-  λ f. ap unpackAnswer (sym f.1) ∙ form-read reading f.0,
+pub accepts_exactly : AcceptsExactly
+accepts_exactly bytes reading = (
+  read_form bytes reading,
+  λ f. ap unpack_answer (sym f.1) ∙ form_read reading f.0,
 )
 
 -- every reading from 0 to 99,999,999 has one form
 pub one_form : OneForm
 one_form reading h bytes = (
-  λ e. sym (read-form bytes reading e).1,
-  λ e. ap unpackAnswer e ∙ form-read reading h,
+  λ e. sym (read_form bytes reading e).1,
+  λ e. ap unpack_answer e ∙ form_read reading h,
 )
 
 -- and no two readings share theirs
-pub one-reading : (m n : ℕ) → m ≤ 99_999_999 → n ≤ 99_999_999 → form m ≡ form n → m ≡ n
-one-reading m n h l e =
-    let same : unpacked.Reading m ≡ unpacked.Reading n = sym (form-read m h) ∙ ap unpackAnswer e ∙ form-read n l in
+pub one_reading : (m n : ℕ) → m ≤ 99_999_999 → n ≤ 99_999_999 → form m ≡ form n → m ≡ n
+one_reading m n h l e =
+    let same : unpacked.Reading m ≡ unpacked.Reading n = sym (form_read m h) ∙ ap unpack_answer e ∙ form_read n l in
     cc
 
 -- there and back from a reading
-pub packed-then-unpacked : PackedThenUnpacked
-unfolding packAnswer packAfter
-packed-then-unpacked reading bytes e =
+pub packed_then_unpacked : PackedThenUnpacked
+unfolding pack_answer pack_after
+packed_then_unpacked reading bytes e =
     let (_, kept) =
-    unless-answered performed.Refused (λ a. a ≡ performed.Done) (λ n r. let z : ◌≡◌ {A = ℕ} 0 1 = cc in omega arith)
-    (packRules reading bytes) _ e in
-    ap (λ (a : Performed). unpackAnswer (bytesAfter a reading bytes)) e ∙ form-read reading (ltb-false _ _ (kept 1))
+    unless_answered performed.Refused (λ a. a ≡ performed.Done) (λ n r. let z : ◌≡◌ {A = ℕ} 0 1 = cc in omega arith)
+    (pack_rules reading bytes) _ e in
+    ap (λ (a : Performed). unpack_answer (bytes_after a reading bytes)) e ∙ form_read reading (ltb-false _ _ (kept 1))
 
 -- there and back from bytes, into any four
-pub unpacked-then-packed : UnpackedThenPacked
-unfolding packAnswer packAfter
-unpacked-then-packed bytes reading e held l =
-    let (low, back) = read-form bytes reading e in
+pub unpacked_then_packed : UnpackedThenPacked
+unfolding pack_answer pack_after
+unpacked_then_packed bytes reading e held l =
+    let (low, back) = read_form bytes reading e in
     rw (eq-eqb _ _ l, le-ltb 99_999_999 reading low) (refl, back)

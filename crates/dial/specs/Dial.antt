@@ -4,7 +4,7 @@ use Rattle.base.specs.Refusals.{Rule, unless}
 use Rattle.base.specs.Refusals.Rule.{rule}
 use Rattle.base.specs.declared.Performed.{Performed}
 use Rattle.base.specs.declared.Performed.TheVariants as performed
-use Rattle.base.specs.Numbers.{eightDigits}
+use Rattle.base.specs.Numbers.{eight_digits}
 use Rattle.dial.specs.declared.Unpacked.{Unpacked}
 use Rattle.dial.specs.declared.Unpacked.TheVariants as unpacked
 
@@ -32,9 +32,9 @@ abbrev pub lower : ℕ → ℕ
 lower byte = byte % 16
 
 -- "a half byte above 9"
-unfoldable pub aboveNine : List ℕ → Bool
-aboveNine [] = false
-aboveNine (byte ∷ bytes) = ltb 9 (upper byte) || ltb 9 (lower byte) || aboveNine bytes
+unfoldable pub above_nine : List ℕ → Bool
+above_nine [] = false
+above_nine (byte ∷ bytes) = ltb 9 (upper byte) || ltb 9 (lower byte) || above_nine bytes
 
 -- lowest byte first
 unfoldable pub reading_of : List ℕ → ℕ
@@ -44,27 +44,27 @@ reading_of (byte ∷ bytes) = 10 * upper byte + lower byte + 100 * reading_of by
 -- ---- What the two conversions answer
 
 -- "other than four bytes is 2, before both"
-abbrev pub notFour : List ℕ → Bool
-notFour bytes = not (eqb (length bytes) 4)
+abbrev pub not_four : List ℕ → Bool
+not_four bytes = not (eqb (length bytes) 4)
 
 -- 6 reading over 99,999,999
-abbrev pub packRules : ℕ → List ℕ → List Rule
-packRules reading bytes = rule 2 (notFour bytes) ∷ rule 6 (ltb eightDigits reading) ∷ []
+abbrev pub pack_rules : ℕ → List ℕ → List Rule
+pack_rules reading bytes = rule 2 (not_four bytes) ∷ rule 6 (ltb eight_digits reading) ∷ []
 
-unfoldable pub packAnswer : ℕ → List ℕ → Performed
-packAnswer reading bytes = unless performed.Refused (packRules reading bytes) performed.Done
+unfoldable pub pack_answer : ℕ → List ℕ → Performed
+pack_answer reading bytes = unless performed.Refused (pack_rules reading bytes) performed.Done
 
 -- what the bytes hold after an answer: a refusal changes none
-abbrev pub bytesAfter : Performed → ℕ → List ℕ → List ℕ
-bytesAfter performed.Done reading bytes = form reading
-bytesAfter (performed.Refused n) reading bytes = bytes
+abbrev pub bytes_after : Performed → ℕ → List ℕ → List ℕ
+bytes_after performed.Done reading bytes = form reading
+bytes_after (performed.Refused n) reading bytes = bytes
 
-unfoldable pub packAfter : ℕ → List ℕ → List ℕ
-packAfter reading bytes = bytesAfter (packAnswer reading bytes) reading bytes
+unfoldable pub pack_after : ℕ → List ℕ → List ℕ
+pack_after reading bytes = bytes_after (pack_answer reading bytes) reading bytes
 
 -- 16 a half byte above 9
-abbrev pub unpackRules : List ℕ → List Rule
-unpackRules bytes = rule 2 (notFour bytes) ∷ rule 16 (aboveNine bytes) ∷ []
+abbrev pub unpack_rules : List ℕ → List Rule
+unpack_rules bytes = rule 2 (not_four bytes) ∷ rule 16 (above_nine bytes) ∷ []
 
-unfoldable pub unpackAnswer : List ℕ → Unpacked
-unpackAnswer bytes = unless unpacked.Refused (unpackRules bytes) (unpacked.Reading (reading_of bytes))
+unfoldable pub unpack_answer : List ℕ → Unpacked
+unpack_answer bytes = unless unpacked.Refused (unpack_rules bytes) (unpacked.Reading (reading_of bytes))

@@ -1,6 +1,6 @@
 // A reading and the four bytes in which a charger's meter sends it (02, W9).
 ghost use Rattle.std.specs.Prelude.{[], ◌∷◌, ◌≡◌, ◌+◌, ◌*◌, ◌≤◌};
-ghost use Rattle.dial.specs.Dial.{byte_at, aboveNine, upper, lower, packAnswer, packAfter, unpackAnswer};
+ghost use Rattle.dial.specs.Dial.{byte_at, above_nine, upper, lower, pack_answer, pack_after, unpack_answer};
 
 use base::{EIGHT_DIGITS, Performed};
 
@@ -20,7 +20,7 @@ fn two_digits(n: u32) -> u8
 
 // Whether a half of `byte` is above 9.
 fn above_nine(byte: u8) -> bool
-    ensures { result ≡ aboveNine (byte ∷ []) }
+    ensures { result ≡ above_nine (byte ∷ []) }
 {
     if 9 < byte / 16 {
         return true;
@@ -38,8 +38,8 @@ fn value(byte: u8) -> u32
 
 // Puts the form of `reading` into four bytes.
 pub fn pack(reading: u32, bytes: &mut [u8]) -> Performed
-    ensures { (result ≡ packAnswer reading bytes.old)
-        × (bytes.new ≡ packAfter reading bytes.old) }
+    ensures { (result ≡ pack_answer reading bytes.old)
+        × (bytes.new ≡ pack_after reading bytes.old) }
 {
     if bytes.len() != 4 {
         return Performed::Refused(2);
@@ -56,7 +56,7 @@ pub fn pack(reading: u32, bytes: &mut [u8]) -> Performed
 
 // The reading of which `bytes` are the form.
 pub fn unpack(bytes: &[u8]) -> Unpacked
-    ensures { result ≡ unpackAnswer bytes.now }
+    ensures { result ≡ unpack_answer bytes.now }
 {
     let len = bytes.len();
     if len != 4 {

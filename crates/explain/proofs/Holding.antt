@@ -12,49 +12,49 @@ use lib.Dec.{eqb}
 use Rattle.rules.specs.declared.Head.{Head}
 use Rattle.rules.specs.declared.spans.Scaling.{Scaling}
 use Rattle.rules.specs.declared.spans.Summary.{Summary}
-use Rattle.rules.specs.Opening.{Slots, Agreed, Cells, slotsPerDay, slotCount}
-use Rattle.rules.specs.Spans.{isRead, lastRead, nextRead, start, slotsIn, G, range, R, actualSum, state_of, T, allZero, e, E, P}
+use Rattle.rules.specs.Opening.{Slots, Agreed, Cells, slots_per_day, slot_count}
+use Rattle.rules.specs.Spans.{is_read, last_read, next_read, start, slots_in, G, range, R, actual_sum, state_of, T, all_zero, e, E, P}
 use Rattle.rules.specs.Lent.{cells}
-use Rattle.rules.specs.Inner.Summaries.{summaryOf, scalingOf}
-use Rattle.rules.specs.Inner.Stretches.{scalingAt, spanStretch, stretchOf, stretchOn, stretchAt}
+use Rattle.rules.specs.Inner.Summaries.{summary_of, scaling_of}
+use Rattle.rules.specs.Inner.Stretches.{scaling_at, span_stretch, stretch_of, stretch_on, stretch_at}
 use Rattle.rules.proofs.Bounds.{Bounded}
-use Rattle.rules.proofs.Boundaries.{last-tells, next-tells}
-use Rattle.rules.proofs.SpanSums.{compared-advance, summary, weights, compared_is}
+use Rattle.rules.proofs.Boundaries.{last_tells, next_tells}
+use Rattle.rules.proofs.SpanSums.{compared_advance, summary, weights, compared_is}
 use Rattle.explain.specs.declared.Spanned.{Spanned}
-use Rattle.explain.specs.Explain.{noneSpanned, spannedBy, earlier, later}
-use Rattle.explain.specs.Inner.Holding.{unscaled, scalingWith, spannedWith, Between}
+use Rattle.explain.specs.Explain.{none_spanned, spanned_by, earlier, later}
+use Rattle.explain.specs.Inner.Holding.{unscaled, scaling_with, spanned_with, Between}
 
 -- the search back for a boundary with a reading
 module _ (r : List ℕ) where
-  pub last-at : (d : ℕ) → isRead r d ≡ true → lastRead r d ≡ some d
-  unfolding lastRead
-  last-at zero t = rw t
-  last-at (suc d) t = rw t
+  pub last_at : (d : ℕ) → is_read r d ≡ true → last_read r d ≡ some d
+  unfolding last_read
+  last_at zero t = rw t
+  last_at (suc d) t = rw t
 
-  pub last_on : (d : ℕ) → 0 < d → isRead r d ≡ false → lastRead r d ≡ lastRead r (d - 1)
-  unfolding lastRead
+  pub last_on : (d : ℕ) → 0 < d → is_read r d ≡ false → last_read r d ≡ last_read r (d - 1)
+  unfolding last_read
   last_on zero l t = absurd (omega arith)
   last_on (suc d) l t = rw (t, sub-one)
 
-  pub last_none : isRead r 0 ≡ false → lastRead r 0 ≡ none
-  unfolding lastRead
+  pub last_none : is_read r 0 ≡ false → last_read r 0 ≡ none
+  unfolding last_read
   last_none t = rw t
 
 -- a slot between two boundaries
-pub between-inside : (h : Head) (i first last : ℕ) → Between h i first last → i < slotCount h
-unfolding slotCount
-between-inside h i first last p =
-    let l : last * slotsPerDay h ≤ slotsPerDay h * h.days =
-    rw (mul_comm (slotsPerDay h) h.days) (mul-le-mul_right (slotsPerDay h) p.within) in
+pub between_inside : (h : Head) (i first last : ℕ) → Between h i first last → i < slot_count h
+unfolding slot_count
+between_inside h i first last p =
+    let l : last * slots_per_day h ≤ slots_per_day h * h.days =
+    rw (mul_comm (slots_per_day h) h.days) (mul-le-mul_right (slots_per_day h) p.within) in
     omega (arith, p.to)
 
-pub between-read : (h : Head) → Bounded h → (r : List ℕ) (i first last : ℕ) → lastRead r (i / slotsPerDay h) ≡ some first
-    → nextRead r (i / slotsPerDay h + 1) (h.days - i / slotsPerDay h) ≡ some last
+pub between_read : (h : Head) → Bounded h → (r : List ℕ) (i first last : ℕ) → last_read r (i / slots_per_day h) ≡ some first
+    → next_read r (i / slots_per_day h + 1) (h.days - i / slots_per_day h) ≡ some last
     → Between h i first last
-between-read h w r i first last p q =
-    let f = last-tells r (i / slotsPerDay h) first p in
-    let g = next-tells r (h.days - i / slotsPerDay h) (i / slotsPerDay h + 1) last q in
-    let n : 0 < slotsPerDay h = omega (arith, w.day-low) in
+between_read h w r i first last p q =
+    let f = last_tells r (i / slots_per_day h) first p in
+    let g = next_tells r (h.days - i / slots_per_day h) (i / slots_per_day h + 1) last q in
+    let n : 0 < slots_per_day h = omega (arith, w.day_low) in
     record {
       from = (le-div_iff_mul-le n).0 f.low;
       to = (div-lt_iff_lt-mul n).0 (omega (arith, g.low));
@@ -64,85 +64,85 @@ between-read h w r i first last p q =
 
 -- its figures and scaling, from the sums of its slots
 module _ (h : Head) (b : Cells) (first last : ℕ) where
-  module _ (m : Summary) (p : m ≡ summary h b first last (slotsIn h b first last)) where
-    pub spanned-found : spannedWith h b.readings b.widths first last m ≡ spannedBy h b (some first) (some last)
-    unfolding spannedWith spannedBy actualSum summaryOf
+  module _ (m : Summary) (p : m ≡ summary h b first last (slots_in h b first last)) where
+    pub spanned-found : spanned_with h b.readings b.widths first last m ≡ spanned_by h b (some first) (some last)
+    unfolding spanned_with spanned_by actual_sum summary_of
     spanned-found = rw (compared_is h b first last m p, p)
 
     module _ (i : ℕ) (before : Summary) (q : before ≡ summary h b first last (i - start h b first last)) where
-      scaling-before : scalingWith 1 m before (R h b first last) ≡ scalingAt h b first last i
-      unfolding scalingWith T actualSum allZero E e P summaryOf
+      scaling-before : scaling_with 1 m before (R h b first last) ≡ scaling_at h b first last i
+      unfolding scaling_with T actual_sum all_zero E e P summary_of
       scaling-before =
           rw (
             p,
             q,
-            weights h b first last (allZero h b first last) (slotsIn h b first last),
-            weights h b first last (allZero h b first last) (i - start h b first last),
+            weights h b first last (all_zero h b first last) (slots_in h b first last),
+            weights h b first last (all_zero h b first last) (i - start h b first last),
           )
 
-      pub held-scaling : (s : Spanned) → s ≡ spannedWith h b.readings b.widths first last m
-          → scalingWith s.state m before s.advance ≡ (spanStretch h b first last i).by
-      unfolding spanStretch spannedBy scalingWith
+      pub held-scaling : (s : Spanned) → s ≡ spanned_with h b.readings b.widths first last m
+          → scaling_with s.state m before s.advance ≡ (span_stretch h b first last i).by
+      unfolding span_stretch spanned_by scaling_with
       held-scaling s f =
           let state : s.state ≡ state_of h b first last = ap (λ (x : Spanned). x.state) (f ∙ spanned-found) in
           let r : s.advance ≡ R h b first last = ap (λ (x : Spanned). x.advance) (f ∙ spanned-found) in
           rw (state, r) (go (eqb (state_of h b first last) 1) refl)
         where
           go : (t : Bool) → eqb (state_of h b first last) 1 ≡ t
-              → scalingWith (state_of h b first last) m before (R h b first last) ≡ (spanStretch h b first last i).by
+              → scaling_with (state_of h b first last) m before (R h b first last) ≡ (span_stretch h b first last i).by
           go true t = rw t scaling-before
           go false t = rw t
 
 -- a scaling with the P of a slot
-module _ (state : ℕ) (m before : Summary) (by : Scaling) (r : ℕ) (one : state ≡ 1) (e : by ≡ scalingOf m r) where
-  pub scaling-ones : m.shapes ≡ 0
-      → record { t = by.t; whole = by.whole; extra = by.extra; passed = before.count } ≡ scalingWith state m before r
-  unfolding scalingWith scalingOf
-  scaling-ones z = rw (e, eq-eqb state 1 one, eq-eqb m.shapes 0 z)
+module _ (state : ℕ) (m before : Summary) (by : Scaling) (r : ℕ) (one : state ≡ 1) (e : by ≡ scaling_of m r) where
+  pub scaling_ones : m.shapes ≡ 0
+      → record { t = by.t; whole = by.whole; extra = by.extra; passed = before.count } ≡ scaling_with state m before r
+  unfolding scaling_with scaling_of
+  scaling_ones z = rw (e, eq-eqb state 1 one, eq-eqb m.shapes 0 z)
 
-  pub scaling-shapes : (m.shapes ≡ 0 → ⊥)
-      → record { t = by.t; whole = by.whole; extra = by.extra; passed = before.shapes } ≡ scalingWith state m before r
-  unfolding scalingWith scalingOf
-  scaling-shapes z = rw (e, eq-eqb state 1 one, ne_eqb m.shapes 0 z)
+  pub scaling_shapes : (m.shapes ≡ 0 → ⊥)
+      → record { t = by.t; whole = by.whole; extra = by.extra; passed = before.shapes } ≡ scaling_with state m before r
+  unfolding scaling_with scaling_of
+  scaling_shapes z = rw (e, eq-eqb state 1 one, ne_eqb m.shapes 0 z)
 
 -- state 1 is given only where R ≥ V
-pub spanned-advance : (h : Head) (readings widths : List ℕ) (first last : ℕ) (m : Summary) (s : Spanned)
-    → s ≡ spannedWith h readings widths first last m → s.state ≡ 1 → m.actual ≤ s.advance
-unfolding spannedWith
-spanned-advance h readings widths first last m s e z =
+pub spanned_advance : (h : Head) (readings widths : List ℕ) (first last : ℕ) (m : Summary) (s : Spanned)
+    → s ≡ spanned_with h readings widths first last m → s.state ≡ 1 → m.actual ≤ s.advance
+unfolding spanned_with
+spanned_advance h readings widths first last m s e z =
     let state = ap (λ (x : Spanned). x.state) e in
     let r = ap (λ (x : Spanned). x.advance) e in
-    rw r (compared-advance h readings widths first last m _ refl (sym state ∙ z))
+    rw r (compared_advance h readings widths first last m _ refl (sym state ∙ z))
 
 -- they rest on no register version
 module _ (h : Head) (s : Slots) (holidays readings v w : List ℕ) (agreed : Agreed) (widths : List ℕ) (first last : ℕ) where
-  pub spanned-versions : spannedBy h (cells s holidays readings v agreed widths) (some first) (some last)
-      ≡ spannedBy h (cells s holidays readings w agreed widths) (some first) (some last)
-  unfolding spannedBy G range R state_of actualSum start slotsIn
-  spanned-versions = refl
+  pub spanned_versions : spanned_by h (cells s holidays readings v agreed widths) (some first) (some last)
+      ≡ spanned_by h (cells s holidays readings w agreed widths) (some first) (some last)
+  unfolding spanned_by G range R state_of actual_sum start slots_in
+  spanned_versions = refl
 
 -- a slot that lies in no span
 module _ (h : Head) (b : Cells) (i : ℕ) where
   abbrev d : ℕ
-  d = i / slotsPerDay h
+  d = i / slots_per_day h
 
-  pub outside-first : lastRead b.readVersions d ≡ none
-      → (noneSpanned ≡ spannedBy h b (earlier b d) (later h b d)) × (unscaled ≡ (stretchAt h b i).by)
-  unfolding spannedBy stretchAt stretchOn stretchOf
-  outside-first e = rw e (refl, go (nextRead b.readVersions (d + 1) (h.days - d)))
+  pub outside_first : last_read b.read_versions d ≡ none
+      → (none_spanned ≡ spanned_by h b (earlier b d) (later h b d)) × (unscaled ≡ (stretch_at h b i).by)
+  unfolding spanned_by stretch_at stretch_on stretch_of
+  outside_first e = rw e (refl, go (next_read b.read_versions (d + 1) (h.days - d)))
     where
-      go : (l : Option ℕ) → unscaled ≡ (stretchOf h b none l i).by
+      go : (l : Option ℕ) → unscaled ≡ (stretch_of h b none l i).by
       go (some last) = refl
       go none = refl
 
-  pub outside-last : (first : ℕ) → lastRead b.readVersions d ≡ some first → nextRead b.readVersions (d + 1) (h.days - d) ≡ none
-      → (noneSpanned ≡ spannedBy h b (earlier b d) (later h b d)) × (unscaled ≡ (stretchAt h b i).by)
-  unfolding spannedBy stretchAt stretchOn stretchOf
-  outside-last first e f = rw (e, f) (refl, refl)
+  pub outside_last : (first : ℕ) → last_read b.read_versions d ≡ some first → next_read b.read_versions (d + 1) (h.days - d) ≡ none
+      → (none_spanned ≡ spanned_by h b (earlier b d) (later h b d)) × (unscaled ≡ (stretch_at h b i).by)
+  unfolding spanned_by stretch_at stretch_on stretch_of
+  outside_last first e f = rw (e, f) (refl, refl)
 
-  pub inside_both : (first last : ℕ) → lastRead b.readVersions d ≡ some first → nextRead b.readVersions (d + 1) (h.days - d) ≡ some
+  pub inside_both : (first last : ℕ) → last_read b.read_versions d ≡ some first → next_read b.read_versions (d + 1) (h.days - d) ≡ some
       last
-      → (spannedBy h b (some first) (some last) ≡ spannedBy h b (earlier b d) (later h b d))
-      × (spanStretch h b first last i ≡ stretchAt h b i)
-  unfolding stretchAt stretchOn stretchOf
+      → (spanned_by h b (some first) (some last) ≡ spanned_by h b (earlier b d) (later h b d))
+      × (span_stretch h b first last i ≡ stretch_at h b i)
+  unfolding stretch_at stretch_on stretch_of
   inside_both first last e f = rw (e, f) (refl, refl)

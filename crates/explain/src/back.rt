@@ -1,10 +1,10 @@
 // What a pass over the slots knows before a slot, found by looking back from it.
 ghost use Rattle.std.specs.Prelude.{◌≡◌, ◌+◌, ◌<◌, ◌≤◌, length};
-ghost use Rattle.rules.specs.Opening.{slotCount};
-ghost use Rattle.rules.specs.Filling.{filledAt, shape_at};
-ghost use Rattle.rules.specs.Lent.{lentSlots, lentAgreed};
+ghost use Rattle.rules.specs.Opening.{slot_count};
+ghost use Rattle.rules.specs.Filling.{filled_at, shape_at};
+ghost use Rattle.rules.specs.Lent.{lent_slots, lent_agreed};
 ghost use Rattle.rules.specs.Inner.Lent.{Fitted, Lent, Settled};
-ghost use Rattle.rules.specs.Inner.Walks.{walkAt};
+ghost use Rattle.rules.specs.Inner.Walks.{walk_at};
 ghost use Rattle.explain.specs.Inner.Looking.{Since};
 
 use rules::walk::{Filled, Walk};
@@ -12,8 +12,8 @@ use rules::{Head, linear, outage, tests, walk};
 
 // The slot behind the last good slot before slot `at`, or slot 0.
 fn since_good(head: Head, values: &[u32], versions: &[u32], statuses: &[u8], at: usize) -> usize
-    requires { Fitted head (lentSlots values versions statuses) × (at ≤ slotCount head) }
-    ensures { Since head (lentSlots values.entry versions.entry statuses.entry) at result }
+    requires { Fitted head (lent_slots values versions statuses) × (at ≤ slot_count head) }
+    ensures { Since head (lent_slots values.entry versions.entry statuses.entry) at result }
 {
     let mut from = at;
     while 0 < from {
@@ -35,11 +35,11 @@ pub fn fills_before(
     agreed_versions: &[u32],
     at: usize,
 ) -> Walk
-    requires { Fitted head (lentSlots values versions statuses)
-        × (length agreed_versions.now ≡ slotCount head)
-        × (at < slotCount head) }
-    ensures { let s = lentSlots values.entry versions.entry statuses.entry in
-        result ≡ walkAt head s agreed_versions.now at }
+    requires { Fitted head (lent_slots values versions statuses)
+        × (length agreed_versions.now ≡ slot_count head)
+        × (at < slot_count head) }
+    ensures { let s = lent_slots values.entry versions.entry statuses.entry in
+        result ≡ walk_at head s agreed_versions.now at }
 {
     let mut k = since_good(head, values, versions, statuses, at);
     let mut outage = false;
@@ -76,14 +76,14 @@ pub fn fill_slot(
     agreed_versions: &[u32],
     at: usize,
 ) -> Filled
-    requires { Lent head (lentSlots values versions statuses) holidays.now
-        × Settled head (lentAgreed agreed agreed_versions)
-        × (at < slotCount head) }
-    ensures { let s = lentSlots values.entry versions.entry statuses.entry in
-        let a = lentAgreed agreed.entry agreed_versions.entry in
-        (result.outcome ≡ filledAt head s a holidays.now at)
+    requires { Lent head (lent_slots values versions statuses) holidays.now
+        × Settled head (lent_agreed agreed agreed_versions)
+        × (at < slot_count head) }
+    ensures { let s = lent_slots values.entry versions.entry statuses.entry in
+        let a = lent_agreed agreed.entry agreed_versions.entry in
+        (result.outcome ≡ filled_at head s a holidays.now at)
         × (result.shape ≡ shape_at head s a holidays.now at)
-        × (result.next ≡ walkAt head s a.versions (at + 1)) }
+        × (result.next ≡ walk_at head s a.versions (at + 1)) }
 {
     let here = fills_before(head, values, versions, statuses, agreed_versions, at);
     walk::fill_at(

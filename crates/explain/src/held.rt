@@ -1,14 +1,14 @@
 // The span that a slot lies in, and how it is scaled before the slot (01, Spans).
 ghost use Rattle.std.specs.Prelude.{[], ◌≡◌, ◌+◌, ◌/◌, ◌<◌, ◌≤◌, length};
 ghost use Rattle.std.proofs.Math.Option.{some};
-ghost use Rattle.rules.specs.Opening.{slotsPerDay, slotCount};
-ghost use Rattle.rules.specs.Spans.{lastRead};
-ghost use Rattle.rules.specs.Lent.{lentSlots, lentAgreed, lentCells, cells};
+ghost use Rattle.rules.specs.Opening.{slots_per_day, slot_count};
+ghost use Rattle.rules.specs.Spans.{last_read};
+ghost use Rattle.rules.specs.Lent.{lent_slots, lent_agreed, lent_cells, cells};
 ghost use Rattle.rules.specs.Inner.Lent.{Lent, Settled, Dialled, Widths, Whole};
-ghost use Rattle.rules.specs.Inner.Summaries.{summaryOf};
-ghost use Rattle.rules.specs.Inner.Stretches.{nextMeant, spanStretch, stretchAt};
-ghost use Rattle.explain.specs.Explain.{spannedBy, noneSpanned, earlier, later};
-ghost use Rattle.explain.specs.Inner.Holding.{unscaled, scalingWith, spannedWith, Between};
+ghost use Rattle.rules.specs.Inner.Summaries.{summary_of};
+ghost use Rattle.rules.specs.Inner.Stretches.{next_meant, span_stretch, stretch_at};
+ghost use Rattle.explain.specs.Explain.{spanned_by, none_spanned, earlier, later};
+ghost use Rattle.explain.specs.Inner.Holding.{unscaled, scaling_with, spanned_with, Between};
 
 use crate::{Spanned, back};
 use rules::readings::Next;
@@ -25,7 +25,7 @@ pub struct Held {
 // The last boundary up to `day` that has a reading.
 fn last_read(read_versions: &[u32], day: usize) -> Next
     requires { day < length read_versions.now }
-    ensures { nextMeant result ≡ lastRead read_versions.now day }
+    ensures { next_meant result ≡ last_read read_versions.now day }
 {
     let mut d = day;
     while 0 < d {
@@ -52,13 +52,13 @@ fn sums(
     start: usize,
     count: usize,
 ) -> Summary
-    requires { Lent head (lentSlots values versions statuses) holidays.now
-        × Settled head (lentAgreed agreed agreed_versions)
-        × (start < slotCount head)
-        × (start + count ≤ slotCount head) }
-    ensures { let s = lentSlots values.entry versions.entry statuses.entry in
-        let a = lentAgreed agreed.entry agreed_versions.entry in
-        result ≡ summaryOf head s a holidays.now start count }
+    requires { Lent head (lent_slots values versions statuses) holidays.now
+        × Settled head (lent_agreed agreed agreed_versions)
+        × (start < slot_count head)
+        × (start + count ≤ slot_count head) }
+    ensures { let s = lent_slots values.entry versions.entry statuses.entry in
+        let a = lent_agreed agreed.entry agreed_versions.entry in
+        result ≡ summary_of head s a holidays.now start count }
 {
     let here = back::fills_before(head, values, versions, statuses, agreed_versions, start);
     spans::summarise(
@@ -77,7 +77,7 @@ fn sums(
 // The scaling of a span with this state, these sums and this R, where the slots before a slot have the sums `before`.
 fn scaling_with(state: u8, sum: Summary, before: Summary, r: u64) -> Scaling
     requires { state ≡ 1 → sum.actual ≤ r }
-    ensures { result ≡ scalingWith state sum before r }
+    ensures { result ≡ scaling_with state sum before r }
 {
     if state != 1 {
         let nothing = stretch::unscaled_to(0);
@@ -114,7 +114,7 @@ fn spanned(
         × (first ≤ head.days)
         × (last ≤ head.days)
         × (head.days ≤ 400) }
-    ensures { result ≡ spannedWith head readings.now widths.now first last sum }
+    ensures { result ≡ spanned_with head readings.now widths.now first last sum }
 {
     let found = spans::compare(head, readings, widths, first, last, sum);
     let range = found.range;
@@ -145,15 +145,15 @@ fn between(
     first: usize,
     last: usize,
 ) -> Held
-    requires { Lent head (lentSlots values versions statuses) holidays.now
+    requires { Lent head (lent_slots values versions statuses) holidays.now
         × Dialled head readings.now
-        × Settled head (lentAgreed agreed agreed_versions)
+        × Settled head (lent_agreed agreed agreed_versions)
         × Widths head widths.now
         × Between head slot first last }
-    ensures { let s = lentSlots values.entry versions.entry statuses.entry in
-        let a = lentAgreed agreed.entry agreed_versions.entry in
+    ensures { let s = lent_slots values.entry versions.entry statuses.entry in
+        let a = lent_agreed agreed.entry agreed_versions.entry in
         let b = cells s holidays.now readings.now [] a widths.now in
-        (result.span ≡ spannedBy head b (some first) (some last)) × (result.by ≡ (spanStretch head b first last slot).by) }
+        (result.span ≡ spanned_by head b (some first) (some last)) × (result.by ≡ (span_stretch head b first last slot).by) }
 {
     let day = opening::slots_per_day(head);
     let start = first * day;
@@ -187,7 +187,7 @@ fn between(
 }
 
 pub fn no_span() -> Spanned
-    ensures { result ≡ noneSpanned }
+    ensures { result ≡ none_spanned }
 {
     Spanned {
         inside: false,
@@ -203,7 +203,7 @@ pub fn no_span() -> Spanned
 
 // A slot that lies in no span.
 fn outside() -> Held
-    ensures { (result.span ≡ noneSpanned) × (result.by ≡ unscaled) }
+    ensures { (result.span ≡ none_spanned) × (result.by ≡ unscaled) }
 {
     let nothing = stretch::unscaled_to(0);
     let by = nothing.by;
@@ -227,13 +227,13 @@ pub fn hold(
     widths: &[u16],
     slot: usize,
 ) -> Held
-    requires { Whole head (lentCells values versions statuses holidays readings read_versions agreed agreed_versions widths)
-        × (slot < slotCount head) }
-    ensures { let b = lentCells values.entry versions.entry statuses.entry holidays.entry readings.entry read_versions.entry
+    requires { Whole head (lent_cells values versions statuses holidays readings read_versions agreed agreed_versions widths)
+        × (slot < slot_count head) }
+    ensures { let b = lent_cells values.entry versions.entry statuses.entry holidays.entry readings.entry read_versions.entry
         agreed.entry agreed_versions.entry widths.entry in
-        let d = slot / slotsPerDay head in
-        (result.span ≡ spannedBy head b (earlier b d) (later head b d))
-        × (result.by ≡ (stretchAt head b slot).by) }
+        let d = slot / slots_per_day head in
+        (result.span ≡ spanned_by head b (earlier b d) (later head b d))
+        × (result.by ≡ (stretch_at head b slot).by) }
 {
     let day = slot / opening::slots_per_day(head);
     let Next::At(first) = last_read(read_versions, day) else {

@@ -5,14 +5,14 @@ pub mod naming;
 mod told;
 
 ghost use Rattle.std.specs.Prelude.{true, ◌≡◌, ◌<◌};
-ghost use Rattle.rules.specs.Opening.{headOk, slotCount};
-ghost use Rattle.rules.specs.Spans.{noOutcome};
-ghost use Rattle.rules.specs.Lent.{lentCells};
+ghost use Rattle.rules.specs.Opening.{head_ok, slot_count};
+ghost use Rattle.rules.specs.Spans.{no_outcome};
+ghost use Rattle.rules.specs.Lent.{lent_cells};
 ghost use Rattle.rules.specs.Inner.Lent.{Whole};
-ghost use Rattle.book.specs.Cells.{bookFits};
-ghost use Rattle.book.specs.Lent.{lentBook};
-ghost use Rattle.explain.specs.Explain.{explanationOf, explainAnswer};
-ghost use Rattle.explain.specs.Inner.Telling.{refusedBy};
+ghost use Rattle.book.specs.Cells.{book_fits};
+ghost use Rattle.book.specs.Lent.{lent_book};
+ghost use Rattle.explain.specs.Explain.{explanation_of, explain_answer};
+ghost use Rattle.explain.specs.Inner.Telling.{refused_by};
 
 use book::sound;
 use rules::filling::References;
@@ -88,11 +88,11 @@ fn tell(
     widths: &[u16],
     slot: usize,
 ) -> Explanation
-    requires { Whole head (lentCells values versions statuses holidays readings read_versions agreed agreed_versions widths)
-        × (slot < slotCount head) }
-    ensures { let b = lentCells values.entry versions.entry statuses.entry holidays.entry readings.entry read_versions.entry
+    requires { Whole head (lent_cells values versions statuses holidays readings read_versions agreed agreed_versions widths)
+        × (slot < slot_count head) }
+    ensures { let b = lent_cells values.entry versions.entry statuses.entry holidays.entry readings.entry read_versions.entry
         agreed.entry agreed_versions.entry widths.entry in
-        result ≡ explanationOf head b slot }
+        result ≡ explanation_of head b slot }
 {
     let cause = tests::cause_of(
         head.limit,
@@ -138,7 +138,7 @@ fn tell(
 }
 
 fn nothing() -> Outcome
-    ensures { result ≡ noOutcome }
+    ensures { result ≡ no_outcome }
 {
     Outcome {
         value: 0,
@@ -149,7 +149,7 @@ fn nothing() -> Outcome
 
 // A refused call tells nothing.
 fn refused_by(number: u8) -> Explained
-    ensures { result ≡ refusedBy number }
+    ensures { result ≡ refused_by number }
 {
     let explanation = Explanation {
         cause: Cause::Nothing,
@@ -182,11 +182,11 @@ fn explain_fitted(
     widths: &[u16],
     slot: usize,
 ) -> Explained
-    requires { let book = lentBook values versions statuses holidays readings read_versions agreed agreed_versions counts widths in
-        (headOk head ≡ true) × (bookFits head book ≡ true) × (slot < slotCount head) }
-    ensures { let book = lentBook values.entry versions.entry statuses.entry holidays.entry readings.entry
+    requires { let book = lent_book values versions statuses holidays readings read_versions agreed agreed_versions counts widths in
+        (head_ok head ≡ true) × (book_fits head book ≡ true) × (slot < slot_count head) }
+    ensures { let book = lent_book values.entry versions.entry statuses.entry holidays.entry readings.entry
         read_versions.entry agreed.entry agreed_versions.entry counts.entry widths.entry in
-        result ≡ explainAnswer head book slot }
+        result ≡ explain_answer head book slot }
 {
     if !sound::book_ok(
         head,
@@ -236,9 +236,9 @@ pub fn explain(
     widths: &[u16],
     slot: u32,
 ) -> Explained
-    ensures { let book = lentBook values.entry versions.entry statuses.entry holidays.entry readings.entry
+    ensures { let book = lent_book values.entry versions.entry statuses.entry holidays.entry readings.entry
         read_versions.entry agreed.entry agreed_versions.entry counts.entry widths.entry in
-        result ≡ explainAnswer head book slot }
+        result ≡ explain_answer head book slot }
 {
     if !opening::head_ok(head) {
         return refused_by(1);

@@ -1,6 +1,6 @@
 // The slot that a day and a time of day name.
 ghost use Rattle.std.specs.Prelude.{◌≡◌};
-ghost use Rattle.explain.specs.Naming.{slotNamed};
+ghost use Rattle.explain.specs.Naming.{slot_named};
 
 use rules::{Head, opening};
 
@@ -19,7 +19,7 @@ pub enum Named {
 
 // The slot of a book that a moment lies in.
 pub fn slot_at(head: Head, moment: Moment) -> Named
-    ensures { result ≡ slotNamed head moment }
+    ensures { result ≡ slot_named head moment }
 {
     if !opening::head_ok(head) {
         return Named::Outside;

@@ -1,13 +1,13 @@
 // What is told of a slot: the rule that applied, its line, its shares and its outcome.
 ghost use Rattle.std.specs.Prelude.{cond, ◌≡◌, ◌<◌};
-ghost use Rattle.rules.specs.Opening.{slotCount};
-ghost use Rattle.rules.specs.Spans.{isN};
-ghost use Rattle.rules.specs.Lent.{lentSlots};
+ghost use Rattle.rules.specs.Opening.{slot_count};
+ghost use Rattle.rules.specs.Spans.{is_n};
+ghost use Rattle.rules.specs.Lent.{lent_slots};
 ghost use Rattle.rules.specs.Inner.Lent.{Lent};
 ghost use Rattle.rules.specs.Inner.Stretches.{Scalable};
-ghost use Rattle.explain.specs.Explain.{is_line, isSameDay, noLine, noneFound, foundOf, noShares};
-ghost use Rattle.explain.specs.Inner.Holding.{sharesWith};
-ghost use Rattle.explain.specs.Inner.Telling.{ruleOf, scaledTo, toldWith};
+ghost use Rattle.explain.specs.Explain.{is_line, is_same_day, no_line, none_found, found_of, no_shares};
+ghost use Rattle.explain.specs.Inner.Holding.{shares_with};
+ghost use Rattle.explain.specs.Inner.Telling.{rule_of, scaled_to, told_with};
 
 use crate::held::Held;
 use crate::{Explanation, Rule, Shares};
@@ -20,7 +20,7 @@ use rules::walk::Filled;
 use rules::{Head, Outcome, Quality, filling, linear, spans, stretch};
 
 fn is_none(quality: Quality) -> bool
-    ensures { result ≡ isN quality }
+    ensures { result ≡ is_n quality }
 {
     match quality {
         Quality::A => false,
@@ -32,7 +32,7 @@ fn is_none(quality: Quality) -> bool
 
 // The rule whose outcome this is, before scaling.
 pub fn rule_of(filled: Outcome) -> Rule
-    ensures { result ≡ ruleOf filled }
+    ensures { result ≡ rule_of filled }
 {
     if filled.method == 1 {
         return Rule::OutageZero;
@@ -68,7 +68,7 @@ fn is_line(rule: Rule) -> bool
 
 // The line, where the rule is linear.
 fn line_by(rule: Rule, line: StraightLine) -> StraightLine
-    ensures { result ≡ cond (is_line rule) line noLine }
+    ensures { result ≡ cond (is_line rule) line no_line }
 {
     if !is_line(rule) {
         return linear::bare(0);
@@ -77,7 +77,7 @@ fn line_by(rule: Rule, line: StraightLine) -> StraightLine
 }
 
 fn is_same_day(rule: Rule) -> bool
-    ensures { result ≡ isSameDay rule }
+    ensures { result ≡ is_same_day rule }
 {
     match rule {
         Rule::Delivered => false,
@@ -90,7 +90,7 @@ fn is_same_day(rule: Rule) -> bool
 }
 
 pub fn none_found() -> References
-    ensures { result ≡ noneFound }
+    ensures { result ≡ none_found }
 {
     References {
         days: [0u32; 4],
@@ -109,9 +109,9 @@ pub fn found_by(
     holidays: &[u8],
     slot: usize,
 ) -> References
-    requires { Lent head (lentSlots values versions statuses) holidays.now × (slot < slotCount head) }
-    ensures { let s = lentSlots values.entry versions.entry statuses.entry in
-        result ≡ foundOf rule head s holidays.now slot }
+    requires { Lent head (lent_slots values versions statuses) holidays.now × (slot < slot_count head) }
+    ensures { let s = lent_slots values.entry versions.entry statuses.entry in
+        result ≡ found_of rule head s holidays.now slot }
 {
     if !is_same_day(rule) {
         return none_found();
@@ -120,7 +120,7 @@ pub fn found_by(
 }
 
 pub fn no_shares() -> Shares
-    ensures { result ≡ noShares }
+    ensures { result ≡ no_shares }
 {
     Shares {
         scaled: false,
@@ -133,7 +133,7 @@ pub fn no_shares() -> Shares
 
 // The shares of a slot of this quality: with an E above 0 its span is scaled.
 fn shares_by(quality: Quality, by: Scaling, reached: u64) -> Shares
-    ensures { result ≡ sharesWith quality by reached }
+    ensures { result ≡ shares_with quality by reached }
 {
     if !spans::is_substituted(quality) {
         return no_shares();
@@ -152,8 +152,8 @@ fn shares_by(quality: Quality, by: Scaling, reached: u64) -> Shares
 
 // A filled slot in its span.
 pub fn tell_with(cause: Cause, filled: Filled, found: References, held: Held) -> Explanation
-    requires { Scalable filled.outcome filled.shape (scaledTo held.by) }
-    ensures { result ≡ toldWith cause filled found held }
+    requires { Scalable filled.outcome filled.shape (scaled_to held.by) }
+    ensures { result ≡ told_with cause filled found held }
 {
     let slot = filled.outcome;
     let quality = slot.quality;

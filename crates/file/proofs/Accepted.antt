@@ -1,4 +1,4 @@
--- The file of a well-formed content is accepted, with the content's figures and tables.
+-- The file of a well_formed content is accepted, with the content's figures and tables.
 use mathlib.Core.Path.{◌≡◌, refl, sym, ap, ap₂, ◌∙◌}
 use mathlib.Core.Bool.{Bool, true, cond}
 use Prim.Native.Nat.{ℕ, ◌+◌, ◌-◌, ◌*◌, ◌/◌, ◌^◌, ◌≤◌, ◌<◌}
@@ -9,143 +9,143 @@ use lib.Dec.{lit<, leb, eqb}
 use lib.ListN.{length, length-append}
 use lib.Seq.{take_at}
 use Rattle.base.specs.Lists.{sum}
-use Rattle.base.proofs.Lists.{upTo-list}
+use Rattle.base.proofs.Lists.{up_to_list}
 use Rattle.base.proofs.Logic.{bit_le}
-use Rattle.base.proofs.Sums.{sum-cong}
+use Rattle.base.proofs.Sums.{sum_cong}
 use Rattle.rules.specs.declared.Outcome.{Outcome}
 use Rattle.rules.specs.declared.Quality.{Quality}
 use Rattle.rules.specs.declared.Quality.TheVariants.{A, S, F, N}
-use Rattle.rules.specs.Spans.{is_a, isS, isF, isN, noOutcome}
+use Rattle.rules.specs.Spans.{is_a, is_s, is_f, is_n, no_outcome}
 use Rattle.file.specs.declared.Verdict.TheVariants.{Accepted}
-use Rattle.file.specs.Layout.{Content, letter, total, one, row, ranged, spanWidth, trailerRow, figuresOf, tables_of, fileOf}
-use Rattle.file.specs.Reader.{figures, fileSlots, layoutFits, count_of, tablesAt, trailerOk, tablesOk, figuresOk, readFile, part_of}
-use Rattle.file.specs.Reader.{tablesPart}
-use Rattle.file.specs.Contents.{WellFormed, slot, recordsOf}
-use Rattle.file.proofs.Rows.{length-row}
-use Rattle.file.proofs.Lists.{total-sum, total-le}
-use Rattle.file.proofs.Head.{slots-le}
+use Rattle.file.specs.Layout.{Content, letter, total, one, row, ranged, span_width, trailer_row, figures_of, tables_of, file_of}
+use Rattle.file.specs.Reader.{figures, file_slots, layout_fits, count_of, tables_at, trailer_ok, tables_ok, figures_ok, read_file, part_of}
+use Rattle.file.specs.Reader.{tables_part}
+use Rattle.file.specs.Contents.{WellFormed, slot, records_of}
+use Rattle.file.proofs.Rows.{length_row}
+use Rattle.file.proofs.Lists.{total_sum, total_le}
+use Rattle.file.proofs.Head.{slots_le}
 use Rattle.file.proofs.Records.{each}
 use Rattle.file.proofs.Fitting.{Fitting, fitting}
-use Rattle.file.proofs.Content.{slot-back, span-back, first_back, days-back, interval-back, layout-back, spans-back, distance_back}
-use Rattle.file.proofs.Content.{trailer-field, length-file}
-use Rattle.file.proofs.Agree.{Agree, count-agree, sum-agree, tables_agree}
-use Rattle.file.proofs.Answers.{accepted-with}
+use Rattle.file.proofs.Content.{slot_back, span_back, first_back_lem, days_back, interval_back, layout_back, spans_back, distance_back}
+use Rattle.file.proofs.Content.{trailer_field_lem, length_file}
+use Rattle.file.proofs.Agree.{Agree, count_agree, sum_agree, tables_agree}
+use Rattle.file.proofs.Answers.{accepted_with}
 
 -- a figure of a content, as a sum over its slots
-total-slots : (f : Content) (g : Outcome → ℕ) → total g f.slots ≡ sum (λ i. g (slot f i)) 0 (length f.slots)
-total-slots f g =
-    ap (total g) (sym (upTo-list f.slots noOutcome (slot f) 0 (λ i l. ap (slot f) (zero-add i))))
-    ∙ total-sum g (slot f) 0 (length f.slots)
+total_slots : (f : Content) (g : Outcome → ℕ) → total g f.slots ≡ sum (λ i. g (slot f i)) 0 (length f.slots)
+total_slots f g =
+    ap (total g) (sym (up_to_list f.slots no_outcome (slot f) 0 (λ i l. ap (slot f) (zero-add i))))
+    ∙ total_sum g (slot f) 0 (length f.slots)
 
 -- a quality's test, and that of its letter
 pub record Tests (q : Quality) (p : Quality → Bool) : Type 0 where
   pub same : (r : Quality) → eqb (letter r) (letter q) ≡ p r
 
-pub testsA : Tests A is_a
-testsA = record { same = each (λ r. eqb (letter r) (letter A) ≡ is_a r) refl refl refl refl }
+pub tests_a : Tests A is_a
+tests_a = record { same = each (λ r. eqb (letter r) (letter A) ≡ is_a r) refl refl refl refl }
 
-pub testsS : Tests S isS
-testsS = record { same = each (λ r. eqb (letter r) (letter S) ≡ isS r) refl refl refl refl }
+pub tests_s : Tests S is_s
+tests_s = record { same = each (λ r. eqb (letter r) (letter S) ≡ is_s r) refl refl refl refl }
 
-pub testsF : Tests F isF
-testsF = record { same = each (λ r. eqb (letter r) (letter F) ≡ isF r) refl refl refl refl }
+pub tests_f : Tests F is_f
+tests_f = record { same = each (λ r. eqb (letter r) (letter F) ≡ is_f r) refl refl refl refl }
 
-pub testsN : Tests N isN
-testsN = record { same = each (λ r. eqb (letter r) (letter N) ≡ isN r) refl refl refl refl }
+pub tests_n : Tests N is_n
+tests_n = record { same = each (λ r. eqb (letter r) (letter N) ≡ is_n r) refl refl refl refl }
 
 -- the counts and the sum of a content's own records
-pub count-own : (f : Content) → length f.slots ≡ 1440 / f.interval * f.days → (q : Quality) (p : Quality → Bool) → Tests q p
-    → count_of (recordsOf f) q ≡ total (one p) f.slots
-count-own f e q p s =
-    rw (← e) (sum-cong _ _ 0 (length f.slots) (λ i _ _. ap (λ (b : Bool). cond b 1 0) (s.same (slot f i).quality))
-    ∙ sym (total-slots f (one p)))
+pub count_own : (f : Content) → length f.slots ≡ 1440 / f.interval * f.days → (q : Quality) (p : Quality → Bool) → Tests q p
+    → count_of (records_of f) q ≡ total (one p) f.slots
+count_own f e q p s =
+    rw (← e) (sum_cong _ _ 0 (length f.slots) (λ i _ _. ap (λ (b : Bool). cond b 1 0) (s.same (slot f i).quality))
+    ∙ sym (total_slots f (one p)))
 
-pub sum-own : (f : Content) → length f.slots ≡ 1440 / f.interval * f.days
+pub sum_own : (f : Content) → length f.slots ≡ 1440 / f.interval * f.days
     → sum (λ i. (slot f i).value) 0 (1440 / f.interval * f.days) ≡ total (λ o. o.value) f.slots
-sum-own f e = rw (← e) (sym (total-slots f (λ o. o.value)))
+sum_own f e = rw (← e) (sym (total_slots f (λ o. o.value)))
 
 module _ (f : Content) (w : WellFormed f) where
   fits : Fitting f
   fits = fitting f w
 
   few : length f.slots ≤ 115_200
-  few = rw w.slots (slots-le f.first f.days f.interval w.head)
+  few = rw w.slots (slots_le f.first f.days f.interval w.head)
 
-  count-le : (p : Quality → Bool) → total (one p) f.slots ≤ 115_200
-  count-le p = omega (arith, few, total-le (one p) 1 noOutcome f.slots (λ i l. bit_le (p (slot f i).quality)))
+  count_le : (p : Quality → Bool) → total (one p) f.slots ≤ 115_200
+  count_le p = omega (arith, few, total_le (one p) 1 no_outcome f.slots (λ i l. bit_le (p (slot f i).quality)))
 
-  count-lt : (p : Quality → Bool) → total (one p) f.slots < 256 ^ 4
-  count-lt p = omega (arith, count-le p)
+  count_lt : (p : Quality → Bool) → total (one p) f.slots < 256 ^ 4
+  count_lt p = omega (arith, count_le p)
 
-  filled-lt : total (one isS) f.slots + total (one isF) f.slots < 256 ^ 4
-  filled-lt = omega (arith, count-le isS, count-le isF)
+  filled_lt : total (one is_s) f.slots + total (one is_f) f.slots < 256 ^ 4
+  filled_lt = omega (arith, count_le is_s, count_le is_f)
 
   sum_lt : total (λ o. o.value) f.slots < 256 ^ 8
-  sum_lt = omega (arith, few, total-le (λ o. o.value) (2 ^ 32) noOutcome f.slots (λ i l. omega (arith, w.values i l)))
+  sum_lt = omega (arith, few, total_le (λ o. o.value) (2 ^ 32) no_outcome f.slots (λ i l. omega (arith, w.values i l)))
 
-  figures-back : figures (fileOf f) ≡ figuresOf f
-  unfolding figures figuresOf
-  figures-back =
+  figures_back : figures (file_of f) ≡ figures_of f
+  unfolding figures figures_of
+  figures_back =
       λ k. record {
-        first = first_back f fits k;
-        days = days-back f fits k;
-        interval = interval-back f fits k;
-        spans = spans-back f fits k;
-        actual = trailer-field f 5 (lit< tt) (count-lt is_a) k;
-        substituted = trailer-field f 6 (lit< tt) filled-lt k;
-        none = trailer-field f 7 (lit< tt) (count-lt isN) k;
-        sum = trailer-field f 8 (lit< tt) sum_lt k;
-        layout = layout-back f fits k;
+        first = first_back_lem f fits k;
+        days = days_back f fits k;
+        interval = interval_back f fits k;
+        spans = spans_back f fits k;
+        actual = trailer_field_lem f 5 (lit< tt) (count_lt is_a) k;
+        substituted = trailer_field_lem f 6 (lit< tt) filled_lt k;
+        none = trailer_field_lem f 7 (lit< tt) (count_lt is_n) k;
+        sum = trailer_field_lem f 8 (lit< tt) sum_lt k;
+        layout = layout_back f fits k;
       }
 
-  base : 6 * fileSlots (figuresOf f) ≡ 6 * length f.slots
-  unfolding figuresOf
+  base : 6 * file_slots (figures_of f) ≡ 6 * length f.slots
+  unfolding figures_of
   base = rw w.slots
 
-  agree : Agree (tablesAt (fileOf f) (figuresOf f)) (recordsOf f)
-  unfolding figuresOf
+  agree : Agree (tables_at (file_of f) (figures_of f)) (records_of f)
+  unfolding figures_of
   agree = record {
-    perDay = refl;
+    per_day = refl;
     days = refl;
     spans = refl;
-    slot = λ i l. slot-back f fits i (rw w.slots l);
-    span = λ j l. span-back f fits _ base j l;
+    slot = λ i l. slot_back f fits i (rw w.slots l);
+    span = λ j l. span_back f fits _ base j l;
   }
 
-  trailer-right : trailerOk (fileOf f) (figuresOf f) ≡ true
-  unfolding trailerOk figuresOf
-  trailer-right =
-      let long : leb 32 (length (fileOf f)) ≡ true = le-leb 32 (length (fileOf f)) (omega (arith, length-file f)) in
-      let end : ℕ = 6 * (1440 / f.interval * f.days) + spanWidth (ranged f.layout) * length f.spans + 32 in
-      let whole : eqb (length (fileOf f)) end ≡ true = eq-eqb (length (fileOf f)) end (omega (arith, length-file f, base)) in
+  trailer_right : trailer_ok (file_of f) (figures_of f) ≡ true
+  unfolding trailer_ok figures_of
+  trailer_right =
+      let long : leb 32 (length (file_of f)) ≡ true = le-leb 32 (length (file_of f)) (omega (arith, length_file f)) in
+      let end : ℕ = 6 * (1440 / f.interval * f.days) + span_width (ranged f.layout) * length f.spans + 32 in
+      let whole : eqb (length (file_of f)) end ≡ true = eq-eqb (length (file_of f)) end (omega (arith, length_file f, base)) in
       rw (long, w.head, w.known, eq-eqb _ _ (distance_back f fits), whole)
 
-  tables-right : tablesOk (fileOf f) (figuresOf f) ≡ true
-  unfolding tablesOk
-  tables-right = tables_agree (tablesAt (fileOf f) (figuresOf f)) (recordsOf f) agree w.tables
+  tables_right : tables_ok (file_of f) (figures_of f) ≡ true
+  unfolding tables_ok
+  tables_right = tables_agree (tables_at (file_of f) (figures_of f)) (records_of f) agree w.tables
 
-  figures-right : figuresOk (fileOf f) (figuresOf f) ≡ true
-  unfolding figuresOk figuresOf
-  figures-right =
-      let own = count-agree (tablesAt (fileOf f) (figuresOf f)) (recordsOf f) agree in
-      let agreed = own F ∙ count-own f w.slots F isF testsF in
-      let goes = ap (layoutFits f.layout) agreed ∙ w.fits in
+  figures_right : figures_ok (file_of f) (figures_of f) ≡ true
+  unfolding figures_ok figures_of
+  figures_right =
+      let own = count_agree (tables_at (file_of f) (figures_of f)) (records_of f) agree in
+      let agreed = own F ∙ count_own f w.slots F is_f tests_f in
+      let goes = ap (layout_fits f.layout) agreed ∙ w.fits in
       rw (
-        eq-eqb _ _ (own A ∙ count-own f w.slots A is_a testsA),
-        eq-eqb _ _ (ap₂ (λ (x y : ℕ). x + y) (own S ∙ count-own f w.slots S isS testsS) agreed),
-        eq-eqb _ _ (own N ∙ count-own f w.slots N isN testsN),
-        eq-eqb _ _ (sum-agree (tablesAt (fileOf f) (figuresOf f)) (recordsOf f) agree ∙ sum-own f w.slots),
+        eq-eqb _ _ (own A ∙ count_own f w.slots A is_a tests_a),
+        eq-eqb _ _ (ap₂ (λ (x y : ℕ). x + y) (own S ∙ count_own f w.slots S is_s tests_s) agreed),
+        eq-eqb _ _ (own N ∙ count_own f w.slots N is_n tests_n),
+        eq-eqb _ _ (sum_agree (tables_at (file_of f) (figures_of f)) (records_of f) agree ∙ sum_own f w.slots),
         goes,
       )
 
   -- with the content's figures
-  pub accepted : readFile (fileOf f) ≡ Accepted (figuresOf f)
-  accepted = accepted-with (fileOf f) (figuresOf f) (sym figures-back) trailer-right tables-right figures-right
+  pub accepted : read_file (file_of f) ≡ Accepted (figures_of f)
+  accepted = accepted_with (file_of f) (figures_of f) (sym figures_back) trailer_right tables_right figures_right
 
   -- and with its tables
-  pub tables-back : tablesPart (fileOf f) ≡ tables_of f
-  unfolding tablesPart fileOf
-  tables-back =
-      let end : length (fileOf f) - 32 ≡ length (tables_of f) =
-      omega (arith, length-append (tables_of f) (row (trailerRow (figuresOf f))), length-row (trailerRow (figuresOf f))) in
-      ap (λ v. part_of v (fileOf f)) accepted ∙ take_at (tables_of f) (row (trailerRow (figuresOf f))) (length (fileOf f) - 32) (sym end)
+  pub tables_back : tables_part (file_of f) ≡ tables_of f
+  unfolding tables_part file_of
+  tables_back =
+      let end : length (file_of f) - 32 ≡ length (tables_of f) =
+      omega (arith, length-append (tables_of f) (row (trailer_row (figures_of f))), length_row (trailer_row (figures_of f))) in
+      ap (λ v. part_of v (file_of f)) accepted ∙ take_at (tables_of f) (row (trailer_row (figures_of f))) (length (file_of f) - 32) (sym end)

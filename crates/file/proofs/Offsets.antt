@@ -5,25 +5,25 @@ use mathlib.Core.List.{List}
 use Prim.Native.Nat.{ℕ, ◌+◌, ◌*◌, ◌^◌, ◌<◌}
 use native.Mathlib.Nat.{add-zero}
 use lib.ListN.{get_or}
-use Rattle.file.specs.Reader.{num, slot_at, readSpan, trailerAt, figures}
+use Rattle.file.specs.Reader.{num, slot_at, read_span, trailer_at, figures}
 use Rattle.file.specs.Contents.{Bytes}
-use Rattle.file.proofs.Numbers.{num-one, num-lt}
+use Rattle.file.proofs.Numbers.{num_one, num_lt}
 
 module _ (bs : List ℕ) where
   -- the first field of a row
-  first-at : (k at : ℕ) → num k bs (at + 0) ≡ num k bs at
-  first-at k at = ap (num k bs) (add-zero at)
+  first_at : (k at : ℕ) → num k bs (at + 0) ≡ num k bs at
+  first_at k at = ap (num k bs) (add-zero at)
 
-  pub slot-at : (i : ℕ) → slot_at bs i ≡ record { value = num 4 bs (6 * i); letter = get_or bs (6 * i + 4) 0; method = get_or bs (6 * i + 5) 0 }
+  pub slot_at_lem : (i : ℕ) → slot_at bs i ≡ record { value = num 4 bs (6 * i); letter = get_or bs (6 * i + 4) 0; method = get_or bs (6 * i + 5) 0 }
   unfolding slot_at
-  slot-at i =
-      λ k. record { value = first-at 4 (6 * i) k; letter = num-one bs (6 * i + 4) k; method = num-one bs (6 * i + 5) k }
+  slot_at_lem i =
+      λ k. record { value = first_at 4 (6 * i) k; letter = num_one bs (6 * i + 4) k; method = num_one bs (6 * i + 5) k }
 
-  pub value-lt : Bytes bs → (i : ℕ) → (slot_at bs i).value < 2 ^ 32
+  pub value_lt : Bytes bs → (i : ℕ) → (slot_at bs i).value < 2 ^ 32
   unfolding slot_at
-  value-lt b i = num-lt bs b 4 (6 * i + 0)
+  value_lt b i = num_lt bs b 4 (6 * i + 0)
 
-  pub exact-at : (p : ℕ) → readSpan false bs p ≡ record {
+  pub exact_at : (p : ℕ) → read_span false bs p ≡ record {
     first = num 2 bs p;
     last = num 2 bs (p + 2);
     lowest = num 4 bs (p + 4);
@@ -31,18 +31,18 @@ module _ (bs : List ℕ) where
     state = get_or bs (p + 8) 0;
     blank = get_or bs (p + 9) 0;
   }
-  unfolding readSpan
-  exact-at p =
+  unfolding read_span
+  exact_at p =
       λ k. record {
-        first = first-at 2 p k;
+        first = first_at 2 p k;
         last = num 2 bs (p + 2);
         lowest = num 4 bs (p + 4);
         highest = num 4 bs (p + 4);
-        state = num-one bs (p + 8) k;
-        blank = num-one bs (p + 9) k;
+        state = num_one bs (p + 8) k;
+        blank = num_one bs (p + 9) k;
       }
 
-  pub ranged-at : (p : ℕ) → readSpan true bs p ≡ record {
+  pub ranged_at : (p : ℕ) → read_span true bs p ≡ record {
     first = num 2 bs p;
     last = num 2 bs (p + 2);
     lowest = num 4 bs (p + 4);
@@ -50,38 +50,38 @@ module _ (bs : List ℕ) where
     state = get_or bs (p + 12) 0;
     blank = get_or bs (p + 13) 0;
   }
-  unfolding readSpan
-  ranged-at p =
+  unfolding read_span
+  ranged_at p =
       λ k. record {
-        first = first-at 2 p k;
+        first = first_at 2 p k;
         last = num 2 bs (p + 2);
         lowest = num 4 bs (p + 4);
         highest = num 4 bs (p + 8);
-        state = num-one bs (p + 12) k;
-        blank = num-one bs (p + 13) k;
+        state = num_one bs (p + 12) k;
+        blank = num_one bs (p + 13) k;
       }
 
-  pub figures-at : figures bs ≡ record {
-    first = num 2 bs (trailerAt bs);
-    days = num 2 bs (trailerAt bs + 2);
-    interval = get_or bs (trailerAt bs + 4) 0;
-    spans = num 2 bs (trailerAt bs + 6);
-    actual = num 4 bs (trailerAt bs + 8);
-    substituted = num 4 bs (trailerAt bs + 12);
-    none = num 4 bs (trailerAt bs + 16);
-    sum = num 8 bs (trailerAt bs + 20);
-    layout = get_or bs (trailerAt bs + 5) 0;
+  pub figures_at : figures bs ≡ record {
+    first = num 2 bs (trailer_at bs);
+    days = num 2 bs (trailer_at bs + 2);
+    interval = get_or bs (trailer_at bs + 4) 0;
+    spans = num 2 bs (trailer_at bs + 6);
+    actual = num 4 bs (trailer_at bs + 8);
+    substituted = num 4 bs (trailer_at bs + 12);
+    none = num 4 bs (trailer_at bs + 16);
+    sum = num 8 bs (trailer_at bs + 20);
+    layout = get_or bs (trailer_at bs + 5) 0;
   }
   unfolding figures
-  figures-at =
+  figures_at =
       λ k. record {
-        first = first-at 2 (trailerAt bs) k;
+        first = first_at 2 (trailer_at bs) k;
         days = (figures bs).days;
-        interval = num-one bs (trailerAt bs + 4) k;
+        interval = num_one bs (trailer_at bs + 4) k;
         spans = (figures bs).spans;
         actual = (figures bs).actual;
         substituted = (figures bs).substituted;
         none = (figures bs).none;
         sum = (figures bs).sum;
-        layout = num-one bs (trailerAt bs + 5) k;
+        layout = num_one bs (trailer_at bs + 5) k;
       }

@@ -8,34 +8,34 @@ use borrow.Author.Tests.{eqb-true}
 use lib.Dec.{eqb}
 use Rattle.base.specs.Lists.{sum, any}
 use Rattle.base.proofs.Logic.{and_parts, or_parts}
-use Rattle.base.proofs.Sums.{sum_more, any-more}
+use Rattle.base.proofs.Sums.{sum_more, any_more}
 use Rattle.rules.specs.declared.Quality.TheVariants.{A, F}
 use Rattle.file.specs.declared.slots.Kind.TheVariants.{Substituted, None, Scaled, Unscaled}
 use Rattle.file.specs.declared.slots.SlotRecord.{SlotRecord}
 use Rattle.file.specs.declared.slots.Tally.{Tally}
-use Rattle.file.specs.Reader.{ofQuality, isForm, slot_at}
-use Rattle.file.specs.Inner.Reading.{is_plain, isKindless, isKind, kind_at, talliedWith, talliedIn}
+use Rattle.file.specs.Reader.{of_quality, is_form, slot_at}
+use Rattle.file.specs.Inner.Reading.{is_plain, is_kindless, is_kind, kind_at, tallied_with, tallied_in}
 
 -- ---- A slot of no kind adds its value alone
 
 -- a record of no kind
 record Kindless (r : SlotRecord) : Type 0 where
-  none : isKind None r ≡ false
-  scaled : isKind Scaled r ≡ false
-  unscaled : isKind Unscaled r ≡ false
-  substituted : isKind Substituted r ≡ false
+  none : is_kind None r ≡ false
+  scaled : is_kind Scaled r ≡ false
+  unscaled : is_kind Unscaled r ≡ false
+  substituted : is_kind Substituted r ≡ false
 
 module _ (r : SlotRecord) where
-  plain-kindless : is_plain r ≡ true → Kindless r
-  plain-kindless e =
-      let p = and_parts (ofQuality A r) (eqb r.method 0) e in
+  plain_kindless : is_plain r ≡ true → Kindless r
+  plain_kindless e =
+      let p = and_parts (of_quality A r) (eqb r.method 0) e in
       let l : r.letter ≡ 65 = eqb-true _ _ p.0 in
       let m : r.method ≡ 0 = eqb-true _ _ p.1 in
       record { none = rw l; scaled = rw m; unscaled = rw l; substituted = rw l }
 
-  agreed-kindless : isForm F 5 r ≡ true → Kindless r
-  agreed-kindless e =
-      let p = and_parts (ofQuality F r) (eqb r.method 5) e in
+  agreed_kindless : is_form F 5 r ≡ true → Kindless r
+  agreed_kindless e =
+      let p = and_parts (of_quality F r) (eqb r.method 5) e in
       let l : r.letter ≡ 70 = eqb-true _ _ p.0 in
       let m : r.method ≡ 5 = eqb-true _ _ p.1 in
       record { none = rw l; scaled = rw m; unscaled = rw l; substituted = rw l }
@@ -43,28 +43,28 @@ module _ (r : SlotRecord) where
   abbrev summed : Tally → Tally
   summed t = record { none = t.none; scaled = t.scaled; unscaled = t.unscaled; substituted = t.substituted; sum = t.sum + r.value }
 
-  pub tallied-kindless : isKindless r ≡ true → (t : Tally) → summed t ≡ talliedWith t r
-  tallied-kindless e t =
-      let no = ⊎_elim plain-kindless agreed-kindless (or_parts (is_plain r) (isForm F 5 r) e) in
-      let n : t.none ≡ (t.none || isKind None r) = rw (no.none, or-false) in
-      let s : t.scaled ≡ (t.scaled || isKind Scaled r) = rw (no.scaled, or-false) in
-      let u : t.unscaled ≡ (t.unscaled || isKind Unscaled r) = rw (no.unscaled, or-false) in
-      let m : t.substituted ≡ (t.substituted || isKind Substituted r) = rw (no.substituted, or-false) in
+  pub tallied_kindless : is_kindless r ≡ true → (t : Tally) → summed t ≡ tallied_with t r
+  tallied_kindless e t =
+      let no = ⊎_elim plain_kindless agreed_kindless (or_parts (is_plain r) (is_form F 5 r) e) in
+      let n : t.none ≡ (t.none || is_kind None r) = rw (no.none, or-false) in
+      let s : t.scaled ≡ (t.scaled || is_kind Scaled r) = rw (no.scaled, or-false) in
+      let u : t.unscaled ≡ (t.unscaled || is_kind Unscaled r) = rw (no.unscaled, or-false) in
+      let m : t.substituted ≡ (t.substituted || is_kind Substituted r) = rw (no.substituted, or-false) in
       λ k. record { none = n k; scaled = s k; unscaled = u k; substituted = m k; sum = t.sum + r.value }
 
 -- ---- One slot more
 
 module _ (bs : List ℕ) (a : ℕ) where
-  pub tallied-none : record { none = false; scaled = false; unscaled = false; substituted = false; sum = 0 } ≡ talliedIn bs a 0
-  unfolding talliedIn sum any
-  tallied-none = refl
+  pub tallied_none : record { none = false; scaled = false; unscaled = false; substituted = false; sum = 0 } ≡ tallied_in bs a 0
+  unfolding tallied_in sum any
+  tallied_none = refl
 
-  pub tallied-on : (i : ℕ) → talliedWith (talliedIn bs a i) (slot_at bs (a + i)) ≡ talliedIn bs a (i + 1)
-  unfolding talliedIn
-  tallied-on i = λ k. record {
-    none = sym (any-more (kind_at bs None) a i) k;
-    scaled = sym (any-more (kind_at bs Scaled) a i) k;
-    unscaled = sym (any-more (kind_at bs Unscaled) a i) k;
-    substituted = sym (any-more (kind_at bs Substituted) a i) k;
+  pub tallied_on : (i : ℕ) → tallied_with (tallied_in bs a i) (slot_at bs (a + i)) ≡ tallied_in bs a (i + 1)
+  unfolding tallied_in
+  tallied_on i = λ k. record {
+    none = sym (any_more (kind_at bs None) a i) k;
+    scaled = sym (any_more (kind_at bs Scaled) a i) k;
+    unscaled = sym (any_more (kind_at bs Unscaled) a i) k;
+    substituted = sym (any_more (kind_at bs Substituted) a i) k;
     sum = sym (sum_more (λ x. (slot_at bs x).value) a i) k;
   }

@@ -2,15 +2,15 @@
 use Rattle.std.specs.Prelude.{List, ◌↔◌, ◌≡◌, ℕ}
 use Rattle.file.specs.declared.Figures.{Figures}
 use Rattle.file.specs.declared.Verdict.TheVariants.{Accepted}
-use Rattle.file.specs.Layout.{Content, figuresOf, tables_of, fileOf}
-use Rattle.file.specs.Reader.{readFile, tablesPart}
-use Rattle.file.specs.Contents.{Bytes, WellFormed, contentOf}
+use Rattle.file.specs.Layout.{Content, figures_of, tables_of, file_of}
+use Rattle.file.specs.Reader.{read_file, tables_part}
+use Rattle.file.specs.Contents.{Bytes, WellFormed, content_of}
 
--- these bytes are the file of a well-formed content, which has these figures and tables
+-- these bytes are the file of a well_formed content, which has these figures and tables
 pub record FileOf (f : Content) (bs : List ℕ) (g : Figures) (part : List ℕ) : Type 0 where
   pub formed : WellFormed f
-  pub file : fileOf f ≡ bs
-  pub figures : figuresOf f ≡ g
+  pub file : file_of f ≡ bs
+  pub figures : figures_of f ≡ g
   pub tables : tables_of f ≡ part
 
 -- "It accepts exactly": `read` accepts with these figures and `tables` hands back these tables exactly when there is such a content;
@@ -18,10 +18,10 @@ pub record FileOf (f : Content) (bs : List ℕ) (g : Figures) (part : List ℕ) 
 abbrev pub Exactly : Type 0
 Exactly =
     (bs : List ℕ) → Bytes bs → (g : Figures) (part : List ℕ)
-    → ((readFile bs ≡ Accepted g) × (tablesPart bs ≡ part)) ↔ ((f : Content) × FileOf f bs g part)
+    → ((read_file bs ≡ Accepted g) × (tables_part bs ≡ part)) ↔ ((f : Content) × FileOf f bs g part)
 
 -- "the writing of what such a file gives is in its own layout": what `read` accepts is byte for byte the file of the content that
 -- the answers of the two calls hold; proved by `canonical`
 abbrev pub Canonical : Type 0
 Canonical =
-    (bs : List ℕ) → Bytes bs → (g : Figures) → readFile bs ≡ Accepted g → FileOf (contentOf g (tablesPart bs)) bs g (tablesPart bs)
+    (bs : List ℕ) → Bytes bs → (g : Figures) → read_file bs ≡ Accepted g → FileOf (content_of g (tables_part bs)) bs g (tables_part bs)

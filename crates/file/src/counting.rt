@@ -1,9 +1,9 @@
 // The slots' forms, counts and sum, in one pass over the table.
 ghost use Rattle.std.specs.Prelude.{cond, true, ◌&&◌, ◌||◌, ◌≡◌, ◌*◌, ◌≤◌, eqb, leb, length};
-ghost use Rattle.base.specs.Numbers.{eightDigits};
+ghost use Rattle.base.specs.Numbers.{eight_digits};
 ghost use Rattle.rules.specs.Spans.{is_scaled};
-ghost use Rattle.rules.specs.Numbers.{mostSlots};
-ghost use Rattle.file.specs.Inner.Reading.{is_plain, IsRest, Within, metBy, countedWith, countedIn};
+ghost use Rattle.rules.specs.Numbers.{most_slots};
+ghost use Rattle.file.specs.Inner.Reading.{is_plain, IsRest, Within, met_by, counted_with, counted_in};
 
 use crate::slots;
 use crate::slots::SlotRecord;
@@ -54,7 +54,7 @@ fn is_zero(slot: SlotRecord, letter: u8, method: u8) -> bool
 }
 
 fn higher(a: u32, b: u32) -> u32
-    ensures { leb result eightDigits ≡ (leb a eightDigits && leb b eightDigits) }
+    ensures { leb result eight_digits ≡ (leb a eight_digits && leb b eight_digits) }
 {
     if a < b {
         return b;
@@ -63,8 +63,8 @@ fn higher(a: u32, b: u32) -> u32
 }
 
 fn with_plain(found: Counted, slot: SlotRecord) -> Counted
-    requires { Within mostSlots (metBy found) × (is_plain slot ≡ true) }
-    ensures { metBy result ≡ countedWith (metBy found) slot }
+    requires { Within most_slots (met_by found) × (is_plain slot ≡ true) }
+    ensures { met_by result ≡ counted_with (met_by found) slot }
 {
     Counted {
         formed: found.formed,
@@ -78,8 +78,8 @@ fn with_plain(found: Counted, slot: SlotRecord) -> Counted
 }
 
 fn with_none(found: Counted, slot: SlotRecord) -> Counted
-    requires { Within mostSlots (metBy found) × (slot.letter ≡ 78) }
-    ensures { metBy result ≡ countedWith (metBy found) slot }
+    requires { Within most_slots (met_by found) × (slot.letter ≡ 78) }
+    ensures { met_by result ≡ counted_with (met_by found) slot }
 {
     Counted {
         formed: both(found.formed, is_zero(slot, b'N', 0)),
@@ -93,8 +93,8 @@ fn with_none(found: Counted, slot: SlotRecord) -> Counted
 }
 
 fn with_substituted(found: Counted, slot: SlotRecord) -> Counted
-    requires { Within mostSlots (metBy found) × (slot.letter ≡ 83) }
-    ensures { metBy result ≡ countedWith (metBy found) slot }
+    requires { Within most_slots (met_by found) × (slot.letter ≡ 83) }
+    ensures { met_by result ≡ counted_with (met_by found) slot }
 {
     Counted {
         formed: both(found.formed, is_filling(slot.method)),
@@ -109,8 +109,8 @@ fn with_substituted(found: Counted, slot: SlotRecord) -> Counted
 
 // F counts with S and by itself.
 fn with_agreed(found: Counted, slot: SlotRecord) -> Counted
-    requires { Within mostSlots (metBy found) × (slot.letter ≡ 70) }
-    ensures { metBy result ≡ countedWith (metBy found) slot }
+    requires { Within most_slots (met_by found) × (slot.letter ≡ 70) }
+    ensures { met_by result ≡ counted_with (met_by found) slot }
 {
     Counted {
         formed: both(found.formed, slot.method == 5),
@@ -135,8 +135,8 @@ fn one(slot: SlotRecord, letter: u8) -> usize
 
 // (A,1), or a record of no form.
 fn with_rest(found: Counted, slot: SlotRecord) -> Counted
-    requires { Within mostSlots (metBy found) × IsRest slot }
-    ensures { metBy result ≡ countedWith (metBy found) slot }
+    requires { Within most_slots (met_by found) × IsRest slot }
+    ensures { met_by result ≡ counted_with (met_by found) slot }
 {
     Counted {
         formed: both(found.formed, is_zero(slot, b'A', 1)),
@@ -151,8 +151,8 @@ fn with_rest(found: Counted, slot: SlotRecord) -> Counted
 
 // The totals with one slot more.
 fn with_slot(found: Counted, slot: SlotRecord) -> Counted
-    requires { Within mostSlots (metBy found) }
-    ensures { metBy result ≡ countedWith (metBy found) slot }
+    requires { Within most_slots (met_by found) }
+    ensures { met_by result ≡ counted_with (met_by found) slot }
 {
     if slots::is_plain(slot) {
         return with_plain(found, slot);
@@ -171,8 +171,8 @@ fn with_slot(found: Counted, slot: SlotRecord) -> Counted
 
 // The totals of the first `k` slots.
 pub fn totals(file: &[u8], k: usize) -> Counted
-    requires { (6 * k ≤ length file.now) × (k ≤ mostSlots) }
-    ensures { metBy result ≡ countedIn file.now k }
+    requires { (6 * k ≤ length file.now) × (k ≤ most_slots) }
+    ensures { met_by result ≡ counted_in file.now k }
 {
     let mut found = Counted {
         formed: true,
@@ -193,7 +193,7 @@ pub fn totals(file: &[u8], k: usize) -> Counted
 
 // Each record has one of the forms.
 pub fn forms_ok(found: Counted) -> bool
-    ensures { result ≡ (metBy found).formed }
+    ensures { result ≡ (met_by found).formed }
 {
     if !found.formed {
         return false;

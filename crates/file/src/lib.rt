@@ -8,8 +8,8 @@ pub mod writer;
 
 ghost use Rattle.std.specs.Prelude.{◌≡◌};
 ghost use Rattle.base.specs.Lists.{every};
-ghost use Rattle.file.specs.Reader.{fileSlots, layoutFits, tablesOk, readFile, tablesPart};
-ghost use Rattle.file.specs.Inner.Reading.{Ready, metBy, countedIn, countTests};
+ghost use Rattle.file.specs.Reader.{file_slots, layout_fits, tables_ok, read_file, tables_part};
+ghost use Rattle.file.specs.Inner.Reading.{Ready, met_by, counted_in, count_tests};
 
 use crate::counting::Counted;
 
@@ -36,8 +36,8 @@ pub enum Verdict {
 
 // The records, the spans, and what lies outside them.
 fn tables_ok(file: &[u8], g: Figures, found: Counted) -> bool
-    requires { Ready file.now g × (metBy found ≡ countedIn file.now (fileSlots g)) }
-    ensures { result ≡ tablesOk file.now g }
+    requires { Ready file.now g × (met_by found ≡ counted_in file.now (file_slots g)) }
+    ensures { result ≡ tables_ok file.now g }
 {
     if !counting::forms_ok(found) {
         return false;
@@ -53,7 +53,7 @@ fn tables_ok(file: &[u8], g: Figures, found: Counted) -> bool
 
 // Layout 3 is with or without an F; of the others layout 2 has one.
 fn layout_fits(layout: u32, agreed: usize) -> bool
-    ensures { result ≡ layoutFits layout agreed }
+    ensures { result ≡ layout_fits layout agreed }
 {
     if layout == 3 {
         return true;
@@ -66,7 +66,7 @@ fn layout_fits(layout: u32, agreed: usize) -> bool
 
 // The counts, the layout and the sum are those of the slots.
 fn figures_ok(found: Counted, g: Figures) -> bool
-    ensures { result ≡ every (countTests (metBy found) g) }
+    ensures { result ≡ every (count_tests (met_by found) g) }
 {
     let actual = g.actual as usize;
     if found.actual != actual {
@@ -89,7 +89,7 @@ fn figures_ok(found: Counted, g: Figures) -> bool
 
 // A file's figures, or the number that it is refused with.
 pub fn read(file: &[u8]) -> Verdict
-    ensures { result ≡ readFile file.now }
+    ensures { result ≡ read_file file.now }
 {
     if file.len() < 32 {
         return Verdict::Refused(8);
@@ -110,7 +110,7 @@ pub fn read(file: &[u8]) -> Verdict
 
 // The two tables as one part of the file; of a refused file the empty part.
 pub fn tables(file: &[u8]) -> &[u8]
-    ensures { result.now ≡ tablesPart file.now }
+    ensures { result.now ≡ tables_part file.now }
 {
     let whole = file.len();
     match read(file) {

@@ -3,8 +3,8 @@ ghost use Rattle.std.specs.Prelude.{◌&&◌, ◌||◌, ◌≡◌, ◌+◌, ◌*
 ghost use Rattle.base.specs.Lists.{any};
 ghost use Rattle.rules.specs.Spans.{is_scaled};
 ghost use Rattle.file.specs.Reader.{slot_at};
-ghost use Rattle.rules.specs.Numbers.{mostSlots};
-ghost use Rattle.file.specs.Inner.Reading.{is_plain, isKindless, isKind, kind_at, talliedWith, talliedIn};
+ghost use Rattle.rules.specs.Numbers.{most_slots};
+ghost use Rattle.file.specs.Inner.Reading.{is_plain, is_kindless, is_kind, kind_at, tallied_with, tallied_in};
 
 use crate::fields;
 
@@ -59,7 +59,7 @@ pub fn is_scaled(method: u8) -> bool
 
 // (A,0) or (F,5): of no kind.
 fn is_kindless(slot: SlotRecord) -> bool
-    ensures { result ≡ isKindless slot }
+    ensures { result ≡ is_kindless slot }
 {
     if is_plain(slot) {
         return true;
@@ -68,7 +68,7 @@ fn is_kindless(slot: SlotRecord) -> bool
 }
 
 fn is_kind(kind: Kind, slot: SlotRecord) -> bool
-    ensures { result ≡ isKind kind slot }
+    ensures { result ≡ is_kind kind slot }
 {
     match kind {
         Kind::Substituted => slot.letter == b'S',
@@ -105,7 +105,7 @@ pub struct Tally {
 
 // One was found before, or the slot is of the kind.
 fn also(found: bool, kind: Kind, slot: SlotRecord) -> bool
-    ensures { result ≡ (found || isKind kind slot) }
+    ensures { result ≡ (found || is_kind kind slot) }
 {
     if found {
         return true;
@@ -115,8 +115,8 @@ fn also(found: bool, kind: Kind, slot: SlotRecord) -> bool
 
 // The tally with one slot more: nearly every one is of no kind.
 fn tally_with(found: Tally, slot: SlotRecord) -> Tally
-    requires { found.sum ≤ 2 ^ 32 * mostSlots }
-    ensures { result ≡ talliedWith found slot }
+    requires { found.sum ≤ 2 ^ 32 * most_slots }
+    ensures { result ≡ tallied_with found slot }
 {
     let sum = found.sum + slot.value as u64;
     if is_kindless(slot) {
@@ -139,8 +139,8 @@ fn tally_with(found: Tally, slot: SlotRecord) -> Tally
 
 // The tally of the `k` slots from slot `a`.
 pub fn tally_of(file: &[u8], a: usize, k: usize) -> Tally
-    requires { (6 * (a + k) ≤ length file.now) × (k ≤ mostSlots) }
-    ensures { result ≡ talliedIn file.now a k }
+    requires { (6 * (a + k) ≤ length file.now) × (k ≤ most_slots) }
+    ensures { result ≡ tallied_in file.now a k }
 {
     let mut found = Tally {
         none: false,

@@ -1,9 +1,9 @@
 // The span table: its records, their states, and what lies outside the spans.
 ghost use Rattle.std.specs.Prelude.{◌≡◌, true, false, [], ◌∷◌, ◌+◌, ◌-◌, ◌*◌, ◌<◌, ◌≤◌, eqb, leb, ltb, length};
-ghost use Rattle.base.specs.Numbers.{eightDigits};
+ghost use Rattle.base.specs.Numbers.{eight_digits};
 ghost use Rattle.base.specs.Lists.{every, all, implies};
 ghost use Rattle.file.specs.Layout.{ranged};
-ghost use Rattle.file.specs.Reader.{readSpan, spanAt, fileSlots, tablesAt, in_range, stateRule, spanOk, stateOk, outsideOk};
+ghost use Rattle.file.specs.Reader.{read_span, span_at, file_slots, tables_at, in_range, state_rule, span_ok, state_ok, outside_ok};
 ghost use Rattle.file.specs.Inner.Reading.{Ready};
 
 use crate::slots::Kind;
@@ -23,7 +23,7 @@ pub struct SpanRecord {
 // The record of layouts 1 and 2 from `p`: R is its lowest and its highest advance.
 fn exact_from(file: &[u8], p: usize) -> SpanRecord
     requires { p + 10 ≤ length file.now }
-    ensures { result ≡ readSpan false file.now p }
+    ensures { result ≡ read_span false file.now p }
 {
     let advance = fields::number(file, p + 4, 4) as u32;
     SpanRecord {
@@ -39,7 +39,7 @@ fn exact_from(file: &[u8], p: usize) -> SpanRecord
 // The record of layout 3 from `p`.
 fn ranged_from(file: &[u8], p: usize) -> SpanRecord
     requires { p + 14 ≤ length file.now }
-    ensures { result ≡ readSpan true file.now p }
+    ensures { result ≡ read_span true file.now p }
 {
     SpanRecord {
         first: fields::number(file, p, 2) as u32,
@@ -53,7 +53,7 @@ fn ranged_from(file: &[u8], p: usize) -> SpanRecord
 
 fn span_at(file: &[u8], g: Figures, j: usize) -> SpanRecord
     requires { Ready file.now g × (j < g.spans) }
-    ensures { result ≡ spanAt (ranged g.layout) file.now (6 * fileSlots g) j }
+    ensures { result ≡ span_at (ranged g.layout) file.now (6 * file_slots g) j }
 {
     let table = 6 * trailer::slot_count(g);
     if g.layout == 3 {
@@ -65,7 +65,7 @@ fn span_at(file: &[u8], g: Figures, j: usize) -> SpanRecord
 // Span `j`, which begins at `first`, is the first one or begins where the one before ended.
 fn follows(file: &[u8], g: Figures, j: usize, first: u32) -> bool
     requires { Ready file.now g × (j < g.spans) }
-    ensures { result ≡ implies (ltb 0 j) (eqb first (spanAt (ranged g.layout) file.now (6 * fileSlots g) (j - 1)).last) }
+    ensures { result ≡ implies (ltb 0 j) (eqb first (span_at (ranged g.layout) file.now (6 * file_slots g) (j - 1)).last) }
 {
     if j == 0 {
         return true;
@@ -76,7 +76,7 @@ fn follows(file: &[u8], g: Figures, j: usize, first: u32) -> bool
 
 // lowest ≤ highest ≤ 99,999,999, state 0 to 3, last byte zero.
 fn fields_ok(s: SpanRecord) -> bool
-    ensures { result ≡ every (leb s.lowest s.highest ∷ leb s.highest eightDigits ∷ leb s.state 3 ∷ eqb s.blank 0 ∷ []) }
+    ensures { result ≡ every (leb s.lowest s.highest ∷ leb s.highest eight_digits ∷ leb s.state 3 ∷ eqb s.blank 0 ∷ []) }
 {
     if s.highest < s.lowest {
         return false;
@@ -92,7 +92,7 @@ fn fields_ok(s: SpanRecord) -> bool
 
 fn span_ok(file: &[u8], g: Figures, j: usize) -> bool
     requires { Ready file.now g × (j < g.spans) }
-    ensures { result ≡ spanOk (tablesAt file.now g) j }
+    ensures { result ≡ span_ok (tables_at file.now g) j }
 {
     let s = span_at(file, g, j);
     if s.last <= s.first {
@@ -109,7 +109,7 @@ fn span_ok(file: &[u8], g: Figures, j: usize) -> bool
 
 pub fn spans_ok(file: &[u8], g: Figures) -> bool
     requires { Ready file.now g }
-    ensures { result ≡ all (spanOk (tablesAt file.now g)) 0 g.spans }
+    ensures { result ≡ all (span_ok (tables_at file.now g)) 0 g.spans }
 {
     let m = g.spans as usize;
     let mut j = 0;
@@ -131,7 +131,7 @@ fn state_rule(
     substituted: bool,
     in_range: bool,
 ) -> bool
-    ensures { result ≡ every (stateRule state none scaled unscaled substituted in_range) }
+    ensures { result ≡ every (state_rule state none scaled unscaled substituted in_range) }
 {
     if state == 2 {
         return none && !scaled;
@@ -166,8 +166,8 @@ fn is_within(lowest: u32, sum: u64, highest: u32) -> bool
 
 // Span `j` has the state that its slots allow.
 fn state_ok(file: &[u8], g: Figures, j: usize) -> bool
-    requires { Ready file.now g × (j < g.spans) × (spanOk (tablesAt file.now g) j ≡ true) }
-    ensures { result ≡ stateOk (tablesAt file.now g) j }
+    requires { Ready file.now g × (j < g.spans) × (span_ok (tables_at file.now g) j ≡ true) }
+    ensures { result ≡ state_ok (tables_at file.now g) j }
 {
     let s = span_at(file, g, j);
     let n = trailer::per_day(g);
@@ -185,8 +185,8 @@ fn state_ok(file: &[u8], g: Figures, j: usize) -> bool
 }
 
 pub fn states_ok(file: &[u8], g: Figures) -> bool
-    requires { Ready file.now g × (all (spanOk (tablesAt file.now g)) 0 g.spans ≡ true) }
-    ensures { result ≡ all (stateOk (tablesAt file.now g)) 0 g.spans }
+    requires { Ready file.now g × (all (span_ok (tables_at file.now g)) 0 g.spans ≡ true) }
+    ensures { result ≡ all (state_ok (tables_at file.now g)) 0 g.spans }
 {
     let m = g.spans as usize;
     let mut j = 0;
@@ -201,8 +201,8 @@ pub fn states_ok(file: &[u8], g: Figures) -> bool
 
 // No method 18 or 19 outside spans. These follow each other, so outside is before the first and after the last.
 pub fn outside_ok(file: &[u8], g: Figures) -> bool
-    requires { Ready file.now g × (all (spanOk (tablesAt file.now g)) 0 g.spans ≡ true) }
-    ensures { result ≡ all (outsideOk (tablesAt file.now g)) 0 (fileSlots g) }
+    requires { Ready file.now g × (all (span_ok (tables_at file.now g)) 0 g.spans ≡ true) }
+    ensures { result ≡ all (outside_ok (tables_at file.now g)) 0 (file_slots g) }
 {
     let slots = trailer::slot_count(g);
     let m = g.spans as usize;

@@ -1,16 +1,16 @@
 // The trailer: its figures, and what is refused with 8.
 ghost use Rattle.std.specs.Prelude.{◌≡◌, true, ◌*◌, ◌/◌, ◌≤◌, length};
-ghost use Rattle.rules.specs.Numbers.{dayMinutes, mostSlots};
+ghost use Rattle.rules.specs.Numbers.{day_minutes, most_slots};
 ghost use Rattle.base.specs.Lists.{every};
-ghost use Rattle.file.specs.Layout.{spanTableBytes};
-ghost use Rattle.file.specs.Reader.{figures, headFieldTests, layoutOk, fileSlots, trailerOk};
+ghost use Rattle.file.specs.Layout.{span_table_bytes};
+ghost use Rattle.file.specs.Reader.{figures, head_field_tests, layout_ok, file_slots, trailer_ok};
 
 use crate::{Figures, fields};
 use rules::opening;
 
 // L, D and the first day are as under Opening.
 fn head_ok(g: Figures) -> bool
-    ensures { result ≡ every (headFieldTests g.first g.days g.interval) }
+    ensures { result ≡ every (head_field_tests g.first g.days g.interval) }
 {
     if !opening::is_interval(g.interval) {
         return false;
@@ -25,7 +25,7 @@ fn head_ok(g: Figures) -> bool
 }
 
 fn is_layout(layout: u32) -> bool
-    ensures { result ≡ layoutOk layout }
+    ensures { result ≡ layout_ok layout }
 {
     if layout == 1 {
         return true;
@@ -35,23 +35,23 @@ fn is_layout(layout: u32) -> bool
 
 // n, the slots of a day.
 pub fn per_day(g: Figures) -> usize
-    requires { every (headFieldTests g.first g.days g.interval) ≡ true }
-    ensures { (result ≡ dayMinutes / g.interval) × (result ≤ 288) }
+    requires { every (head_field_tests g.first g.days g.interval) ≡ true }
+    ensures { (result ≡ day_minutes / g.interval) × (result ≤ 288) }
 {
     (rules::DAY_MINUTES / g.interval) as usize
 }
 
 // N, the slots of the book.
 pub fn slot_count(g: Figures) -> usize
-    requires { every (headFieldTests g.first g.days g.interval) ≡ true }
-    ensures { (result ≡ fileSlots g) × (result ≤ mostSlots) }
+    requires { every (head_field_tests g.first g.days g.interval) ≡ true }
+    ensures { (result ≡ file_slots g) × (result ≤ most_slots) }
 {
     per_day(g) * g.days as usize
 }
 
 // The bytes of the span table: records of 14 bytes in layout 3, of 10 in the others.
 pub fn span_bytes(g: Figures) -> u64
-    ensures { (result ≡ spanTableBytes g) × (result ≤ 14 * g.spans) }
+    ensures { (result ≡ span_table_bytes g) × (result ≤ 14 * g.spans) }
 {
     let m = g.spans as u64;
     if g.layout == 3 {
@@ -82,7 +82,7 @@ pub fn figures_at(file: &[u8]) -> Figures
 // What is refused with 8 where it is false.
 pub fn trailer_ok(file: &[u8], g: Figures) -> bool
     requires { 32 ≤ length file.now }
-    ensures { result ≡ trailerOk file.now g }
+    ensures { result ≡ trailer_ok file.now g }
 {
     let t = file.len() - 32;
     if !head_ok(g) {

@@ -4,6 +4,6 @@ use Rattle.dial.specs.declared.Unpacked.{Unpacked}
 use Rattle.dial.specs.declared.Unpacked.TheVariants as unpacked
 
 -- "the reading, or 100,000,000 plus the refusal"
-abbrev pub unpackCode : Unpacked → ℕ
-unpackCode (unpacked.Reading n) = n
-unpackCode (unpacked.Refused n) = 100000000 + n
+abbrev pub unpack_code : Unpacked → ℕ
+unpack_code (unpacked.Reading n) = n
+unpack_code (unpacked.Refused n) = 100000000 + n

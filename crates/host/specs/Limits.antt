@@ -3,6 +3,6 @@ use Rattle.std.specs.Prelude.{ℕ, ◌+◌}
 use Rattle.rules.specs.declared.limits.Loaded.{Loaded}
 use Rattle.rules.specs.declared.limits.Loaded.TheVariants.{Limit, Refused}
 
-abbrev pub limitCode : Loaded → ℕ
-limitCode (Limit n) = n
-limitCode (Refused n) = 100000000 + n
+abbrev pub limit_code : Loaded → ℕ
+limit_code (Limit n) = n
+limit_code (Refused n) = 100000000 + n

@@ -9,6 +9,6 @@ abbrev pub codes_of : ℕ → ℕ → ℕ → ℕ → ℕ → Codes
 codes_of two three five eighteen nineteen =
     record { two = two; three = three; five = five; eighteen = eighteen; nineteen = nineteen }
 
-abbrev pub exportedCode : Exported → ℕ
-exportedCode (Length n) = n
-exportedCode (Refused n) = n
+abbrev pub exported_code : Exported → ℕ
+exported_code (Length n) = n
+exported_code (Refused n) = n

@@ -1,16 +1,16 @@
 // The conversions for the chargers' host (02, W9), which is written in C.
 ghost use Rattle.std.specs.Prelude.{◌≡◌};
 ghost use Rattle.base.specs.Refusals.{code_of};
-ghost use Rattle.dial.specs.Dial.{packAnswer, packAfter, unpackAnswer};
-ghost use Rattle.host.specs.Conversions.{unpackCode};
+ghost use Rattle.dial.specs.Dial.{pack_answer, pack_after, unpack_answer};
+ghost use Rattle.host.specs.Conversions.{unpack_code};
 
 use dial::Unpacked;
 
 // 0, or the refusal's number.
 #[unsafe(no_mangle)]
 pub extern "C" fn sawmauve_pack(reading: u32, bytes: &mut [u8]) -> u32
-    ensures { (result ≡ code_of (packAnswer reading bytes.old))
-        × (bytes.new ≡ packAfter reading bytes.old) }
+    ensures { (result ≡ code_of (pack_answer reading bytes.old))
+        × (bytes.new ≡ pack_after reading bytes.old) }
 {
     base::code_of(dial::pack(reading, bytes))
 }
@@ -18,7 +18,7 @@ pub extern "C" fn sawmauve_pack(reading: u32, bytes: &mut [u8]) -> u32
 // The reading, or 100,000,000 plus the refusal's number.
 #[unsafe(no_mangle)]
 pub extern "C" fn sawmauve_unpack(bytes: &[u8]) -> u32
-    ensures { result ≡ unpackCode (unpackAnswer bytes.now) }
+    ensures { result ≡ unpack_code (unpack_answer bytes.now) }
 {
     let unpacked = dial::unpack(bytes);
     match unpacked {

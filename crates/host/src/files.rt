@@ -1,9 +1,9 @@
 // The exports that write and read a file.
 ghost use Rattle.std.specs.Prelude.{◌≡◌, length};
-ghost use Rattle.book.specs.Lent.{lentBook};
-ghost use Rattle.publishing.specs.Publishing.{publishAnswer, publishAfter};
-ghost use Rattle.file.specs.Reader.{readFile, tablesPart};
-ghost use Rattle.host.specs.Codes.{headOf, publishCode, read_code, readAnswer, readAfter};
+ghost use Rattle.book.specs.Lent.{lent_book};
+ghost use Rattle.publishing.specs.Publishing.{publish_answer, publish_after};
+ghost use Rattle.file.specs.Reader.{read_file, tables_part};
+ghost use Rattle.host.specs.Codes.{head_of, publish_code, read_code, read_answer, read_after};
 
 use crate::head_of;
 use file::Verdict;
@@ -11,7 +11,7 @@ use publishing::Published;
 
 // The length, which is above 31, or the refusal's number.
 fn published_code(published: Published) -> u64
-    ensures { result ≡ publishCode published }
+    ensures { result ≡ publish_code published }
 {
     match published {
         Published::Length(n) => n as u64,
@@ -40,11 +40,11 @@ pub extern "C" fn sawmauve_publish(
     widths: &[u16],
     out: &mut [u8],
 ) -> u64
-    ensures { let head = headOf year month day days interval limit tolerance in
-        let book = lentBook values.entry versions.entry statuses.entry holidays.entry readings.entry read_versions.entry
+    ensures { let head = head_of year month day days interval limit tolerance in
+        let book = lent_book values.entry versions.entry statuses.entry holidays.entry readings.entry read_versions.entry
         agreed.entry agreed_versions.entry counts.entry widths.entry in
-        (result ≡ publishCode (publishAnswer head book out.old))
-        × (out.new ≡ publishAfter head book out.old) }
+        (result ≡ publish_code (publish_answer head book out.old))
+        × (out.new ≡ publish_after head book out.old) }
 {
     let head = head_of(year, month, day, days, interval, limit, tolerance);
     published_code(publishing::publish(
@@ -75,7 +75,7 @@ fn read_code(verdict: Verdict) -> u32
 // 0 for a file that the reader accepts, or the refusal's number (02, W9).
 #[unsafe(no_mangle)]
 pub extern "C" fn sawmauve_check(bytes: &[u8]) -> u32
-    ensures { result ≡ read_code (readFile bytes.now) }
+    ensures { result ≡ read_code (read_file bytes.now) }
 {
     read_code(file::read(bytes))
 }
@@ -83,8 +83,8 @@ pub extern "C" fn sawmauve_check(bytes: &[u8]) -> u32
 // 0 and the nine figures, or the refusal's number; 2 for a list of figures that is not 9 long.
 #[unsafe(no_mangle)]
 pub extern "C" fn sawmauve_read(bytes: &[u8], figures: &mut [u64]) -> u32
-    ensures { (result ≡ readAnswer bytes.now figures.old)
-        × (figures.new ≡ readAfter bytes.now figures.old) }
+    ensures { (result ≡ read_answer bytes.now figures.old)
+        × (figures.new ≡ read_after bytes.now figures.old) }
 {
     if figures.len() != 9 {
         return 2;
@@ -110,7 +110,7 @@ pub extern "C" fn sawmauve_read(bytes: &[u8], figures: &mut [u64]) -> u32
 // The length of the tables' part of a file, 0 for a refused one.
 #[unsafe(no_mangle)]
 pub extern "C" fn sawmauve_tables(bytes: &[u8]) -> u64
-    ensures { result ≡ length (tablesPart bytes.now) }
+    ensures { result ≡ length (tables_part bytes.now) }
 {
     file::tables(bytes).len() as u64
 }

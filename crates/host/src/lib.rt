@@ -7,13 +7,13 @@ mod stays;
 mod storage;
 
 ghost use Rattle.std.specs.Prelude.{◌≡◌};
-ghost use Rattle.rules.specs.Lent.{lentSlots, lentAgreed};
-ghost use Rattle.book.specs.Answers.{receivedMeant, answerCode};
-ghost use Rattle.book.specs.Opening.{openAnswer, openAfter};
-ghost use Rattle.book.specs.Filling.{deliverAnswer, deliverAfter, countsAfter, agreeAnswer, agreeAfter};
-ghost use Rattle.book.specs.Filling.{holidayAnswer, holidayAfter, registerAnswer, registerAfter};
-ghost use Rattle.book.specs.Lent.{lentReads, lentBook};
-ghost use Rattle.host.specs.Codes.{headOf};
+ghost use Rattle.rules.specs.Lent.{lent_slots, lent_agreed};
+ghost use Rattle.book.specs.Answers.{received_meant, answer_code};
+ghost use Rattle.book.specs.Opening.{open_answer, open_after};
+ghost use Rattle.book.specs.Filling.{deliver_answer, deliver_after, counts_after, agree_answer, agree_after};
+ghost use Rattle.book.specs.Filling.{holiday_answer, holiday_after, register_answer, register_after};
+ghost use Rattle.book.specs.Lent.{lent_reads, lent_book};
+ghost use Rattle.host.specs.Codes.{head_of};
 
 use book::Received;
 use rules::Head;
@@ -27,7 +27,7 @@ pub fn head_of(
     limit: u32,
     tolerance: u32,
 ) -> Head
-    ensures { result ≡ headOf year month day days interval limit tolerance }
+    ensures { result ≡ head_of year month day days interval limit tolerance }
 {
     Head {
         year: year,
@@ -42,7 +42,7 @@ pub fn head_of(
 
 // 0 stored, 100 late, 101 repeat, else the refusal's number.
 fn filed_code(filed: Received) -> u32
-    ensures { result ≡ answerCode (receivedMeant filed) }
+    ensures { result ≡ answer_code (received_meant filed) }
 {
     match filed {
         Received::Stored => 0,
@@ -72,13 +72,13 @@ pub extern "C" fn sawmauve_open(
     counts: &mut [u16],
     widths: &mut [u16],
 ) -> u32
-    ensures { let head = headOf year month day days interval limit tolerance in
-        let book = lentBook values.entry versions.entry statuses.entry holidays.entry readings.entry read_versions.entry
+    ensures { let head = head_of year month day days interval limit tolerance in
+        let book = lent_book values.entry versions.entry statuses.entry holidays.entry readings.entry read_versions.entry
         agreed.entry agreed_versions.entry counts.entry widths.entry in
-        (result ≡ answerCode (openAnswer head book))
-        × (lentBook values.exit versions.exit statuses.exit holidays.exit readings.exit read_versions.exit
+        (result ≡ answer_code (open_answer head book))
+        × (lent_book values.exit versions.exit statuses.exit holidays.exit readings.exit read_versions.exit
         agreed.exit agreed_versions.exit counts.exit widths.exit
-        ≡ openAfter head book) }
+        ≡ open_after head book) }
 {
     let head = head_of(year, month, day, days, interval, limit, tolerance);
     base::code_of(book::open(
@@ -114,12 +114,12 @@ pub extern "C" fn sawmauve_deliver(
     value: u32,
     status: u32,
 ) -> u32
-    ensures { let head = headOf year month day days interval limit tolerance in
-        let slots = lentSlots values.entry versions.entry statuses.entry in
-        (result ≡ answerCode (deliverAnswer head slots counts.old slot version value status))
-        × (lentSlots values.exit versions.exit statuses.exit
-        ≡ deliverAfter head slots counts.old slot version value status)
-        × (counts.new ≡ countsAfter head slots counts.old slot version value status) }
+    ensures { let head = head_of year month day days interval limit tolerance in
+        let slots = lent_slots values.entry versions.entry statuses.entry in
+        (result ≡ answer_code (deliver_answer head slots counts.old slot version value status))
+        × (lent_slots values.exit versions.exit statuses.exit
+        ≡ deliver_after head slots counts.old slot version value status)
+        × (counts.new ≡ counts_after head slots counts.old slot version value status) }
 {
     let head = head_of(year, month, day, days, interval, limit, tolerance);
     filed_code(book::deliver(
@@ -142,11 +142,11 @@ pub extern "C" fn sawmauve_agree(
     version: u32,
     value: u32,
 ) -> u32
-    ensures { let head = headOf year month day days interval limit tolerance in
-        let lent = lentAgreed agreed.entry agreed_versions.entry in
-        (result ≡ answerCode (agreeAnswer head lent slot version value))
-        × (lentAgreed agreed.exit agreed_versions.exit
-        ≡ agreeAfter head lent slot version value) }
+    ensures { let head = head_of year month day days interval limit tolerance in
+        let lent = lent_agreed agreed.entry agreed_versions.entry in
+        (result ≡ answer_code (agree_answer head lent slot version value))
+        × (lent_agreed agreed.exit agreed_versions.exit
+        ≡ agree_after head lent slot version value) }
 {
     let head = head_of(year, month, day, days, interval, limit, tolerance);
     filed_code(book::agree(head, agreed, agreed_versions, slot, version, value))
@@ -164,9 +164,9 @@ pub extern "C" fn sawmauve_holiday(
     holidays: &mut [u8],
     at: u32,
 ) -> u32
-    ensures { let head = headOf year month day days interval limit tolerance in
-        (result ≡ answerCode (holidayAnswer head holidays.old at))
-        × (holidays.new ≡ holidayAfter head holidays.old at) }
+    ensures { let head = head_of year month day days interval limit tolerance in
+        (result ≡ answer_code (holiday_answer head holidays.old at))
+        × (holidays.new ≡ holiday_after head holidays.old at) }
 {
     let head = head_of(year, month, day, days, interval, limit, tolerance);
     filed_code(book::holiday(head, holidays, at))
@@ -189,11 +189,11 @@ pub extern "C" fn sawmauve_register(
     reading: u32,
     width: u32,
 ) -> u32
-    ensures { let head = headOf year month day days interval limit tolerance in
-        let lent = lentReads readings.entry read_versions.entry widths.entry in
-        (result ≡ answerCode (registerAnswer head lent boundary version reading width))
-        × (lentReads readings.exit read_versions.exit widths.exit
-        ≡ registerAfter head lent boundary version reading width) }
+    ensures { let head = head_of year month day days interval limit tolerance in
+        let lent = lent_reads readings.entry read_versions.entry widths.entry in
+        (result ≡ answer_code (register_answer head lent boundary version reading width))
+        × (lent_reads readings.exit read_versions.exit widths.exit
+        ≡ register_after head lent boundary version reading width) }
 {
     let head = head_of(year, month, day, days, interval, limit, tolerance);
     filed_code(book::register(

@@ -1,7 +1,7 @@
 // The export that loads a table of demand limits (02, W5).
 ghost use Rattle.std.specs.Prelude.{◌≡◌};
-ghost use Rattle.rules.specs.Limits.{loadAnswer};
-ghost use Rattle.host.specs.Limits.{limitCode};
+ghost use Rattle.rules.specs.Limits.{load_answer};
+ghost use Rattle.host.specs.Limits.{limit_code};
 
 use rules::limits;
 use rules::limits::Loaded;
@@ -9,7 +9,7 @@ use rules::limits::Loaded;
 // The limit, or 100,000,000 plus the refusal's number.
 #[unsafe(no_mangle)]
 pub extern "C" fn sawmauve_limit(table: &[u32], kind: u32) -> u32
-    ensures { result ≡ limitCode (loadAnswer table.now kind) }
+    ensures { result ≡ limit_code (load_answer table.now kind) }
 {
     let loaded = limits::load(table, kind);
     match loaded {

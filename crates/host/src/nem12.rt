@@ -1,14 +1,14 @@
 // The export of a file to the market (02, W8).
 ghost use Rattle.std.specs.Prelude.{◌≡◌};
-ghost use Rattle.market.specs.Fields.{lentTexts};
-ghost use Rattle.market.specs.Export.{exportAnswer, exportAfter};
-ghost use Rattle.host.specs.Market.{codes_of, exportedCode};
+ghost use Rattle.market.specs.Fields.{lent_texts};
+ghost use Rattle.market.specs.Export.{export_answer, export_after};
+ghost use Rattle.host.specs.Market.{codes_of, exported_code};
 
 use market::{Codes, Exported};
 
 // The length, which is above every refusal's number, or the refusal's number.
 fn exported_code(exported: Exported) -> u64
-    ensures { result ≡ exportedCode exported }
+    ensures { result ≡ exported_code exported }
 {
     match exported {
         Exported::Length(n) => n as u64,
@@ -49,11 +49,11 @@ pub extern "C" fn sawmauve_nem12(
     nineteen: u32,
     out: &mut [u8],
 ) -> u64
-    ensures { let given = lentTexts identifier.entry from.entry to.entry configuration.entry register.entry suffix.entry
+    ensures { let given = lent_texts identifier.entry from.entry to.entry configuration.entry register.entry suffix.entry
         stream.entry serial.entry next_read.entry reason.entry created.entry in
         let codes = codes_of two three five eighteen nineteen in
-        (result ≡ exportedCode (exportAnswer file.now given codes out.old))
-        × (out.new ≡ exportAfter file.now given codes out.old) }
+        (result ≡ exported_code (export_answer file.now given codes out.old))
+        × (out.new ≡ export_after file.now given codes out.old) }
 {
     let codes = codes_of(two, three, five, eighteen, nineteen);
     exported_code(market::nem12(

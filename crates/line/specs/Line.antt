@@ -2,11 +2,11 @@
 use Rattle.std.specs.Prelude.{cond, List, [], ◌∷◌, ◌++◌, ◌≡◌, ℕ, zero, suc, ◌+◌, ◌/◌, ◌%◌, ◌≤◌, leb, ltb, length, take, drop}
 use Rattle.base.specs.Text.{ascii}
 use Rattle.calendar.specs.declared.Date.{Date}
-use Rattle.calendar.specs.Calendar.{dateOf}
+use Rattle.calendar.specs.Calendar.{date_of}
 use Rattle.file.specs.declared.Figures.{Figures}
 use Rattle.file.specs.declared.Verdict.{Verdict}
 use Rattle.file.specs.declared.Verdict.TheVariants.{Accepted, Refused}
-use Rattle.file.specs.Reader.{readFile}
+use Rattle.file.specs.Reader.{read_file}
 use Rattle.line.specs.declared.LineWritten.{LineWritten}
 use Rattle.line.specs.declared.LineWritten.TheVariants as lined
 
@@ -25,22 +25,22 @@ unfoldable pub decimal : ℕ → List ℕ
 decimal n = digits (places 19 n) n
 
 -- year-month-day
-unfoldable pub dateText : Date → List ℕ
-dateText d = digits 4 d.year ++ ascii "-" ++ digits 2 d.month ++ ascii "-" ++ digits 2 d.day
+unfoldable pub date_text : Date → List ℕ
+date_text d = digits 4 d.year ++ ascii "-" ++ digits 2 d.month ++ ascii "-" ++ digits 2 d.day
 
 -- a space and a number
 unfoldable pub field : ℕ → List ℕ
 field n = ascii " " ++ decimal n
 
 -- first day, D, L, the three counts, the sum
-abbrev pub headText : Figures → List ℕ
-headText g = dateText (dateOf g.first) ++ field g.days ++ field g.interval
+abbrev pub head_text : Figures → List ℕ
+head_text g = date_text (date_of g.first) ++ field g.days ++ field g.interval
 
-abbrev pub countsText : Figures → List ℕ
-countsText g = field g.actual ++ field g.substituted ++ field g.none
+abbrev pub counts_text : Figures → List ℕ
+counts_text g = field g.actual ++ field g.substituted ++ field g.none
 
-unfoldable pub figuresText : Figures → List ℕ
-figuresText g = headText g ++ countsText g ++ field g.sum
+unfoldable pub figures_text : Figures → List ℕ
+figures_text g = head_text g ++ counts_text g ++ field g.sum
 
 abbrev pub refused : List ℕ
 refused = ascii "refused"
@@ -49,13 +49,13 @@ abbrev pub newline : List ℕ
 newline = ascii "\n"
 
 -- each case of the reader's answer: the figures, or the refusal's number
-unfoldable pub answerText : Verdict → List ℕ
-answerText (Accepted g) = figuresText g
-answerText (Refused number) = refused ++ field number
+unfoldable pub answer_text : Verdict → List ℕ
+answer_text (Accepted g) = figures_text g
+answer_text (Refused number) = refused ++ field number
 
 -- a file of at most 65,536 bytes
 unfoldable pub line : List ℕ → List ℕ
-line bs = cond (leb (length bs) 65_536) (answerText (readFile bs)) (ascii "too long") ++ newline
+line bs = cond (leb (length bs) 65_536) (answer_text (read_file bs)) (ascii "too long") ++ newline
 
 -- what a call leaves in a buffer: a text in the first r bytes; the bytes after it stay
 pub record AtStart (before after : List ℕ) (r : ℕ) (text : List ℕ) : Type 0 where
@@ -64,25 +64,25 @@ pub record AtStart (before after : List ℕ) (r : ℕ) (text : List ℕ) : Type 
   pub stay : drop r after ≡ drop r before
 
 -- the line of a file of any length, without a line end: its length, and 7 for a shorter buffer
-unfoldable pub figuresAnswer : Figures → List ℕ → LineWritten
-figuresAnswer g out =
-    cond (ltb (length out) (length (figuresText g))) (lined.Refused 7) (lined.Length (length (figuresText g)))
+unfoldable pub figures_answer : Figures → List ℕ → LineWritten
+figures_answer g out =
+    cond (ltb (length out) (length (figures_text g))) (lined.Refused 7) (lined.Length (length (figures_text g)))
 
-unfoldable pub figuresAfter : Figures → List ℕ → List ℕ
-figuresAfter g out =
-    cond (ltb (length out) (length (figuresText g))) out (figuresText g ++ drop (length (figuresText g)) out)
+unfoldable pub figures_after : Figures → List ℕ → List ℕ
+figures_after g out =
+    cond (ltb (length out) (length (figures_text g))) out (figures_text g ++ drop (length (figures_text g)) out)
 
 -- the reader's refusals go first, and a refusal changes no byte
-abbrev pub linedAs : Verdict → List ℕ → LineWritten
-linedAs (Accepted g) out = figuresAnswer g out
-linedAs (Refused number) out = lined.Refused number
+abbrev pub lined_as : Verdict → List ℕ → LineWritten
+lined_as (Accepted g) out = figures_answer g out
+lined_as (Refused number) out = lined.Refused number
 
-abbrev pub leftAs : Verdict → List ℕ → List ℕ
-leftAs (Accepted g) out = figuresAfter g out
-leftAs (Refused number) out = out
+abbrev pub left_as : Verdict → List ℕ → List ℕ
+left_as (Accepted g) out = figures_after g out
+left_as (Refused number) out = out
 
-unfoldable pub lineAnswer : List ℕ → List ℕ → LineWritten
-lineAnswer bs out = linedAs (readFile bs) out
+unfoldable pub line_answer : List ℕ → List ℕ → LineWritten
+line_answer bs out = lined_as (read_file bs) out
 
-unfoldable pub lineAfter : List ℕ → List ℕ → List ℕ
-lineAfter bs out = leftAs (readFile bs) out
+unfoldable pub line_after : List ℕ → List ℕ → List ℕ
+line_after bs out = left_as (read_file bs) out

@@ -2,9 +2,9 @@
 pub mod writing;
 
 ghost use Rattle.std.specs.Prelude.{◌≡◌, ◌++◌, ◌<◌};
-ghost use Rattle.calendar.specs.Calendar.{dayCount};
-ghost use Rattle.line.specs.Line.{dateText, field, headText, countsText, figuresText, refused, newline, line as Line·line};
-ghost use Rattle.line.specs.Line.{AtStart, figuresAnswer, figuresAfter, lineAnswer, lineAfter};
+ghost use Rattle.calendar.specs.Calendar.{day_count};
+ghost use Rattle.line.specs.Line.{date_text, field, head_text, counts_text, figures_text, refused, newline, line as Line·line};
+ghost use Rattle.line.specs.Line.{AtStart, figures_answer, figures_after, line_answer, line_after};
 ghost use Rattle.line.specs.Inner.Writing.{Added};
 
 use calendar::Date;
@@ -35,7 +35,7 @@ pub fn number(n: u64, out: &mut [u8; 21]) -> usize
 
 // A date, at the start.
 fn put_date(out: &mut [u8], date: Date) -> usize
-    ensures { Added out.old 0 out.new result (dateText date) }
+    ensures { Added out.old 0 out.new result (date_text date) }
 {
     let year = put_digits(out, 0, 4, date.year as u64);
     let first = put_text(out, year, b"-");
@@ -46,8 +46,8 @@ fn put_date(out: &mut [u8], date: Date) -> usize
 
 // The first day, D and L, at the start.
 fn put_head(out: &mut [u8], g: Figures) -> usize
-    requires { g.first < dayCount }
-    ensures { Added out.old 0 out.new result (headText g) }
+    requires { g.first < day_count }
+    ensures { Added out.old 0 out.new result (head_text g) }
 {
     let date = put_date(out, calendar::date_of(g.first));
     let days = put_field(out, date, g.days as u64);
@@ -56,7 +56,7 @@ fn put_head(out: &mut [u8], g: Figures) -> usize
 
 // The counts of A, S and N slots.
 fn put_counts(out: &mut [u8], at: usize, g: Figures) -> usize
-    ensures { Added out.old at out.new result (countsText g) }
+    ensures { Added out.old at out.new result (counts_text g) }
 {
     let actual = put_field(out, at, g.actual as u64);
     let substituted = put_field(out, actual, g.substituted as u64);
@@ -65,8 +65,8 @@ fn put_counts(out: &mut [u8], at: usize, g: Figures) -> usize
 
 // A file's figures, at the start.
 fn put_line(out: &mut [u8], g: Figures) -> usize
-    requires { g.first < dayCount }
-    ensures { Added out.old 0 out.new result (figuresText g) }
+    requires { g.first < day_count }
+    ensures { Added out.old 0 out.new result (figures_text g) }
 {
     let head = put_head(out, g);
     let counts = put_counts(out, head, g);
@@ -75,8 +75,8 @@ fn put_line(out: &mut [u8], g: Figures) -> usize
 
 // The line of a file's figures.
 fn put_figures(out: &mut [u8], g: Figures) -> usize
-    requires { g.first < dayCount }
-    ensures { Added out.old 0 out.new result (figuresText g ++ newline) }
+    requires { g.first < day_count }
+    ensures { Added out.old 0 out.new result (figures_text g ++ newline) }
 {
     let end = put_line(out, g);
     put_text(out, end, b"\n")
@@ -106,9 +106,9 @@ pub fn line(bytes: &[u8], out: &mut [u8; 160]) -> usize
 
 // The figures of an accepted file, where they have room.
 fn fit_line(out: &mut [u8], g: Figures) -> LineWritten
-    requires { g.first < dayCount }
-    ensures { (result ≡ figuresAnswer g out.old)
-        × (out.new ≡ figuresAfter g out.old) }
+    requires { g.first < day_count }
+    ensures { (result ≡ figures_answer g out.old)
+        × (out.new ≡ figures_after g out.old) }
 {
     let mut aside = [0u8; 1];
     let n = put_line(&mut aside, g);
@@ -120,8 +120,8 @@ fn fit_line(out: &mut [u8], g: Figures) -> LineWritten
 
 // Puts the line of a file of any length, without a line end, at the start of `out`.
 pub fn file_line(bytes: &[u8], out: &mut [u8]) -> LineWritten
-    ensures { (result ≡ lineAnswer bytes.now out.old)
-        × (out.new ≡ lineAfter bytes.now out.old) }
+    ensures { (result ≡ line_answer bytes.now out.old)
+        × (out.new ≡ line_after bytes.now out.old) }
 {
     let verdict = file::read(bytes);
     match verdict {

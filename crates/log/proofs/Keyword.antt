@@ -30,7 +30,7 @@ pub moved : (s : List ℕ) {w i j : ℕ} → i ≡ j → get_or s j 0 ≡ w → 
 moved s e f = ap (λ (i : ℕ). get_or s i 0) e ∙ f
 
 -- two numbers that are the keyword's, and its space
-pub keyword-stands : (s : List ℕ) (at r q : ℕ) → at + 9 ≤ length s
+pub keyword_stands : (s : List ℕ) (at r q : ℕ) → at + 9 ≤ length s
     → Joined (get_or s at 0) (get_or s (at + 1) 0) (get_or s (at + 2) 0) (get_or s (at + 3) 0) r
     → Joined 100 101 108 105 r
     → Joined (get_or s (at + 4) 0) (get_or s (at + 4 + 1) 0) (get_or s (at + 4 + 2) 0) (get_or s (at + 4 + 3) 0) q
@@ -38,7 +38,7 @@ pub keyword-stands : (s : List ℕ) (at r q : ℕ) → at + 9 ≤ length s
     → get_or s (at + 8) 0 ≡ 32
     → take 9 (drop at s) ≡ keyword
 unfolding Stand
-keyword-stands s at r q l front deli back very space =
+keyword_stands s at r q l front deli back very space =
     let (d, e, l', i) = joined_same front deli refl in
     let (v, e', r', y) = joined_same back very refl in
     stands s keyword at l (

@@ -10,56 +10,56 @@ use lib.Dec.{eqb, ltb}
 use lib.ListN.{length, get_or, take, drop, length-drop}
 use lib.Seq.{take-suc, drop-cons, drop-length, get_or-drop}
 use Rattle.log.specs.Words.{split, same}
-use Rattle.log.specs.Inner.Parsing.{piecesAfter, piecesFrom}
+use Rattle.log.specs.Inner.Parsing.{pieces_after, pieces_from}
 
 -- ---- The end of a piece
 
 module _ (separator : ℕ) (bytes : List ℕ) (at i : ℕ) (m : at ≤ i) where
-  pub part-more : i < length bytes → take ((i + 1) - at) (drop at bytes) ≡ take (i - at) (drop at bytes) ++ (get_or bytes i 0 ∷ [])
-  part-more l =
+  pub part_more : i < length bytes → take ((i + 1) - at) (drop at bytes) ≡ take (i - at) (drop at bytes) ++ (get_or bytes i 0 ∷ [])
+  part_more l =
       let next : (i + 1) - at ≡ suc (i - at) = omega arith in
       let inside : i - at < length (drop at bytes) = rw length-drop (omega arith) in
       let place : at + (i - at) ≡ i = omega arith in
       rw next (take-suc (drop at bytes) (i - at) 0 inside ∙ rw (get_or-drop, place))
 
-  pub piece-goes-on : i < length bytes → (get_or bytes i 0 ≡ separator → ⊥) → (begun more : List ℕ)
+  pub piece_goes_on : i < length bytes → (get_or bytes i 0 ≡ separator → ⊥) → (begun more : List ℕ)
       → split separator (begun ++ take (i - at) (drop at bytes)) (drop i bytes ++ more)
       ≡ split separator (begun ++ take ((i + 1) - at) (drop at bytes)) (drop (i + 1) bytes ++ more)
   unfolding split
-  piece-goes-on l n begun more =
+  piece_goes_on l n begun more =
       rw (
-        part-more l,
+        part_more l,
         drop-cons bytes i 0 l,
         add-one,
         ne_eqb _ _ n,
         append_assoc begun (take (i - at) (drop at bytes)) (get_or bytes i 0 ∷ []),
       )
 
-  pub piece-ends : i < length bytes → get_or bytes i 0 ≡ separator → (begun more : List ℕ)
+  pub piece_ends : i < length bytes → get_or bytes i 0 ≡ separator → (begun more : List ℕ)
       → split separator (begun ++ take (i - at) (drop at bytes)) (drop i bytes ++ more)
-      ≡ piecesFrom separator bytes i (begun ++ take (i - at) (drop at bytes)) more
-  unfolding split piecesFrom
-  piece-ends l e begun more = rw (lt-ltb _ _ l, drop-cons bytes i 0 l, add-one, eq-eqb _ _ e)
+      ≡ pieces_from separator bytes i (begun ++ take (i - at) (drop at bytes)) more
+  unfolding split pieces_from
+  piece_ends l e begun more = rw (lt-ltb _ _ l, drop-cons bytes i 0 l, add-one, eq-eqb _ _ e)
 
-  pub bytes-end : i ≡ length bytes → (begun more : List ℕ)
+  pub bytes_end : i ≡ length bytes → (begun more : List ℕ)
       → split separator (begun ++ take (i - at) (drop at bytes)) (drop i bytes ++ more)
-      ≡ piecesFrom separator bytes i (begun ++ take (i - at) (drop at bytes)) more
-  unfolding piecesFrom
-  bytes-end e begun more =
+      ≡ pieces_from separator bytes i (begun ++ take (i - at) (drop at bytes)) more
+  unfolding pieces_from
+  bytes_end e begun more =
       let z : drop i bytes ≡ [] = rw e (drop-length bytes) in
       let no : length bytes ≤ i = omega arith in
       rw (z, le-ltb _ _ no)
 
-pub piece-begins : (separator : ℕ) (bytes : List ℕ) (at : ℕ) (begun more : List ℕ)
+pub piece_begins : (separator : ℕ) (bytes : List ℕ) (at : ℕ) (begun more : List ℕ)
     → split separator begun (drop at bytes ++ more) ≡ split separator (begun ++ take (at - at) (drop at bytes)) (drop at bytes ++ more)
-piece-begins separator bytes at begun more = let z : at - at ≡ 0 = omega arith in rw (z, append-nil)
+piece_begins separator bytes at begun more = let z : at - at ≡ 0 = omega arith in rw (z, append-nil)
 
 -- with no bytes before and after
 pub pieces : (separator : ℕ) (bytes : List ℕ) (at end : ℕ)
     → ((begun more : List ℕ) → split separator begun (drop at bytes ++ more)
-    ≡ piecesFrom separator bytes end (begun ++ take (end - at) (drop at bytes)) more)
-    → split separator [] (drop at bytes) ≡ take (end - at) (drop at bytes) ∷ piecesAfter separator bytes end
-unfolding piecesFrom piecesAfter split
+    ≡ pieces_from separator bytes end (begun ++ take (end - at) (drop at bytes)) more)
+    → split separator [] (drop at bytes) ≡ take (end - at) (drop at bytes) ∷ pieces_after separator bytes end
+unfolding pieces_from pieces_after split
 pieces separator bytes at end e = rw (append-nil, append-nil) at (e [] [] ∙ either (ltb end (length bytes)))
   where
     either : (t : Bool)

@@ -20,8 +20,8 @@ same (b ∷ bs) [] = false
 same (b ∷ bs) (c ∷ cs) = eqb b c && same bs cs
 
 -- n words, each of them a number
-unfoldable pub areNumbers : ℕ → List (List ℕ) → Bool
-areNumbers zero [] = true
-areNumbers zero (word ∷ rest) = false
-areNumbers (suc n) [] = false
-areNumbers (suc n) (word ∷ rest) = is_number word && areNumbers n rest
+unfoldable pub are_numbers : ℕ → List (List ℕ) → Bool
+are_numbers zero [] = true
+are_numbers zero (word ∷ rest) = false
+are_numbers (suc n) [] = false
+are_numbers (suc n) (word ∷ rest) = is_number word && are_numbers n rest

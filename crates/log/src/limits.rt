@@ -1,10 +1,10 @@
 // The table of a line `limits` (02, W5).
 ghost use Rattle.std.specs.Prelude.{cond, [], map, ◌≡◌, ◌≤◌, length};
 ghost use Rattle.log.specs.Numbers.{value_of};
-ghost use Rattle.log.specs.Line.{areLimits, limitsOf};
+ghost use Rattle.log.specs.Line.{are_limits, limits_of};
 ghost use Rattle.log.specs.Log.{table_of};
-ghost use Rattle.rules.specs.Limits.{loadAnswer};
-ghost use Rattle.log.specs.Inner.Parsing.{piecesAfter};
+ghost use Rattle.rules.specs.Limits.{load_answer};
+ghost use Rattle.log.specs.Inner.Parsing.{pieces_after};
 
 use crate::number::Number;
 use crate::{number, pieces};
@@ -19,7 +19,7 @@ pub struct Limits {
 }
 
 pub fn none() -> Limits
-    ensures { result ≡ limitsOf [] }
+    ensures { result ≡ limits_of [] }
 {
     Limits {
         values: [0; 24],
@@ -30,8 +30,8 @@ pub fn none() -> Limits
 // The words after the one that ends at `end`, where they are 1 to 24 numbers.
 pub fn limits_after(line: &[u8], end: usize) -> Limits
     requires { end ≤ length line.now }
-    ensures { let fields = piecesAfter 32 line.now end in
-        result ≡ cond (areLimits fields) (limitsOf (map value_of fields)) (limitsOf []) }
+    ensures { let fields = pieces_after 32 line.now end in
+        result ≡ cond (are_limits fields) (limits_of (map value_of fields)) (limits_of []) }
 {
     let mut values = [0u32; 24];
     let mut count: usize = 0;
@@ -53,7 +53,7 @@ pub fn limits_after(line: &[u8], end: usize) -> Limits
 
 // What a place of a table holds. A table has room for 24 limits.
 pub fn load_from(limits: Limits, kind: u32) -> Loaded
-    ensures { result ≡ loadAnswer (table_of limits) kind }
+    ensures { result ≡ load_answer (table_of limits) kind }
 {
     let values = limits.values;
     let count = limits.count;

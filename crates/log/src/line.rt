@@ -1,10 +1,10 @@
 // One line of a log: passed over, a table of limits, a call, or neither.
 ghost use Rattle.std.specs.Prelude.{◌≡◌, ◌≤◌, length};
 ghost use Rattle.log.specs.Words.{words as words_of};
-ghost use Rattle.log.specs.Line.{openOf, deliveryOf, holidayOf, sharpOf, registerOf, agreedOf, call_of};
-ghost use Rattle.log.specs.Line.{bare as bareOf, limitsEntry, wordsEntry, entry_of};
-ghost use Rattle.log.specs.Log.{headWith};
-ghost use Rattle.log.specs.Inner.Parsing.{piecesAfter, cut_at};
+ghost use Rattle.log.specs.Line.{open_of, delivery_of, holiday_of, sharp_of, register_of, agreed_of, call_of};
+ghost use Rattle.log.specs.Line.{bare as bare_of, limits_entry, words_entry, entry_of};
+ghost use Rattle.log.specs.Log.{head_with};
+ghost use Rattle.log.specs.Inner.Parsing.{pieces_after, cut_at};
 
 use crate::limits::Limits;
 use crate::number::Date;
@@ -44,7 +44,7 @@ pub struct Entry {
 // The fields after a keyword that ends at `end`, in each of these.
 fn open_after(line: &[u8], end: usize) -> LogLine
     requires { end ≤ length line.now }
-    ensures { result ≡ openOf (piecesAfter 32 line.now end) }
+    ensures { result ≡ open_of (pieces_after 32 line.now end) }
 {
     if line.len() <= end {
         return LogLine::NoCall;
@@ -71,7 +71,7 @@ fn open_after(line: &[u8], end: usize) -> LogLine
 
 fn delivery_after(line: &[u8], end: usize) -> LogLine
     requires { end ≤ length line.now }
-    ensures { result ≡ deliveryOf (piecesAfter 32 line.now end) }
+    ensures { result ≡ delivery_of (pieces_after 32 line.now end) }
 {
     let fields = words::values_after(line, end, 4);
     if !fields.good {
@@ -87,7 +87,7 @@ fn delivery_after(line: &[u8], end: usize) -> LogLine
 
 fn holiday_after(line: &[u8], end: usize) -> LogLine
     requires { end ≤ length line.now }
-    ensures { result ≡ holidayOf (piecesAfter 32 line.now end) }
+    ensures { result ≡ holiday_of (pieces_after 32 line.now end) }
 {
     let fields = words::values_after(line, end, 1);
     if !fields.good {
@@ -99,7 +99,7 @@ fn holiday_after(line: &[u8], end: usize) -> LogLine
 // A register read without a width.
 fn sharp_after(line: &[u8], end: usize) -> LogLine
     requires { end ≤ length line.now }
-    ensures { result ≡ sharpOf (piecesAfter 32 line.now end) }
+    ensures { result ≡ sharp_of (pieces_after 32 line.now end) }
 {
     let fields = words::values_after(line, end, 3);
     if !fields.good {
@@ -115,7 +115,7 @@ fn sharp_after(line: &[u8], end: usize) -> LogLine
 
 fn register_after(line: &[u8], end: usize) -> LogLine
     requires { end ≤ length line.now }
-    ensures { result ≡ registerOf (piecesAfter 32 line.now end) }
+    ensures { result ≡ register_of (pieces_after 32 line.now end) }
 {
     let fields = words::values_after(line, end, 4);
     if !fields.good {
@@ -131,7 +131,7 @@ fn register_after(line: &[u8], end: usize) -> LogLine
 
 fn agreed_after(line: &[u8], end: usize) -> LogLine
     requires { end ≤ length line.now }
-    ensures { result ≡ agreedOf (piecesAfter 32 line.now end) }
+    ensures { result ≡ agreed_of (pieces_after 32 line.now end) }
 {
     let fields = words::values_after(line, end, 3);
     if !fields.good {
@@ -183,7 +183,7 @@ fn without_cr(bytes: &[u8]) -> usize
 
 // A line with no table.
 pub fn bare(line: LogLine) -> Entry
-    ensures { result ≡ bareOf line }
+    ensures { result ≡ bare_of line }
 {
     let limits = limits::none();
     Entry { line, limits }
@@ -192,7 +192,7 @@ pub fn bare(line: LogLine) -> Entry
 // The fields after `limits`, which ends at `end`.
 fn limits_entry(line: &[u8], end: usize) -> Entry
     requires { end ≤ length line.now }
-    ensures { result ≡ limitsEntry (piecesAfter 32 line.now end) }
+    ensures { result ≡ limits_entry (pieces_after 32 line.now end) }
 {
     let limits = limits::limits_after(line, end);
     if limits.count == 0 {
@@ -205,7 +205,7 @@ fn limits_entry(line: &[u8], end: usize) -> Entry
 }
 
 fn words_entry(line: &[u8]) -> Entry
-    ensures { result ≡ wordsEntry (words_of line.now) }
+    ensures { result ≡ words_entry (words_of line.now) }
 {
     let end = pieces::end_of(line, 0, b' ');
     if words::is_same(&line[..end], b"limits") {
@@ -240,7 +240,7 @@ pub fn line_of(bytes: &[u8]) -> LogLine
 
 // The head of an opening with this demand limit.
 pub fn head_with(opening: Opening, limit: u32) -> Head
-    ensures { result ≡ headWith opening limit }
+    ensures { result ≡ head_with opening limit }
 {
     Head {
         year: opening.year,

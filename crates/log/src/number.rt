@@ -1,6 +1,6 @@
 // Numbers and dates of a log.
 ghost use Rattle.std.specs.Prelude.{◌≡◌};
-ghost use Rattle.log.specs.Numbers.{number_of, dateOfWord};
+ghost use Rattle.log.specs.Numbers.{number_of, date_of_word};
 
 // What a word is as a number.
 #[derive(Drop)]
@@ -42,7 +42,7 @@ pub fn number_of(word: &[u8]) -> Number
 }
 
 pub fn date_of(word: &[u8]) -> Date
-    ensures { result ≡ dateOfWord word.now }
+    ensures { result ≡ date_of_word word.now }
 {
     if word.len() != 10 {
         return Date::Not;

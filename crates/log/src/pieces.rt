@@ -1,7 +1,7 @@
 // Pieces between separators: the words of a line, and the lines of a log.
 ghost use Rattle.std.specs.Prelude.{List, ◌++◌, ◌≡◌, ℕ, ◌-◌, ◌≤◌, length, take, drop};
 ghost use Rattle.log.specs.Words.{split};
-ghost use Rattle.log.specs.Inner.Parsing.{piecesFrom};
+ghost use Rattle.log.specs.Inner.Parsing.{pieces_from};
 
 // The end of the piece that begins at `at`, whatever bytes stand before and after.
 pub fn end_of(bytes: &[u8], at: usize, separator: u8) -> usize
@@ -10,7 +10,7 @@ pub fn end_of(bytes: &[u8], at: usize, separator: u8) -> usize
         (at ≤ result)
         × (result ≤ length text)
         × ((begun more : List ℕ) → split separator begun (drop at text ++ more)
-        ≡ piecesFrom separator text result (begun ++ take (result - at) (drop at text)) more) }
+        ≡ pieces_from separator text result (begun ++ take (result - at) (drop at text)) more) }
 {
     let mut i = at;
     while i < bytes.len() {

@@ -1,8 +1,8 @@
 // Words of a line.
 ghost use Rattle.std.specs.Prelude.{true, map, ◌≡◌, ◌-◌, ◌≤◌, length, take};
 ghost use Rattle.log.specs.Numbers.{value_of};
-ghost use Rattle.log.specs.Words.{same as same·, areNumbers};
-ghost use Rattle.log.specs.Inner.Parsing.{piecesAfter};
+ghost use Rattle.log.specs.Words.{same as same·, are_numbers};
+ghost use Rattle.log.specs.Inner.Parsing.{pieces_after};
 
 use crate::number::Number;
 use crate::{number, pieces};
@@ -33,8 +33,8 @@ pub fn is_same(word: &[u8], other: &[u8]) -> bool
 // The values of the words after the one that ends at `end`: `count` numbers.
 pub fn values_after(line: &[u8], end: usize, count: usize) -> Values
     requires { (end ≤ length line.now) × (count ≤ 4) }
-    ensures { let fields = piecesAfter 32 line.now end in
-        (result.good ≡ areNumbers count fields)
+    ensures { let fields = pieces_after 32 line.now end in
+        (result.good ≡ are_numbers count fields)
         × (result.good ≡ true → take count result.values ≡ map value_of fields) }
 {
     let mut values = [0u32; 4];

@@ -13,51 +13,51 @@ use Rattle.base.proofs.Logic.{either, passed, and_parts}
 use Rattle.file.specs.declared.Figures.{Figures}
 use Rattle.file.specs.declared.Verdict.{Verdict}
 use Rattle.file.specs.declared.Verdict.TheVariants as verdict
-use Rattle.file.specs.Reader.{figures, readFile}
+use Rattle.file.specs.Reader.{figures, read_file}
 use Rattle.market.specs.declared.Codes.{Codes}
 use Rattle.market.specs.declared.Exported.TheVariants.{Length, Refused}
 use Rattle.market.specs.declared.checks.Class.TheVariants.{Plain, Digit}
 use Rattle.market.specs.Fields.{Texts}
 use Rattle.market.specs.Records.{record900}
-use Rattle.market.specs.Export.{contentOf, body_of, export_of, all_of, identifierOk, timeOk, codesOk, suppliedTests, suppliedOk}
-use Rattle.market.specs.Export.{exportBy, exportAnswer, exportAfter}
+use Rattle.market.specs.Export.{content_of, body_of, export_of, all_of, identifier_ok, time_ok, codes_ok, supplied_tests, supplied_ok}
+use Rattle.market.specs.Export.{export_by, export_answer, export_after}
 use Rattle.line.specs.Inner.Writing.{capped, Added}
-use Rattle.line.proofs.Putting.{capped-low, capped-high, stored-all}
+use Rattle.line.proofs.Putting.{capped_low, capped_high, stored_all}
 
 -- ---- What is supplied
 
-supplied-parts : (a b c d e f g h i j k : Bool)
+supplied_parts : (a b c d e f g h i j k : Bool)
     → (every ((a && b) ∷ (c && d) ∷ (e && f) ∷ (g && h) ∷ []) && every (i ∷ j ∷ k ∷ []))
     ≡ every (a ∷ b ∷ c ∷ d ∷ e ∷ f ∷ g ∷ h ∷ i ∷ j ∷ k ∷ [])
-supplied-parts a b c d e f g h i j k = simp (and_assoc, and-true)
+supplied_parts a b c d e f g h i j k = simp (and_assoc, and-true)
 
 -- the header texts in pairs, and the others
-pub supplied-by : (t : Texts) (codes : Codes)
+pub supplied_by : (t : Texts) (codes : Codes)
     → (every (
     (all_of Plain t.from && all_of Plain t.to)
     ∷ (all_of Plain t.configuration && all_of Plain t.register)
     ∷ (all_of Plain t.suffix && all_of Plain t.stream)
-    ∷ (all_of Plain t.serial && all_of Plain t.nextRead)
+    ∷ (all_of Plain t.serial && all_of Plain t.next_read)
     ∷ [])
-    && every (all_of Plain t.reason ∷ timeOk t.created ∷ codesOk codes ∷ []))
-    ≡ suppliedOk t codes
-unfolding suppliedOk
-supplied-by t codes =
-    supplied-parts (all_of Plain t.from) (all_of Plain t.to) (all_of Plain t.configuration) (all_of Plain t.register)
+    && every (all_of Plain t.reason ∷ time_ok t.created ∷ codes_ok codes ∷ []))
+    ≡ supplied_ok t codes
+unfolding supplied_ok
+supplied_by t codes =
+    supplied_parts (all_of Plain t.from) (all_of Plain t.to) (all_of Plain t.configuration) (all_of Plain t.register)
     (all_of Plain t.suffix)
-    (all_of Plain t.stream) (all_of Plain t.serial) (all_of Plain t.nextRead) (all_of Plain t.reason) (timeOk t.created)
-    (codesOk codes)
+    (all_of Plain t.stream) (all_of Plain t.serial) (all_of Plain t.next_read) (all_of Plain t.reason) (time_ok t.created)
+    (codes_ok codes)
 
-pub time-long : (t : Texts) (codes : Codes) → suppliedOk t codes ≡ true → length t.created ≡ 14
-unfolding suppliedOk timeOk
-time-long t codes ok =
-    eqb-true _ _ (and_parts _ (all_of Digit t.created) (passed (suppliedTests t codes) ok 9)).0
+pub time_long : (t : Texts) (codes : Codes) → supplied_ok t codes ≡ true → length t.created ≡ 14
+unfolding supplied_ok time_ok
+time_long t codes ok =
+    eqb-true _ _ (and_parts _ (all_of Digit t.created) (passed (supplied_tests t codes) ok 9)).0
 
 -- ---- Room
 
 -- 5 bytes on both sides
-pub less-five : (n room : ℕ) → 5 ≤ room → leb n (room - 5) ≡ leb (n + 5) room
-less-five n room l =
+pub less_five : (n room : ℕ) → 5 ≤ room → leb n (room - 5) ≡ leb (n + 5) room
+less_five n room l =
     ⊎_elim (λ e. e ∙ sym (le-leb (n + 5) room (omega (arith, leb-true n (room - 5) e))))
     (λ e. e ∙ sym (lt-leb (n + 5) room (omega (arith, leb-false n (room - 5) e))))
     (either (leb n (room - 5)))
@@ -65,54 +65,54 @@ less-five n room l =
 -- a count that stopped is beyond every buffer
 pub room_for : (n room : ℕ) → room < 2 ^ 64 → leb (capped n + 5) room ≡ leb (n + 5) room
 room_for n room l =
-    ⊎_elim (λ e. ap (λ (x : ℕ). leb (x + 5) room) (capped-low n (omega (arith, ltb-true n 18_446_744_073_709_551_615 e))))
+    ⊎_elim (λ e. ap (λ (x : ℕ). leb (x + 5) room) (capped_low n (omega (arith, ltb-true n 18_446_744_073_709_551_615 e))))
     (λ e.
     let h : 18_446_744_073_709_551_615 ≤ n = ltb-false n 18_446_744_073_709_551_615 e in
     let far : room < n + 5 = omega arith in
     let near : room < 18_446_744_073_709_551_615 + 5 = omega arith in
-    ap (λ (x : ℕ). leb (x + 5) room) (capped-high n h) ∙ lt-leb (18_446_744_073_709_551_615 + 5) room near ∙ sym (lt-leb (n + 5) room far))
+    ap (λ (x : ℕ). leb (x + 5) room) (capped_high n h) ∙ lt-leb (18_446_744_073_709_551_615 + 5) room near ∙ sym (lt-leb (n + 5) room far))
     (either (ltb n 18_446_744_073_709_551_615))
 
 -- ---- An accepted file
 
-module _ (bs : List ℕ) (g : Figures) (e : readFile bs ≡ verdict.Accepted g) where
+module _ (bs : List ℕ) (g : Figures) (e : read_file bs ≡ verdict.Accepted g) where
   module _ (t : Texts) (codes : Codes) (out : List ℕ) where
-    pub refused-14 : identifierOk t.identifier ≡ false → (Refused 14 ≡ exportAnswer bs t codes out) × (out ≡ exportAfter bs t codes out)
-    unfolding exportAfter exportAnswer
+    pub refused-14 : identifier_ok t.identifier ≡ false → (Refused 14 ≡ export_answer bs t codes out) × (out ≡ export_after bs t codes out)
+    unfolding export_after export_answer
     refused-14 p = rw (e, p) (refl, refl)
 
-    module _ (identifier : identifierOk t.identifier ≡ true) where
-      pub refused-15 : suppliedOk t codes ≡ false → (Refused 15 ≡ exportAnswer bs t codes out) × (out ≡ exportAfter bs t codes out)
-      unfolding exportAfter exportAnswer
+    module _ (identifier : identifier_ok t.identifier ≡ true) where
+      pub refused-15 : supplied_ok t codes ≡ false → (Refused 15 ≡ export_answer bs t codes out) × (out ≡ export_after bs t codes out)
+      unfolding export_after export_answer
       refused-15 p = rw (e, identifier, p) (refl, refl)
 
-      module _ (supplied : suppliedOk t codes ≡ true) where
-        long : length (export_of t (contentOf codes bs)) ≡ length (body_of t (contentOf codes bs)) + 5
+      module _ (supplied : supplied_ok t codes ≡ true) where
+        long : length (export_of t (content_of codes bs)) ≡ length (body_of t (content_of codes bs)) + 5
         unfolding export_of
-        long = length-append (body_of t (contentOf codes bs)) record900
+        long = length-append (body_of t (content_of codes bs)) record900
 
-        pub refused-7 : leb (length (body_of t (contentOf codes bs)) + 5) (length out) ≡ false
-            → (Refused 7 ≡ exportAnswer bs t codes out) × (out ≡ exportAfter bs t codes out)
-        unfolding exportAfter exportAnswer
-        refused-7 p = rw (e, identifier, supplied, long, p) (refl, refl)
+        pub refused_7 : leb (length (body_of t (content_of codes bs)) + 5) (length out) ≡ false
+            → (Refused 7 ≡ export_answer bs t codes out) × (out ≡ export_after bs t codes out)
+        unfolding export_after export_answer
+        refused_7 p = rw (e, identifier, supplied, long, p) (refl, refl)
 
-        pub exported : (after : List ℕ) (r : ℕ) → leb (length (body_of t (contentOf codes bs)) + 5) (length out) ≡ true
-            → Added out 0 after r (export_of t (contentOf codes bs))
-            → (Length r ≡ exportAnswer bs t codes out) × (after ≡ exportAfter bs t codes out)
-        unfolding exportAfter exportAnswer
+        pub exported : (after : List ℕ) (r : ℕ) → leb (length (body_of t (content_of codes bs)) + 5) (length out) ≡ true
+            → Added out 0 after r (export_of t (content_of codes bs))
+            → (Length r ≡ export_answer bs t codes out) × (after ≡ export_after bs t codes out)
+        unfolding export_after export_answer
         exported after r p added =
-            let x : List ℕ = export_of t (contentOf codes bs) in
-            let fits : length x ≤ length out = omega (arith, long, leb-true (length (body_of t (contentOf codes bs)) + 5) (length out) p) in
+            let x : List ℕ = export_of t (content_of codes bs) in
+            let fits : length x ≤ length out = omega (arith, long, leb-true (length (body_of t (content_of codes bs)) + 5) (length out) p) in
             let small : 0 + length x < 2 ^ 64 = omega (arith, fits, added.fits) in
             let plain : 0 + length x ≡ length x = omega arith in
-            let size : r ≡ length x = added.next ∙ capped-low (0 + length x) small ∙ plain in
+            let size : r ≡ length x = added.next ∙ capped_low (0 + length x) small ∙ plain in
             let room : leb (length x) (length out) ≡ true = ap (λ (n : ℕ). leb n (length out)) long ∙ p in
-            rw (e, identifier, supplied, room, size) (refl, added.has ∙ stored-all x out fits)
+            rw (e, identifier, supplied, room, size) (refl, added.has ∙ stored_all x out fits)
 
-pub refused-by-reader : (bs : List ℕ) (number : ℕ) → readFile bs ≡ verdict.Refused number → (t : Texts) (codes : Codes) (out : List ℕ)
-    → (Refused number ≡ exportAnswer bs t codes out) × (out ≡ exportAfter bs t codes out)
-unfolding exportAfter exportAnswer
-refused-by-reader bs number e t codes out = rw e (refl, refl)
+pub refused_by_reader : (bs : List ℕ) (number : ℕ) → read_file bs ≡ verdict.Refused number → (t : Texts) (codes : Codes) (out : List ℕ)
+    → (Refused number ≡ export_answer bs t codes out) × (out ≡ export_after bs t codes out)
+unfolding export_after export_answer
+refused_by_reader bs number e t codes out = rw e (refl, refl)
 
 -- ---- A call that answers a length
 
@@ -123,7 +123,7 @@ pub record Answered (v : Verdict) (a b c : Bool) (n m : ℕ) : Type 0 where
   pub room : c ≡ true
   pub long : n ≡ m
 
-pub answered : (v : Verdict) (a b c : Bool) (n m : ℕ) → exportBy v a b c n ≡ Length m → Answered v a b c n m
+pub answered : (v : Verdict) (a b c : Bool) (n m : ℕ) → export_by v a b c n ≡ Length m → Answered v a b c n m
 answered (verdict.Refused k) a b c n m e = absurd (never e)
   where
     never : Refused k ≡ Length m → ⊥
@@ -142,10 +142,10 @@ answered (verdict.Accepted g) true true false n m e = absurd (never e)
     never e = let z : ◌≡◌ {A = ℕ} 0 1 = cc in omega arith
 answered (verdict.Accepted g) true true true n m e = record { figures = g; accepted = refl; supplied = refl; room = refl; long = cc }
 
-module _ (bs : List ℕ) (t : Texts) (codes : Codes) (out : List ℕ) (m : ℕ) (e : exportAnswer bs t codes out ≡ Length m) where
-  pub answer-is : Answered (readFile bs) (identifierOk t.identifier) (suppliedOk t codes)
-      (leb (length (export_of t (contentOf codes bs))) (length out)) (length (export_of t (contentOf codes bs))) m
-  unfolding exportAnswer
-  answer-is =
-      answered (readFile bs) (identifierOk t.identifier) (suppliedOk t codes)
-      (leb (length (export_of t (contentOf codes bs))) (length out)) (length (export_of t (contentOf codes bs))) m e
+module _ (bs : List ℕ) (t : Texts) (codes : Codes) (out : List ℕ) (m : ℕ) (e : export_answer bs t codes out ≡ Length m) where
+  pub answer_is : Answered (read_file bs) (identifier_ok t.identifier) (supplied_ok t codes)
+      (leb (length (export_of t (content_of codes bs))) (length out)) (length (export_of t (content_of codes bs))) m
+  unfolding export_answer
+  answer_is =
+      answered (read_file bs) (identifier_ok t.identifier) (supplied_ok t codes)
+      (leb (length (export_of t (content_of codes bs))) (length out)) (length (export_of t (content_of codes bs))) m e

@@ -7,13 +7,13 @@ use Prim.Native.Nat.{ℕ, zero, suc, ◌+◌, ◌-◌, ◌*◌, ◌^◌, ◌≤�
 use native.Mathlib.Nat.{eq-or-lt_of_le}
 use native.Mathlib.Omega.{arith}
 use Rattle.base.proofs.Logic.{either}
-use Rattle.base.proofs.Sums.{all-at}
+use Rattle.base.proofs.Sums.{all_at}
 use Rattle.market.specs.declared.marks.Mark.{Mark}
-use Rattle.market.specs.Fields.{joined, varies, alike, oneMark}
-use Rattle.market.specs.Records.{record300, record900, runs, dayRecords}
-use Rattle.market.proofs.Joining.{day-alike, day-varies, day-within, start_none}
-use Rattle.market.proofs.Splits.{Plainly, alike_same, joined-front, Told300, split-300}
-use Rattle.market.proofs.RunSplits.{AlikeFrom, runs-split}
+use Rattle.market.specs.Fields.{joined, varies, alike, one_mark}
+use Rattle.market.specs.Records.{record300, record900, runs, day_records}
+use Rattle.market.proofs.Joining.{day-alike, day-varies, day_within, start_none}
+use Rattle.market.proofs.Splits.{Plainly, alike_same, joined_front, Told300, split_300}
+use Rattle.market.proofs.RunSplits.{AlikeFrom, runs_split}
 
 -- what is written of slots: values of 32 bits, marks written plainly, none of them V
 pub record Slots (v : ℕ → ℕ) (mark : ℕ → Mark) (count : ℕ) : Type 0 where
@@ -23,29 +23,29 @@ pub record Slots (v : ℕ → ℕ) (mark : ℕ → Mark) (count : ℕ) : Type 0 
 
 -- what is told of two days of n slots from slot a
 pub record ToldDay (day day' : ℕ) (v w : ℕ → ℕ) (mark other : ℕ → Mark) (a n : ℕ) (r r' : List ℕ) : Type 0 where
-  pub day-same : day ≡ day'
+  pub day_same : day ≡ day'
   pub values : (i : ℕ) → a ≤ i → i < a + n → v i ≡ w i
   pub marks : (i : ℕ) → a ≤ i → i < a + n → mark i ≡ other i
   pub rest : r ≡ r'
 
-plain-varies : Plainly varies
-plain-varies = record { small = omega arith; none = λ e. refl }
+plain_varies : Plainly varies
+plain_varies = record { small = omega arith; none = λ e. refl }
 
 -- the slots of a day whose slots are alike
-one_same : (mark : ℕ → Mark) (a n : ℕ) → oneMark mark a n ≡ true → (j : ℕ) → j < n → mark a ≡ mark (a + j)
-unfolding oneMark
-one_same mark a n e j l = alike_same (mark a) (mark (a + j)) (all-at (λ i. alike (mark a) (mark (a + i))) n e j l)
+one_same : (mark : ℕ → Mark) (a n : ℕ) → one_mark mark a n ≡ true → (j : ℕ) → j < n → mark a ≡ mark (a + j)
+unfolding one_mark
+one_same mark a n e j l = alike_same (mark a) (mark (a + j)) (all_at (λ i. alike (mark a) (mark (a + i))) n e j l)
 
 module _
     (reason created : List ℕ) (day day' : ℕ) (l : day < 36525) (l' : day' < 36525) (v w : ℕ → ℕ) (mark other : ℕ → Mark)
     (a n count count' : ℕ)
     (few : n ≤ 288) (some : 1 ≤ n) (within : a + n ≤ count) (within' : a + n ≤ count') (p : Slots v mark count) (q : Slots w other count')
     (r r' : List ℕ)
-    (e : dayRecords reason created day v mark a n ++ r ≡ dayRecords reason created day' w other a n ++ r')
+    (e : day_records reason created day v mark a n ++ r ≡ day_records reason created day' w other a n ++ r')
   where
     told-300 : (m m' : Mark) → Plainly m → Plainly m' → (s s' : List ℕ)
         → record300 reason created day v a n m ++ s ≡ record300 reason created day' w a n m' ++ s' → Told300 day day' v w a n m m' s s'
-    told-300 m m' o o' s s' x = split-300 reason created day day' l l' v w a n p.value q.value m m' o o' s s' x
+    told-300 m m' o o' s s' x = split_300 reason created day day' l l' v w a n p.value q.value m m' o o' s s' x
 
     first_plain : Plainly (mark a)
     first_plain = p.plain a (omega arith)
@@ -54,50 +54,50 @@ module _
     other-plain = q.plain a (omega arith)
 
     -- the records of a day whose slots are alike, and of one whose slots are not
-    one_left : oneMark mark a n ≡ true → record300 reason created day v a n (mark a) ++ r ≡ dayRecords reason created day v mark a n ++ r
+    one_left : one_mark mark a n ≡ true → record300 reason created day v a n (mark a) ++ r ≡ day_records reason created day v mark a n ++ r
     one_left t = ap (λ (x : List ℕ). x ++ r) (day-alike mark a n reason created day v true (mark a) (sym t) refl refl)
 
-    one_right : oneMark other a n ≡ true
-        → record300 reason created day' w a n (other a) ++ r' ≡ dayRecords reason created day' w other a n ++ r'
+    one_right : one_mark other a n ≡ true
+        → record300 reason created day' w a n (other a) ++ r' ≡ day_records reason created day' w other a n ++ r'
     one_right t = ap (λ (x : List ℕ). x ++ r') (day-alike other a n reason created day' w true (other a) (sym t) refl refl)
 
-    more_left : oneMark mark a n ≡ false
-        → record300 reason created day v a n varies ++ (runs reason mark a n ++ r) ≡ dayRecords reason created day v mark a n ++ r
+    more_left : one_mark mark a n ≡ false
+        → record300 reason created day v a n varies ++ (runs reason mark a n ++ r) ≡ day_records reason created day v mark a n ++ r
     more_left t =
         sym (append_assoc (record300 reason created day v a n varies) (runs reason mark a n) r)
         ∙ ap (λ (x : List ℕ). x ++ r) (day-varies mark a n reason created day v false varies (sym t) refl refl)
 
-    more-right : oneMark other a n ≡ false
-        → record300 reason created day' w a n varies ++ (runs reason other a n ++ r') ≡ dayRecords reason created day' w other a n ++ r'
+    more-right : one_mark other a n ≡ false
+        → record300 reason created day' w a n varies ++ (runs reason other a n ++ r') ≡ day_records reason created day' w other a n ++ r'
     more-right t =
         sym (append_assoc (record300 reason created day' w a n varies) (runs reason other a n) r')
         ∙ ap (λ (x : List ℕ). x ++ r') (day-varies other a n reason created day' w false varies (sym t) refl refl)
 
-    both_one : oneMark mark a n ≡ true → oneMark other a n ≡ true → ToldDay day day' v w mark other a n r r'
+    both_one : one_mark mark a n ≡ true → one_mark other a n ≡ true → ToldDay day day' v w mark other a n r r'
     both_one t u =
         let told = told-300 (mark a) (other a) first_plain other-plain r r' (one_left t ∙ e ∙ sym (one_right u)) in
         record {
-          day-same = told.day-same;
+          day_same = told.day_same;
           values = told.values;
           marks = λ i j k.
               let place : a + (i - a) ≡ i = omega arith in
               let inside : i - a < n = omega arith in
               subst (λ (x : ℕ). mark x ≡ other x) place
-              (sym (one_same mark a n t (i - a) inside) ∙ told.mark-same ∙ one_same other a n u (i - a) inside);
+              (sym (one_same mark a n t (i - a) inside) ∙ told.mark_same ∙ one_same other a n u (i - a) inside);
           rest = told.rest;
         }
 
-    both-vary : oneMark mark a n ≡ false → oneMark other a n ≡ false → ToldDay day day' v w mark other a n r r'
+    both-vary : one_mark mark a n ≡ false → one_mark other a n ≡ false → ToldDay day day' v w mark other a n r r'
     unfolding runs
     both-vary t u =
-        let told = told-300 varies varies plain-varies plain-varies (runs reason mark a n ++ r) (runs reason other a n ++ r')
+        let told = told-300 varies varies plain_varies plain_varies (runs reason mark a n ++ r) (runs reason other a n ++ r')
         (more_left t ∙ e ∙ sym (more-right u)) in
         let tail : AlikeFrom mark other a n r r' 0 =
-        runs-split reason mark other a n few (λ j k. p.plain (a + j) (omega arith)) (λ j k. q.plain (a + j) (omega arith)) n 0
+        runs_split reason mark other a n few (λ j k. p.plain (a + j) (omega arith)) (λ j k. q.plain (a + j) (omega arith)) n 0
         (omega arith)
         (sym (start_none mark a n) ∙ start_none other a n) r r' told.rest in
         record {
-          day-same = told.day-same;
+          day_same = told.day_same;
           values = told.values;
           marks = λ i j k.
               let place : a + (i - a) ≡ i = omega arith in
@@ -113,76 +113,76 @@ module _
         (λ u.
         absurd (p.letter a (omega arith)
         (ap (λ (m : Mark). m.letter)
-        (told-300 (mark a) varies first_plain plain-varies r (runs reason other a n ++ r')
-        (one_left t ∙ e ∙ sym (more-right u))).mark-same)))
-        (either (oneMark other a n)))
+        (told-300 (mark a) varies first_plain plain_varies r (runs reason other a n ++ r')
+        (one_left t ∙ e ∙ sym (more-right u))).mark_same)))
+        (either (one_mark other a n)))
         (λ t.
         ⊎_elim
         (λ u.
         absurd (q.letter a (omega arith)
         (ap (λ (m : Mark). m.letter)
-        (sym (told-300 varies (other a) plain-varies other-plain (runs reason mark a n ++ r) r'
-        (more_left t ∙ e ∙ sym (one_right u))).mark-same))))
+        (sym (told-300 varies (other a) plain_varies other-plain (runs reason mark a n ++ r) r'
+        (more_left t ∙ e ∙ sym (one_right u))).mark_same))))
         (λ u. both-vary t u)
-        (either (oneMark other a n)))
-        (either (oneMark mark a n))
+        (either (one_mark other a n)))
+        (either (one_mark mark a n))
 
 -- ---- All days
 
-starts-300 : (reason created : List ℕ) (day : ℕ) (v : ℕ → ℕ) (mark : ℕ → Mark) (a n : ℕ) (r : List ℕ)
-    → record900 ≡ dayRecords reason created day v mark a n ++ r → ⊥
-unfolding dayRecords record300
-starts-300 reason created day v mark a n r e = let h : ◌≡◌ {A = ℕ} 57 51 = head-eq_of_cons-eq e in omega arith
+starts_300 : (reason created : List ℕ) (day : ℕ) (v : ℕ → ℕ) (mark : ℕ → Mark) (a n : ℕ) (r : List ℕ)
+    → record900 ≡ day_records reason created day v mark a n ++ r → ⊥
+unfolding day_records record300
+starts_300 reason created day v mark a n r e = let h : ◌≡◌ {A = ℕ} 57 51 = head-eq_of_cons-eq e in omega arith
 
 -- the records of day d
-abbrev recordsAt : List ℕ → List ℕ → ℕ → (ℕ → ℕ) → (ℕ → Mark) → ℕ → ℕ → List ℕ
-recordsAt reason created first v mark n d = dayRecords reason created (first + d) v mark (d * n) n
+abbrev records_at : List ℕ → List ℕ → ℕ → (ℕ → ℕ) → (ℕ → Mark) → ℕ → ℕ → List ℕ
+records_at reason created first v mark n d = day_records reason created (first + d) v mark (d * n) n
 
 -- day d is told
 abbrev pub Told : ℕ → ℕ → (ℕ → ℕ) → (ℕ → ℕ) → (ℕ → Mark) → (ℕ → Mark) → ℕ → ℕ → Type 0
 Told first first' v w mark other n d = (first + d ≡ first' + d) × ((i : ℕ) → d * n ≤ i → i < d * n + n → (v i ≡ w i) × (mark i ≡ other i))
 
 module _ (f : ℕ → List ℕ) where
-  days-front : (a k : ℕ) (r : List ℕ) → joined f a (suc k) ++ r ≡ f a ++ (joined f (suc a) k ++ r)
-  days-front a k r = ap (λ (x : List ℕ). x ++ r) (joined-front f a k) ∙ append_assoc (f a) (joined f (suc a) k) r
+  days_front : (a k : ℕ) (r : List ℕ) → joined f a (suc k) ++ r ≡ f a ++ (joined f (suc a) k ++ r)
+  days_front a k r = ap (λ (x : List ℕ). x ++ r) (joined_front f a k) ∙ append_assoc (f a) (joined f (suc a) k) r
 
-  days-none : (a : ℕ) (r : List ℕ) → joined f a 0 ++ r ≡ r
+  days_none : (a : ℕ) (r : List ℕ) → joined f a 0 ++ r ≡ r
   unfolding joined
-  days-none a r = refl
+  days_none a r = refl
 
 module _
     (reason created : List ℕ) (first first' : ℕ) (v w : ℕ → ℕ) (mark other : ℕ → Mark) (n D D' : ℕ) (few : n ≤ 288) (some : 1 ≤ n)
     (p : Slots v mark (n * D)) (q : Slots w other (n * D')) (dates : first + D ≤ 36525) (dates' : first' + D' ≤ 36525)
   where
     pub days-split : (k k' a : ℕ) → a + k ≡ D → a + k' ≡ D'
-        → joined (recordsAt reason created first v mark n) a k ++ record900
-        ≡ joined (recordsAt reason created first' w other n) a k' ++ record900
+        → joined (records_at reason created first v mark n) a k ++ record900
+        ≡ joined (records_at reason created first' w other n) a k' ++ record900
         → (D ≡ D') × ((d : ℕ) → a ≤ d → d < D → Told first first' v w mark other n d)
     days-split zero zero a e e' x = (omega arith, λ d l m. absurd (omega arith))
     days-split zero (suc k') a e e' x =
-        absurd (starts-300 reason created (first' + a) w other (a * n) n
-        (joined (recordsAt reason created first' w other n) (suc a) k' ++ record900)
-        (sym (days-none (recordsAt reason created first v mark n) a record900) ∙ x
-        ∙ days-front (recordsAt reason created first' w other n) a k' record900))
+        absurd (starts_300 reason created (first' + a) w other (a * n) n
+        (joined (records_at reason created first' w other n) (suc a) k' ++ record900)
+        (sym (days_none (records_at reason created first v mark n) a record900) ∙ x
+        ∙ days_front (records_at reason created first' w other n) a k' record900))
     days-split (suc k) zero a e e' x =
-        absurd (starts-300 reason created (first + a) v mark (a * n) n
-        (joined (recordsAt reason created first v mark n) (suc a) k ++ record900)
-        (sym (days-none (recordsAt reason created first' w other n) a record900) ∙ sym x
-        ∙ days-front (recordsAt reason created first v mark n) a k record900))
+        absurd (starts_300 reason created (first + a) v mark (a * n) n
+        (joined (records_at reason created first v mark n) (suc a) k ++ record900)
+        (sym (days_none (records_at reason created first' w other n) a record900) ∙ sym x
+        ∙ days_front (records_at reason created first v mark n) a k record900))
     days-split (suc k) (suc k') a e e' x =
         let here : a < D = omega arith in
         let here' : a < D' = omega arith in
         let told =
         day-split reason created (first + a) (first' + a) (omega arith) (omega arith) v w mark other (a * n) n (n * D) (n * D') few some
-        (day-within n a D here) (day-within n a D' here') p q
-        (joined (recordsAt reason created first v mark n) (suc a) k ++ record900)
-        (joined (recordsAt reason created first' w other n) (suc a) k' ++ record900)
-        (sym (days-front (recordsAt reason created first v mark n) a k record900) ∙ x
-        ∙ days-front (recordsAt reason created first' w other n) a k' record900) in
+        (day_within n a D here) (day_within n a D' here') p q
+        (joined (records_at reason created first v mark n) (suc a) k ++ record900)
+        (joined (records_at reason created first' w other n) (suc a) k' ++ record900)
+        (sym (days_front (records_at reason created first v mark n) a k record900) ∙ x
+        ∙ days_front (records_at reason created first' w other n) a k' record900) in
         let next = days-split k k' (suc a) (omega arith) (omega arith) told.rest in (
           next.0,
           λ d l m.
-              ⊎_elim (λ z. subst (Told first first' v w mark other n) z (told.day-same, λ i j h. (told.values i j h, told.marks i j h)))
+              ⊎_elim (λ z. subst (Told first first' v w mark other n) z (told.day_same, λ i j h. (told.values i j h, told.marks i j h)))
               (λ h. next.1 d h m)
               (eq-or-lt_of_le l),
         )

@@ -10,58 +10,58 @@ use lib.Dec.{leb, eqb}
 use lib.ListN.{length, take, drop}
 use lib.Seq.{take-append_seam}
 use Rattle.base.proofs.Logic.{passed}
-use Rattle.base.proofs.Sums.{all-at}
+use Rattle.base.proofs.Sums.{all_at}
 use Rattle.file.specs.declared.Figures.{Figures}
 use Rattle.file.specs.declared.Verdict.TheVariants as verdict
 use Rattle.file.specs.declared.slots.SlotRecord.{SlotRecord}
 use Rattle.file.specs.Contents.{Bytes}
-use Rattle.file.specs.Reader.{slot_at, figures, headFieldTests, recordOk, tableTests, tablesAt, tablesOk, readFile}
-use Rattle.file.proofs.Answers.{ready, tests-passed}
-use Rattle.file.proofs.Head.{interval-is}
-use Rattle.file.proofs.Offsets.{value-lt}
+use Rattle.file.specs.Reader.{slot_at, figures, head_field_tests, record_ok, table_tests, tables_at, tables_ok, read_file}
+use Rattle.file.proofs.Answers.{ready, tests_passed}
+use Rattle.file.proofs.Head.{interval_is}
+use Rattle.file.proofs.Offsets.{value_lt}
 use Rattle.line.specs.Line.{decimal}
 use Rattle.market.specs.declared.Codes.{Codes}
 use Rattle.market.specs.declared.Exported.TheVariants.{Length}
 use Rattle.market.specs.declared.marks.Mark.{Mark}
-use Rattle.market.specs.Fields.{Texts, field, fields, hasCode, codeFor, mark_of}
+use Rattle.market.specs.Fields.{Texts, field, fields, has_code, code_for, mark_of}
 use Rattle.base.specs.Text.{ascii}
-use Rattle.market.specs.Records.{record100, record200, record900, daysOf}
-use Rattle.market.specs.Export.{Content, contentOf, body_of, export_of, codesOk, suppliedTests, suppliedOk, exportAnswer, exportAfter}
+use Rattle.market.specs.Records.{record100, record200, record900, days_of}
+use Rattle.market.specs.Export.{Content, content_of, body_of, export_of, codes_ok, supplied_tests, supplied_ok, export_answer, export_after}
 use Rattle.market.specs.Claim.{SameContent, EqualExactly}
-use Rattle.file.proofs.Answers.{figures-are, tabled, dates-le}
-use Rattle.market.proofs.Answers.{answer-is}
-use Rattle.market.proofs.Numerals.{decimal-split}
+use Rattle.file.proofs.Answers.{figures_are, tabled, dates_le}
+use Rattle.market.proofs.Answers.{answer_is}
+use Rattle.market.proofs.Numerals.{decimal_split}
 use Rattle.market.proofs.Splits.{Plainly}
 use Rattle.market.proofs.DaySplits.{Slots, Told, days-split}
-use Rattle.market.proofs.SameText.{content-same}
+use Rattle.market.proofs.SameText.{content_same}
 
 -- ---- The record 200 tells L
 
-front-parts : (a b c d e f g h x r : List ℕ)
+front_parts : (a b c d e f g h x r : List ℕ)
     → (a ++ (b ++ (c ++ (d ++ (e ++ (f ++ (g ++ (h ++ x)))))))) ++ r ≡ (a ++ (b ++ (c ++ (d ++ (e ++ (f ++ (g ++ h))))))) ++ (x ++ r)
-front-parts a b c d e f g h x r = simp append_assoc
+front_parts a b c d e f g h x r = simp append_assoc
 
-split-200 : (identifier configuration register suffix stream serial nextRead : List ℕ) (l m : ℕ) → l < 2 ^ 32 → m < 2 ^ 32 → (r r' : List ℕ)
-    → record200 identifier configuration register suffix stream serial l nextRead ++ r
-    ≡ record200 identifier configuration register suffix stream serial m nextRead ++ r'
+split_200 : (identifier configuration register suffix stream serial next_read : List ℕ) (l m : ℕ) → l < 2 ^ 32 → m < 2 ^ 32 → (r r' : List ℕ)
+    → record200 identifier configuration register suffix stream serial l next_read ++ r
+    ≡ record200 identifier configuration register suffix stream serial m next_read ++ r'
     → (l ≡ m) × (r ≡ r')
 unfolding record200 fields
-split-200 identifier configuration register suffix stream serial nextRead l m p q r r' e =
+split_200 identifier configuration register suffix stream serial next_read l m p q r r' e =
     let unit : List ℕ = field (107 ∷ 87 ∷ 104 ∷ []) in
     let front : List ℕ = ascii "200" ++
     (field identifier ++ (field configuration ++ (field register ++ (field suffix ++ (field stream ++ (field serial ++ unit)))))) in
-    let end : List ℕ = nextRead ++ (13 ∷ 10 ∷ []) in
+    let end : List ℕ = next_read ++ (13 ∷ 10 ∷ []) in
     let parts : (x s : List ℕ)
     → (ascii "200" ++ (field identifier ++
     (field configuration ++ (field register ++ (field suffix ++ (field stream ++ (field serial ++ (unit ++ x)))))))) ++ s
     ≡ front ++ (x ++ s) =
-    λ x s. front-parts (ascii "200") (field identifier) (field configuration) (field register) (field suffix) (field stream) (field serial)
+    λ x s. front_parts (ascii "200") (field identifier) (field configuration) (field register) (field suffix) (field stream) (field serial)
     unit x s in
     let flat =
     append_cancel_left front _ _
     (sym (parts (field (decimal l) ++ (44 ∷ end)) r) ∙ e ∙ parts (field (decimal m) ++ (44 ∷ end)) r') in
     let interval =
-    decimal-split l m p q 44 44 (omega arith) (omega arith) (end ++ r) (end ++ r')
+    decimal_split l m p q 44 44 (omega arith) (omega arith) (end ++ r) (end ++ r')
     (sym (append_assoc (decimal l) (44 ∷ end) r) ∙ tail-eq_of_cons-eq flat ∙ append_assoc (decimal m) (44 ∷ end) r') in
     (interval.0, append_cancel_left end r r' interval.1)
 
@@ -77,10 +77,10 @@ record Sound (c : Content) : Type 0 where
   slots : Slots c.value c.mark (1440 / c.interval * c.days)
 
 -- the slots of a told list of days
-by-slot : (first first' : ℕ) (v w : ℕ → ℕ) (mark other : ℕ → Mark) (n D : ℕ) → 1 ≤ n
+by_slot : (first first' : ℕ) (v w : ℕ → ℕ) (mark other : ℕ → Mark) (n D : ℕ) → 1 ≤ n
     → ((d : ℕ) → 0 ≤ d → d < D → Told first first' v w mark other n d)
     → (i : ℕ) → i < n * D → (v i ≡ w i) × (mark i ≡ other i)
-by-slot first first' v w mark other n D some told i l =
+by_slot first first' v w mark other n D some told i l =
     let pos : 0 < n = omega arith in
     let turned : i < D * n = rw (mul_comm n D) at l in
     let day : i / n < D = (div-lt_iff_lt-mul pos).1 turned in
@@ -88,22 +88,22 @@ by-slot first first' v w mark other n D some told i l =
     let high : i < i / n * n + n = omega (arith, div-add-mod' i n, mod-lt i pos) in
     (told (i / n) (omega arith) day).1 i low high
 
-body-parts : (a b c d : List ℕ) → (a ++ (b ++ c)) ++ d ≡ a ++ (b ++ (c ++ d))
-body-parts a b c d = simp append_assoc
+body_parts : (a b c d : List ℕ) → (a ++ (b ++ c)) ++ d ≡ a ++ (b ++ (c ++ d))
+body_parts a b c d = simp append_assoc
 
-content-told : (t : Texts) (c d : Content) → Sound c → Sound d → export_of t c ≡ export_of t d → SameContent c d
-unfolding export_of body_of daysOf
-content-told t c d p q e =
+content_told : (t : Texts) (c d : Content) → Sound c → Sound d → export_of t c ≡ export_of t d → SameContent c d
+unfolding export_of body_of days_of
+content_told t c d p q e =
     let head : List ℕ = record100 t.created t.from t.to in
     let meter : ℕ → List ℕ =
-    λ l. record200 t.identifier t.configuration t.register t.suffix t.stream t.serial l t.nextRead in
-    let days : ℕ → Content → List ℕ = λ n x. daysOf t.reason t.created x.first x.value x.mark n x.days in
+    λ l. record200 t.identifier t.configuration t.register t.suffix t.stream t.serial l t.next_read in
+    let days : ℕ → Content → List ℕ = λ n x. days_of t.reason t.created x.first x.value x.mark n x.days in
     let flat =
     append_cancel_left head _ _
-    (sym (body-parts head (meter c.interval) (days (1440 / c.interval) c) record900) ∙ e
-    ∙ body-parts head (meter d.interval) (days (1440 / d.interval) d) record900) in
+    (sym (body_parts head (meter c.interval) (days (1440 / c.interval) c) record900) ∙ e
+    ∙ body_parts head (meter d.interval) (days (1440 / d.interval) d) record900) in
     let split =
-    split-200 t.identifier t.configuration t.register t.suffix t.stream t.serial t.nextRead c.interval d.interval
+    split_200 t.identifier t.configuration t.register t.suffix t.stream t.serial t.next_read c.interval d.interval
     p.short q.short
     (days (1440 / c.interval) c ++ record900) (days (1440 / d.interval) d ++ record900) flat in
     let n : ℕ = 1440 / c.interval in
@@ -114,7 +114,7 @@ content-told t c d p q e =
     days-split t.reason t.created c.first d.first c.value d.value c.mark d.mark n c.days d.days p.few
     p.some p.slots others p.dates
     q.dates c.days d.days 0 (omega arith) (omega arith) same in
-    let slot = by-slot c.first d.first c.value d.value c.mark d.mark n c.days p.some told.1 in
+    let slot = by_slot c.first d.first c.value d.value c.mark d.mark n c.days p.some told.1 in
     let begun : 0 < c.days = omega (arith, p.begun) in
     let start : c.first + 0 ≡ d.first + 0 = (told.1 0 (omega arith) begun).0 in
     record {
@@ -128,43 +128,43 @@ content-told t c d p q e =
 
 -- ---- The content of an accepted file
 
-cond-le : (b : Bool) (x y : ℕ) → x ≤ 99 → y ≤ 99 → cond b x y ≤ 99
-cond-le true x y p q = p
-cond-le false x y p q = q
+cond_le : (b : Bool) (x y : ℕ) → x ≤ 99 → y ≤ 99 → cond b x y ≤ 99
+cond_le true x y p q = p
+cond_le false x y p q = q
 
-code-le : (codes : Codes) → codesOk codes ≡ true → (method : ℕ) → codeFor codes method ≤ 99
-unfolding codesOk codeFor
-code-le codes ok method =
+code_le : (codes : Codes) → codes_ok codes ≡ true → (method : ℕ) → code_for codes method ≤ 99
+unfolding codes_ok code_for
+code_le codes ok method =
     let tests = leb codes.two 99 ∷ leb codes.three 99 ∷ leb codes.five 99 ∷ leb codes.eighteen 99 ∷ leb codes.nineteen 99
     ∷ [] in
-    cond-le (eqb method 2) _ _ (leb-true _ _ (passed tests ok 0))
-    (cond-le (eqb method 3) _ _ (leb-true _ _ (passed tests ok 1))
-    (cond-le (eqb method 5) _ _ (leb-true _ _ (passed tests ok 2))
-    (cond-le (eqb method 18) _ _ (leb-true _ _ (passed tests ok 3)) (leb-true _ _ (passed tests ok 4)))))
+    cond_le (eqb method 2) _ _ (leb-true _ _ (passed tests ok 0))
+    (cond_le (eqb method 3) _ _ (leb-true _ _ (passed tests ok 1))
+    (cond_le (eqb method 5) _ _ (leb-true _ _ (passed tests ok 2))
+    (cond_le (eqb method 18) _ _ (leb-true _ _ (passed tests ok 3)) (leb-true _ _ (passed tests ok 4)))))
 
-plain-mark : (codes : Codes) → codesOk codes ≡ true → (s : SlotRecord) → Plainly (mark_of codes s)
+plain_mark : (codes : Codes) → codes_ok codes ≡ true → (s : SlotRecord) → Plainly (mark_of codes s)
 unfolding mark_of
-plain-mark codes ok s = record {
-  small = cond-le (hasCode s.letter) (codeFor codes s.method) 0 (code-le codes ok s.method) (omega arith);
+plain_mark codes ok s = record {
+  small = cond_le (has_code s.letter) (code_for codes s.method) 0 (code_le codes ok s.method) (omega arith);
   none = λ e. rw e;
 }
 
-not-v : (s : SlotRecord) → recordOk s ≡ true → s.letter ≡ 86 → ⊥
-unfolding recordOk
-not-v s ok e =
-    let no : recordOk s ≡ false = rw e in
+not_v : (s : SlotRecord) → record_ok s ≡ true → s.letter ≡ 86 → ⊥
+unfolding record_ok
+not_v s ok e =
+    let no : record_ok s ≡ false = rw e in
     false≢true (sym no ∙ ok)
 
-sound : (bs : List ℕ) → Bytes bs → (g : Figures) → readFile bs ≡ verdict.Accepted g → (t : Texts) (codes : Codes)
-    → suppliedOk t codes ≡ true → Sound (contentOf codes bs)
-unfolding contentOf suppliedOk mark_of tablesOk
+sound : (bs : List ℕ) → Bytes bs → (g : Figures) → read_file bs ≡ verdict.Accepted g → (t : Texts) (codes : Codes)
+    → supplied_ok t codes ≡ true → Sound (content_of codes bs)
+unfolding content_of supplied_ok mark_of tables_ok
 sound bs b g e t codes ok =
-    let all-passed = tests-passed bs g e in
-    let head = (ready bs g all-passed.0.trailer).head in
+    let all_passed = tests_passed bs g e in
+    let head = (ready bs g all_passed.0.trailer).head in
     let table = tabled bs g e in
-    let is = sym (figures-are bs g e) in
-    let codes-ok : codesOk codes ≡ true = passed (suppliedTests t codes) ok 10 in
-    let records = passed (tableTests (tablesAt bs g)) all-passed.0.tables 0 in
+    let is = sym (figures_are bs g e) in
+    let codes-ok : codes_ok codes ≡ true = passed (supplied_tests t codes) ok 10 in
+    let records = passed (table_tests (tables_at bs g)) all_passed.0.tables 0 in
     subst (λ (f : Figures). Sound (record {
       first = f.first;
       days = f.days;
@@ -175,36 +175,36 @@ sound bs b g e t codes ok =
     (record {
       some = table.some;
       few = table.day;
-      short = interval-is g.first g.days g.interval head (λ x. x < 2 ^ 32) (omega arith) (omega arith) (omega arith);
-      begun = leb-true _ _ (passed (headFieldTests g.first g.days g.interval) head 1);
-      dates = dates-le bs g e;
+      short = interval_is g.first g.days g.interval head (λ x. x < 2 ^ 32) (omega arith) (omega arith) (omega arith);
+      begun = leb-true _ _ (passed (head_field_tests g.first g.days g.interval) head 1);
+      dates = dates_le bs g e;
       slots = record {
-        value = λ i. value-lt bs b i;
-        plain = λ i l. plain-mark codes codes-ok (slot_at bs i);
-        letter = λ i l. not-v (slot_at bs i) (all-at (λ j. recordOk (slot_at bs j)) (1440 / g.interval * g.days) records i l);
+        value = λ i. value_lt bs b i;
+        plain = λ i l. plain_mark codes codes-ok (slot_at bs i);
+        letter = λ i l. not_v (slot_at bs i) (all_at (λ j. record_ok (slot_at bs j)) (1440 / g.interval * g.days) records i l);
       };
     })
 
 -- ---- A call that answers a length
 
-module _ (bs : List ℕ) (t : Texts) (codes : Codes) (out : List ℕ) (m : ℕ) (e : exportAnswer bs t codes out ≡ Length m) where
+module _ (bs : List ℕ) (t : Texts) (codes : Codes) (out : List ℕ) (m : ℕ) (e : export_answer bs t codes out ≡ Length m) where
   -- the bytes up to the length are the export
-  written_is : take m (exportAfter bs t codes out) ≡ export_of t (contentOf codes bs)
-  unfolding exportAfter
+  written_is : take m (export_after bs t codes out) ≡ export_of t (content_of codes bs)
+  unfolding export_after
   written_is =
-      rw (e, ← (answer-is bs t codes out m e).long)
-      (take-append_seam (export_of t (contentOf codes bs)) (drop (length (export_of t (contentOf codes bs))) out))
+      rw (e, ← (answer_is bs t codes out m e).long)
+      (take-append_seam (export_of t (content_of codes bs)) (drop (length (export_of t (content_of codes bs))) out))
 
-pub equal-exactly : EqualExactly
-equal-exactly bs cs b c t codes out other m n e f =
-    let one = answer-is bs t codes out m e in
-    let two = answer-is cs t codes other n f in
+pub equal_exactly : EqualExactly
+equal_exactly bs cs b c t codes out other m n e f =
+    let one = answer_is bs t codes out m e in
+    let two = answer_is cs t codes other n f in
     let left = sound bs b one.figures one.accepted t codes one.supplied in
     let right = sound cs c two.figures two.accepted t codes two.supplied in
-    let texts : take m (exportAfter bs t codes out) ≡ export_of t (contentOf codes bs) = written_is bs t codes out m e in
-    let texts' : take n (exportAfter cs t codes other) ≡ export_of t (contentOf codes cs) = written_is cs t codes other n f in (
-      λ s. content-told t (contentOf codes bs) (contentOf codes cs) left right (sym texts ∙ s.1 ∙ texts'),
+    let texts : take m (export_after bs t codes out) ≡ export_of t (content_of codes bs) = written_is bs t codes out m e in
+    let texts' : take n (export_after cs t codes other) ≡ export_of t (content_of codes cs) = written_is cs t codes other n f in (
+      λ s. content_told t (content_of codes bs) (content_of codes cs) left right (sym texts ∙ s.1 ∙ texts'),
       λ s.
-          let same = content-same t (contentOf codes bs) (contentOf codes cs) right.some s in
+          let same = content_same t (content_of codes bs) (content_of codes cs) right.some s in
           (sym one.long ∙ ap length same ∙ two.long, texts ∙ same ∙ sym texts'),
     )

@@ -1,10 +1,10 @@
 -- The export of a file, and what the call answers (02, W8).
 use Rattle.std.specs.Prelude.{Bool, true, false, not, ◌&&◌, ◌||◌, List, [], ◌∷◌, ◌++◌, ℕ, ◌/◌, leb, eqb, length, get_or, drop}
-use Rattle.rules.specs.Numbers.{dayMinutes}
+use Rattle.rules.specs.Numbers.{day_minutes}
 use Rattle.base.specs.Lists.{every, all}
 use Rattle.file.specs.declared.Verdict.{Verdict}
 use Rattle.file.specs.declared.Verdict.TheVariants as verdict
-use Rattle.file.specs.Reader.{slot_at, figures, readFile}
+use Rattle.file.specs.Reader.{slot_at, figures, read_file}
 use Rattle.market.specs.declared.Codes.{Codes}
 use Rattle.market.specs.declared.Exported.{Exported}
 use Rattle.market.specs.declared.Exported.TheVariants.{Length, Refused}
@@ -12,7 +12,7 @@ use Rattle.market.specs.declared.checks.Class.{Class}
 use Rattle.market.specs.declared.checks.Class.TheVariants.{Identifier, Plain, Digit}
 use Rattle.market.specs.declared.marks.Mark.{Mark}
 use Rattle.market.specs.Fields.{Texts, mark_of}
-use Rattle.market.specs.Records.{record100, record200, record900, daysOf}
+use Rattle.market.specs.Records.{record100, record200, record900, days_of}
 
 -- ---- The export
 
@@ -25,8 +25,8 @@ pub record Content : Type 0 where
   pub mark : ℕ → Mark
 
 -- our reader's figures decide the content
-unfoldable pub contentOf : Codes → List ℕ → Content
-contentOf codes bs = record {
+unfoldable pub content_of : Codes → List ℕ → Content
+content_of codes bs = record {
   first = (figures bs).first;
   days = (figures bs).days;
   interval = (figures bs).interval;
@@ -38,8 +38,8 @@ contentOf codes bs = record {
 unfoldable pub body_of : Texts → Content → List ℕ
 body_of t c =
     record100 t.created t.from t.to
-    ++ (record200 t.identifier t.configuration t.register t.suffix t.stream t.serial c.interval t.nextRead
-    ++ daysOf t.reason t.created c.first c.value c.mark (dayMinutes / c.interval) c.days)
+    ++ (record200 t.identifier t.configuration t.register t.suffix t.stream t.serial c.interval t.next_read
+    ++ days_of t.reason t.created c.first c.value c.mark (day_minutes / c.interval) c.days)
 
 unfoldable pub export_of : Texts → Content → List ℕ
 export_of t c = body_of t c ++ record900
@@ -47,57 +47,57 @@ export_of t c = body_of t c ++ record900
 -- ---- Refusals
 
 -- the bytes that an identifier, another text and a creation time have
-abbrev pub inClass : Class → ℕ → Bool
-inClass Identifier b = (leb 48 b && leb b 57) || (leb 65 b && (leb b 90 && (not (eqb b 73) && not (eqb b 79))))
-inClass Plain b = leb 32 b && (leb b 126 && not (eqb b 44))
-inClass Digit b = leb 48 b && leb b 57
+abbrev pub in_class : Class → ℕ → Bool
+in_class Identifier b = (leb 48 b && leb b 57) || (leb 65 b && (leb b 90 && (not (eqb b 73) && not (eqb b 79))))
+in_class Plain b = leb 32 b && (leb b 126 && not (eqb b 44))
+in_class Digit b = leb 48 b && leb b 57
 
 unfoldable pub all_of : Class → List ℕ → Bool
-all_of k s = all (λ i. inClass k (get_or s i 0)) 0 (length s)
+all_of k s = all (λ i. in_class k (get_or s i 0)) 0 (length s)
 
 -- 14: not ten characters of A to Z without I and O, 0 to 9
-unfoldable pub identifierOk : List ℕ → Bool
-identifierOk s = eqb (length s) 10 && all_of Identifier s
+unfoldable pub identifier_ok : List ℕ → Bool
+identifier_ok s = eqb (length s) 10 && all_of Identifier s
 
 -- a creation time of 14 digits
-unfoldable pub timeOk : List ℕ → Bool
-timeOk s = eqb (length s) 14 && all_of Digit s
+unfoldable pub time_ok : List ℕ → Bool
+time_ok s = eqb (length s) 14 && all_of Digit s
 
 -- no method code over 99
-unfoldable pub codesOk : Codes → Bool
-codesOk c = every (leb c.two 99 ∷ leb c.three 99 ∷ leb c.five 99 ∷ leb c.eighteen 99 ∷ leb c.nineteen 99 ∷ [])
+unfoldable pub codes_ok : Codes → Bool
+codes_ok c = every (leb c.two 99 ∷ leb c.three 99 ∷ leb c.five 99 ∷ leb c.eighteen 99 ∷ leb c.nineteen 99 ∷ [])
 
 -- 15: a text with a comma or a byte outside 0x20 to 0x7E, a creation time of another form, a method code over 99
-abbrev pub suppliedTests : Texts → Codes → List Bool
-suppliedTests t c =
+abbrev pub supplied_tests : Texts → Codes → List Bool
+supplied_tests t c =
     all_of Plain t.from ∷ all_of Plain t.to
     ∷ all_of Plain t.configuration ∷ all_of Plain t.register ∷ all_of Plain t.suffix
-    ∷ all_of Plain t.stream ∷ all_of Plain t.serial ∷ all_of Plain t.nextRead
-    ∷ all_of Plain t.reason ∷ timeOk t.created ∷ codesOk c
+    ∷ all_of Plain t.stream ∷ all_of Plain t.serial ∷ all_of Plain t.next_read
+    ∷ all_of Plain t.reason ∷ time_ok t.created ∷ codes_ok c
     ∷ []
 
-unfoldable pub suppliedOk : Texts → Codes → Bool
-suppliedOk t c = every (suppliedTests t c)
+unfoldable pub supplied_ok : Texts → Codes → Bool
+supplied_ok t c = every (supplied_tests t c)
 
 -- ---- The answer
 
 -- each case, in the order 8, 9, 14, 15, 7
-abbrev pub exportBy : Verdict → Bool → Bool → Bool → ℕ → Exported
-exportBy (verdict.Refused number) identifier supplied room long = Refused number
-exportBy (verdict.Accepted g) false supplied room long = Refused 14
-exportBy (verdict.Accepted g) true false room long = Refused 15
-exportBy (verdict.Accepted g) true true false long = Refused 7
-exportBy (verdict.Accepted g) true true true long = Length long
+abbrev pub export_by : Verdict → Bool → Bool → Bool → ℕ → Exported
+export_by (verdict.Refused number) identifier supplied room long = Refused number
+export_by (verdict.Accepted g) false supplied room long = Refused 14
+export_by (verdict.Accepted g) true false room long = Refused 15
+export_by (verdict.Accepted g) true true false long = Refused 7
+export_by (verdict.Accepted g) true true true long = Length long
 
-unfoldable pub exportAnswer : List ℕ → Texts → Codes → List ℕ → Exported
-exportAnswer bs t codes out =
-    let e = export_of t (contentOf codes bs) in
-    exportBy (readFile bs) (identifierOk t.identifier) (suppliedOk t codes) (leb (length e) (length out)) (length e)
+unfoldable pub export_answer : List ℕ → Texts → Codes → List ℕ → Exported
+export_answer bs t codes out =
+    let e = export_of t (content_of codes bs) in
+    export_by (read_file bs) (identifier_ok t.identifier) (supplied_ok t codes) (leb (length e) (length out)) (length e)
 
 -- the export stands at the start, and bytes after it are unchanged; a refusal changes no byte
-abbrev pub outAfter : Exported → List ℕ → List ℕ → List ℕ
-outAfter (Length long) e out = e ++ drop (length e) out
-outAfter (Refused number) e out = out
+abbrev pub out_after : Exported → List ℕ → List ℕ → List ℕ
+out_after (Length long) e out = e ++ drop (length e) out
+out_after (Refused number) e out = out
 
-unfoldable pub exportAfter : List ℕ → Texts → Codes → List ℕ → List ℕ
-exportAfter bs t codes out = outAfter (exportAnswer bs t codes out) (export_of t (contentOf codes bs)) out
+unfoldable pub export_after : List ℕ → Texts → Codes → List ℕ → List ℕ
+export_after bs t codes out = out_after (export_answer bs t codes out) (export_of t (content_of codes bs)) out

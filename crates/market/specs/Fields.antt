@@ -3,7 +3,7 @@ use Rattle.std.specs.Prelude.{Bool, true, false, cond, not, ◌&&◌, ◌||◌, 
 use Rattle.std.specs.Borrow.{Bor}
 use Rattle.base.specs.Lists.{all}
 use Rattle.base.specs.Text.{ascii}
-use Rattle.calendar.specs.Calendar.{dateOf}
+use Rattle.calendar.specs.Calendar.{date_of}
 use Rattle.rules.specs.declared.Quality.TheVariants.{S, F}
 use Rattle.file.specs.declared.slots.SlotRecord.{SlotRecord}
 use Rattle.file.specs.Layout.{letter}
@@ -21,12 +21,12 @@ pub record Texts : Type 0 where
   pub suffix : List ℕ
   pub stream : List ℕ
   pub serial : List ℕ
-  pub nextRead : List ℕ
+  pub next_read : List ℕ
   pub reason : List ℕ
   pub created : List ℕ
 
 abbrev pub texts : List ℕ → List ℕ → List ℕ → List ℕ → List ℕ → List ℕ → List ℕ → List ℕ → List ℕ → List ℕ → List ℕ → Texts
-texts identifier from to configuration register suffix stream serial nextRead reason created = record {
+texts identifier from to configuration register suffix stream serial next_read reason created = record {
   identifier = identifier;
   from = from;
   to = to;
@@ -35,16 +35,16 @@ texts identifier from to configuration register suffix stream serial nextRead re
   suffix = suffix;
   stream = stream;
   serial = serial;
-  nextRead = nextRead;
+  next_read = next_read;
   reason = reason;
   created = created;
 }
 
 -- lent, as the contracts name them
-abbrev pub lentTexts : Bor (List ℕ) → Bor (List ℕ) → Bor (List ℕ) → Bor (List ℕ) → Bor (List ℕ) → Bor (List ℕ) → Bor (List ℕ)
+abbrev pub lent_texts : Bor (List ℕ) → Bor (List ℕ) → Bor (List ℕ) → Bor (List ℕ) → Bor (List ℕ) → Bor (List ℕ) → Bor (List ℕ)
     → Bor (List ℕ) → Bor (List ℕ) → Bor (List ℕ) → Bor (List ℕ) → Texts
-lentTexts identifier from to configuration register suffix stream serial nextRead reason created =
-    texts identifier.now from.now to.now configuration.now register.now suffix.now stream.now serial.now nextRead.now
+lent_texts identifier from to configuration register suffix stream serial next_read reason created =
+    texts identifier.now from.now to.now configuration.now register.now suffix.now stream.now serial.now next_read.now
     reason.now created.now
 
 -- ---- Fields and records
@@ -65,23 +65,23 @@ joined f a (suc k) = joined f a k ++ f (a + k)
 
 -- ---- Numbers
 
--- a value in kWh with three decimals; no leading zero but that of 0.100
+-- a value in k_wh with three decimals; no leading zero but that of 0.100
 unfoldable pub kwh : ℕ → List ℕ
 kwh v = decimal (v / 1000) ++ (ascii "." ++ digits 3 v)
 
 -- a day's date: YYYYMMDD
-unfoldable pub dateField : ℕ → List ℕ
-dateField day = digits 4 (dateOf day).year ++ (digits 2 (dateOf day).month ++ digits 2 (dateOf day).day)
+unfoldable pub date_field : ℕ → List ℕ
+date_field day = digits 4 (date_of day).year ++ (digits 2 (date_of day).month ++ digits 2 (date_of day).day)
 
 -- ---- Quality and method
 
 -- S and F are written with method and reason code, A, N and V with neither
-abbrev pub hasCode : ℕ → Bool
-hasCode l = eqb l (letter S) || eqb l (letter F)
+abbrev pub has_code : ℕ → Bool
+has_code l = eqb l (letter S) || eqb l (letter F)
 
 -- the caller's code for each of the methods 2, 3, 5, 18 and 19
-unfoldable pub codeFor : Codes → ℕ → ℕ
-codeFor c method =
+unfoldable pub code_for : Codes → ℕ → ℕ
+code_for c method =
     cond (eqb method 2) c.two
     (cond (eqb method 3) c.three
     (cond (eqb method 5) c.five
@@ -89,7 +89,7 @@ codeFor c method =
 
 -- a slot's written quality is its letter, its written method the caller's code for S and F and none, 0, for A and N
 unfoldable pub mark_of : Codes → SlotRecord → Mark
-mark_of c r = record { letter = r.letter; code = cond (hasCode r.letter) (codeFor c r.method) 0 }
+mark_of c r = record { letter = r.letter; code = cond (has_code r.letter) (code_for c r.method) 0 }
 
 -- V (86) in a 300 says that the quality varies
 abbrev pub varies : Mark
@@ -97,14 +97,14 @@ varies = record { letter = 86; code = 0 }
 
 -- one letter, and behind it a two-digit method for S and F
 abbrev pub quality : Mark → List ℕ
-quality m = m.letter ∷ cond (hasCode m.letter) (digits 2 m.code) []
+quality m = m.letter ∷ cond (has_code m.letter) (digits 2 m.code) []
 
-abbrev pub reasonFor : Mark → List ℕ → List ℕ
-reasonFor m reason = cond (hasCode m.letter) reason []
+abbrev pub reason_for : Mark → List ℕ → List ℕ
+reason_for m reason = cond (has_code m.letter) reason []
 
 -- QualityMethod, ReasonCode, ReasonDescription
 unfoldable pub marked : Mark → List ℕ → List ℕ
-marked m reason = field (quality m) ++ (field (reasonFor m reason) ++ field [])
+marked m reason = field (quality m) ++ (field (reason_for m reason) ++ field [])
 
 -- ---- A day's slots: n from slot a, with these written qualities and methods
 
@@ -114,19 +114,19 @@ alike p q = eqb p.letter q.letter && eqb p.code q.code
 
 module _ (mark : ℕ → Mark) (a n : ℕ) where
   -- all slots are alike
-  unfoldable pub oneMark : Bool
-  oneMark = all (λ j. alike (mark a) (mark (a + j))) 0 n
+  unfoldable pub one_mark : Bool
+  one_mark = all (λ j. alike (mark a) (mark (a + j))) 0 n
 
   -- the longest run that holds slot j ends with it: it is the day's last, or the next is not alike
-  unfoldable pub endsRun : ℕ → Bool
-  endsRun j = eqb (j + 1) n || not (alike (mark (a + j)) (mark (a + (j + 1))))
+  unfoldable pub ends_run : ℕ → Bool
+  ends_run j = eqb (j + 1) n || not (alike (mark (a + j)) (mark (a + (j + 1))))
 
   -- the first slot of that run
   unfoldable pub start_of : ℕ → ℕ
   start_of zero = 0
-  start_of (suc j) = cond (endsRun j) (suc j) (start_of j)
+  start_of (suc j) = cond (ends_run j) (suc j) (start_of j)
 
 -- a day whose slots are alike has its quality in the 300, any other V
-abbrev pub dayMark : Bool → Mark → Mark
-dayMark true m = m
-dayMark false m = varies
+abbrev pub day_mark : Bool → Mark → Mark
+day_mark true m = m
+day_mark false m = varies

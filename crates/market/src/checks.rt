@@ -1,7 +1,7 @@
 // What the caller supplies: what is refused with 14 and 15.
 ghost use Rattle.std.specs.Prelude.{◌&&◌, [], ◌∷◌, ◌≡◌};
 ghost use Rattle.base.specs.Lists.{every};
-ghost use Rattle.market.specs.Export.{inClass, all_of, identifierOk, timeOk, codesOk, suppliedOk};
+ghost use Rattle.market.specs.Export.{in_class, all_of, identifier_ok, time_ok, codes_ok, supplied_ok};
 ghost use Rattle.market.specs.Fields.{texts};
 ghost use Rattle.market.specs.declared.checks.Class.TheVariants.{Identifier, Plain, Digit};
 
@@ -16,7 +16,7 @@ pub enum Class {
 }
 
 fn is_digit(byte: u8) -> bool
-    ensures { result ≡ inClass Digit byte }
+    ensures { result ≡ in_class Digit byte }
 {
     if byte < b'0' {
         return false;
@@ -26,7 +26,7 @@ fn is_digit(byte: u8) -> bool
 
 // A to Z without I and O, 0 to 9.
 fn is_identifier(byte: u8) -> bool
-    ensures { result ≡ inClass Identifier byte }
+    ensures { result ≡ in_class Identifier byte }
 {
     if is_digit(byte) {
         return true;
@@ -42,7 +42,7 @@ fn is_identifier(byte: u8) -> bool
 
 // 0x20 to 0x7E without the comma.
 fn is_plain(byte: u8) -> bool
-    ensures { result ≡ inClass Plain byte }
+    ensures { result ≡ in_class Plain byte }
 {
     if byte < 32 {
         return false;
@@ -54,7 +54,7 @@ fn is_plain(byte: u8) -> bool
 }
 
 fn is_in(class: Class, byte: u8) -> bool
-    ensures { result ≡ inClass class byte }
+    ensures { result ≡ in_class class byte }
 {
     match class {
         Class::Identifier => is_identifier(byte),
@@ -78,7 +78,7 @@ pub fn all_of(class: Class, text: &[u8]) -> bool
 }
 
 pub fn is_meter(identifier: &[u8]) -> bool
-    ensures { result ≡ identifierOk identifier.now }
+    ensures { result ≡ identifier_ok identifier.now }
 {
     if identifier.len() != 10 {
         return false;
@@ -87,7 +87,7 @@ pub fn is_meter(identifier: &[u8]) -> bool
 }
 
 fn is_time(created: &[u8]) -> bool
-    ensures { result ≡ timeOk created.now }
+    ensures { result ≡ time_ok created.now }
 {
     if created.len() != 14 {
         return false;
@@ -96,7 +96,7 @@ fn is_time(created: &[u8]) -> bool
 }
 
 fn are_codes(codes: Codes) -> bool
-    ensures { result ≡ codesOk codes }
+    ensures { result ≡ codes_ok codes }
 {
     if 99 < codes.two {
         return false;
@@ -153,7 +153,7 @@ fn are_headers(
 
 // The reason code, the creation time and the method codes.
 fn are_reason_time_codes(reason: &[u8], created: &[u8], codes: Codes) -> bool
-    ensures { result ≡ every (all_of Plain reason.now ∷ timeOk created.now ∷ codesOk codes ∷ []) }
+    ensures { result ≡ every (all_of Plain reason.now ∷ time_ok created.now ∷ codes_ok codes ∷ []) }
 {
     if !all_of(Class::Plain, reason) {
         return false;
@@ -181,7 +181,7 @@ pub fn are_supplied(
     ensures { let given =
         texts [] from.now to.now configuration.now register.now suffix.now
         stream.now serial.now next_read.now reason.now created.now in
-        result ≡ suppliedOk given codes }
+        result ≡ supplied_ok given codes }
 {
     if !are_headers(
         from,

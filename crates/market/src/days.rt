@@ -1,10 +1,10 @@
 // The records 300 and 400.
 ghost use Rattle.std.specs.Prelude.{cond, [], ◌≡◌, ℕ, ◌+◌, ◌*◌, ◌≤◌, ◌<◌, length};
-ghost use Rattle.calendar.specs.Calendar.{dayCount};
+ghost use Rattle.calendar.specs.Calendar.{day_count};
 ghost use Rattle.file.specs.Reader.{slot_at};
 ghost use Rattle.market.specs.declared.marks.Mark.{Mark};
-ghost use Rattle.market.specs.Fields.{field, joined, kwh, dateField, mark_of};
-ghost use Rattle.market.specs.Records.{record300, record400, runs, dayRecords, daysOf};
+ghost use Rattle.market.specs.Fields.{field, joined, kwh, date_field, mark_of};
+ghost use Rattle.market.specs.Records.{record300, record400, runs, day_records, days_of};
 ghost use Rattle.file.specs.Inner.Reading.{Tabled};
 ghost use Rattle.line.specs.Inner.Writing.{Added};
 
@@ -49,8 +49,8 @@ fn put_values(out: &mut [u8], at: usize, file: &[u8], a: usize, k: usize) -> usi
 }
 
 fn put_date(out: &mut [u8], at: usize, number: u32) -> usize
-    requires { number < dayCount }
-    ensures { Added out.old at out.new result (dateField number) }
+    requires { number < day_count }
+    ensures { Added out.old at out.new result (date_field number) }
 {
     let date = calendar::date_of(number);
     let year = put_digits(out, at, 4, date.year as u64);
@@ -68,7 +68,7 @@ fn put_300(
     reason: &[u8],
     created: &[u8],
 ) -> usize
-    requires { (6 * (day.from + day.slots) ≤ length file.now) × (day.number < dayCount) }
+    requires { (6 * (day.from + day.slots) ≤ length file.now) × (day.number < day_count) }
     ensures { (let value : ℕ → ℕ = λ i. (slot_at file.now i).value in
         let text = record300 reason.now created.now day.number value day.from day.slots mark in
         Added out.old at out.new result text) }
@@ -157,10 +157,10 @@ fn put_day(
     reason: &[u8],
     created: &[u8],
 ) -> usize
-    requires { (6 * (day.from + day.slots) ≤ length file.now) × (1 ≤ day.slots) × (day.number < dayCount) }
+    requires { (6 * (day.from + day.slots) ≤ length file.now) × (1 ≤ day.slots) × (day.number < day_count) }
     ensures { (let value : ℕ → ℕ = λ i. (slot_at file.now i).value in
         let marks : ℕ → Mark = λ i. mark_of codes (slot_at file.now i) in
-        let text = dayRecords reason.now created.now day.number value marks day.from day.slots in
+        let text = day_records reason.now created.now day.number value marks day.from day.slots in
         Added out.old at out.new result text) }
 {
     let one = marks::are_all_alike(file, codes, day.from, day.slots);
@@ -184,10 +184,10 @@ pub fn put_days(
     reason: &[u8],
     created: &[u8],
 ) -> usize
-    requires { Tabled file.now n days × (first + days ≤ dayCount) }
+    requires { Tabled file.now n days × (first + days ≤ day_count) }
     ensures { (let value : ℕ → ℕ = λ i. (slot_at file.now i).value in
         let marks : ℕ → Mark = λ i. mark_of codes (slot_at file.now i) in
-        Added out.old at out.new result (daysOf reason.now created.now first value marks n days)) }
+        Added out.old at out.new result (days_of reason.now created.now first value marks n days)) }
 {
     let mut next = at;
     let mut d: u32 = 0;

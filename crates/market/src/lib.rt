@@ -7,9 +7,9 @@ mod writing;
 
 ghost use Rattle.std.specs.Prelude.{true, ◌≡◌, ◌+◌, ◌^◌, ◌<◌, leb, length};
 ghost use Rattle.file.specs.declared.Verdict.TheVariants.{Accepted};
-ghost use Rattle.file.specs.Reader.{readFile};
-ghost use Rattle.market.specs.Fields.{lentTexts};
-ghost use Rattle.market.specs.Export.{contentOf, body_of, identifierOk, suppliedOk, exportAnswer, exportAfter};
+ghost use Rattle.file.specs.Reader.{read_file};
+ghost use Rattle.market.specs.Fields.{lent_texts};
+ghost use Rattle.market.specs.Export.{content_of, body_of, identifier_ok, supplied_ok, export_answer, export_after};
 ghost use Rattle.line.specs.Inner.Writing.{capped, Added};
 
 use file::{Figures, Verdict};
@@ -50,10 +50,10 @@ fn put_body(
     created: &[u8],
     codes: Codes,
 ) -> usize
-    requires { (readFile file.now ≡ Accepted g) × (length created.now ≡ 14) }
-    ensures { let texts = lentTexts identifier.entry from.entry to.entry configuration.entry register.entry suffix.entry
+    requires { (read_file file.now ≡ Accepted g) × (length created.now ≡ 14) }
+    ensures { let texts = lent_texts identifier.entry from.entry to.entry configuration.entry register.entry suffix.entry
         stream.entry serial.entry next_read.entry reason.entry created.entry in
-        Added out.old 0 out.new result (body_of texts (contentOf codes file.now)) }
+        Added out.old 0 out.new result (body_of texts (content_of codes file.now)) }
 {
     let head = headers::put_100(out, 0, created, from, to);
     let meter = headers::put_200(
@@ -89,10 +89,10 @@ fn body_length(
     created: &[u8],
     codes: Codes,
 ) -> usize
-    requires { (readFile file.now ≡ Accepted g) × (length created.now ≡ 14) }
-    ensures { let texts = lentTexts identifier.entry from.entry to.entry configuration.entry register.entry suffix.entry
+    requires { (read_file file.now ≡ Accepted g) × (length created.now ≡ 14) }
+    ensures { let texts = lent_texts identifier.entry from.entry to.entry configuration.entry register.entry suffix.entry
         stream.entry serial.entry next_read.entry reason.entry created.entry in
-        result ≡ capped (length (body_of texts (contentOf codes file.now))) }
+        result ≡ capped (length (body_of texts (content_of codes file.now))) }
 {
     let mut aside = [0u8; 1];
     put_body(
@@ -142,14 +142,14 @@ fn export_in(
     codes: Codes,
     out: &mut [u8],
 ) -> Exported
-    requires { let texts = lentTexts identifier from to configuration register suffix stream serial next_read reason created in
-        (readFile file.now ≡ Accepted g)
-        × (identifierOk identifier.now ≡ true)
-        × (suppliedOk texts codes ≡ true) }
-    ensures { let texts = lentTexts identifier.entry from.entry to.entry configuration.entry register.entry suffix.entry
+    requires { let texts = lent_texts identifier from to configuration register suffix stream serial next_read reason created in
+        (read_file file.now ≡ Accepted g)
+        × (identifier_ok identifier.now ≡ true)
+        × (supplied_ok texts codes ≡ true) }
+    ensures { let texts = lent_texts identifier.entry from.entry to.entry configuration.entry register.entry suffix.entry
         stream.entry serial.entry next_read.entry reason.entry created.entry in
-        (result ≡ exportAnswer file.now texts codes out.old)
-        × (out.new ≡ exportAfter file.now texts codes out.old) }
+        (result ≡ export_answer file.now texts codes out.old)
+        × (out.new ≡ export_after file.now texts codes out.old) }
 {
     let body = body_length(
         file,
@@ -209,11 +209,11 @@ fn export_of(
     codes: Codes,
     out: &mut [u8],
 ) -> Exported
-    requires { readFile file.now ≡ Accepted g }
-    ensures { let texts = lentTexts identifier.entry from.entry to.entry configuration.entry register.entry suffix.entry
+    requires { read_file file.now ≡ Accepted g }
+    ensures { let texts = lent_texts identifier.entry from.entry to.entry configuration.entry register.entry suffix.entry
         stream.entry serial.entry next_read.entry reason.entry created.entry in
-        (result ≡ exportAnswer file.now texts codes out.old)
-        × (out.new ≡ exportAfter file.now texts codes out.old) }
+        (result ≡ export_answer file.now texts codes out.old)
+        × (out.new ≡ export_after file.now texts codes out.old) }
 {
     if !checks::is_meter(identifier) {
         return Exported::Refused(14);
@@ -269,10 +269,10 @@ pub fn nem12(
     codes: Codes,
     out: &mut [u8],
 ) -> Exported
-    ensures { let texts = lentTexts identifier.entry from.entry to.entry configuration.entry register.entry suffix.entry
+    ensures { let texts = lent_texts identifier.entry from.entry to.entry configuration.entry register.entry suffix.entry
         stream.entry serial.entry next_read.entry reason.entry created.entry in
-        (result ≡ exportAnswer file.now texts codes out.old)
-        × (out.new ≡ exportAfter file.now texts codes out.old) }
+        (result ≡ export_answer file.now texts codes out.old)
+        × (out.new ≡ export_after file.now texts codes out.old) }
 {
     match file::read(file) {
         Verdict::Accepted(g) => export_of(

@@ -1,7 +1,7 @@
 // A slot's written quality and method.
 ghost use Rattle.std.specs.Prelude.{◌≡◌, ◌+◌, ◌*◌, ◌≤◌, length};
 ghost use Rattle.file.specs.Reader.{slot_at};
-ghost use Rattle.market.specs.Fields.{hasCode, codeFor, mark_of, alike, marked, oneMark, dayMark, endsRun};
+ghost use Rattle.market.specs.Fields.{has_code, code_for, mark_of, alike, marked, one_mark, day_mark, ends_run};
 ghost use Rattle.line.specs.Inner.Writing.{Added};
 
 use crate::Codes;
@@ -17,13 +17,13 @@ pub struct Mark {
 
 // S and F are written with method and reason code.
 fn has_code(letter: u8) -> bool
-    ensures { result ≡ hasCode letter }
+    ensures { result ≡ has_code letter }
 {
     letter == b'S' || letter == b'F'
 }
 
 fn code_for(codes: Codes, method: u8) -> u32
-    ensures { result ≡ codeFor codes method }
+    ensures { result ≡ code_for codes method }
 {
     if method == 2 {
         return codes.two;
@@ -72,7 +72,7 @@ pub fn are_alike(a: Mark, b: Mark) -> bool
 // The `n` slots from slot `a` are alike.
 pub fn are_all_alike(file: &[u8], codes: Codes, a: usize, n: usize) -> bool
     requires { (6 * (a + n) ≤ length file.now) × (1 ≤ n) }
-    ensures { result ≡ oneMark (λ i. mark_of codes (slot_at file.now i)) a n }
+    ensures { result ≡ one_mark (λ i. mark_of codes (slot_at file.now i)) a n }
 {
     let first = mark_at(file, codes, a);
     let mut j = 0;
@@ -88,7 +88,7 @@ pub fn are_all_alike(file: &[u8], codes: Codes, a: usize, n: usize) -> bool
 // The mark of a day: V where its slots are not alike.
 pub fn day_mark(file: &[u8], codes: Codes, a: usize, one: bool) -> Mark
     requires { 6 * (a + 1) ≤ length file.now }
-    ensures { result ≡ dayMark one (mark_of codes (slot_at file.now a)) }
+    ensures { result ≡ day_mark one (mark_of codes (slot_at file.now a)) }
 {
     if one {
         return mark_at(file, codes, a);
@@ -102,7 +102,7 @@ pub fn day_mark(file: &[u8], codes: Codes, a: usize, one: bool) -> Mark
 // A run of slots alike ends with the day's slot `j`.
 pub fn ends_run(file: &[u8], codes: Codes, a: usize, n: usize, j: usize) -> bool
     requires { (6 * (a + n) ≤ length file.now) × (j + 1 ≤ n) }
-    ensures { result ≡ endsRun (λ i. mark_of codes (slot_at file.now i)) a n j }
+    ensures { result ≡ ends_run (λ i. mark_of codes (slot_at file.now i)) a n j }
 {
     if j + 1 == n {
         return true;

@@ -1,84 +1,84 @@
 -- What checking and playing a log answer and leave, from what its bytes are.
 use Rattle.std.specs.Prelude.{Bool, cond, ◌&&◌, List, [], ◌∷◌, ℕ, eqb, length}
 use Rattle.rules.specs.declared.Head.{Head}
-use Rattle.book.specs.Answers.{answerCode}
+use Rattle.book.specs.Answers.{answer_code}
 use Rattle.book.specs.Arguments.{Call}
-use Rattle.book.specs.Cells.{Book, bookFits}
+use Rattle.book.specs.Cells.{Book, book_fits}
 use Rattle.book.specs.Opening.{opened}
-use Rattle.book.specs.Filling.{answer, after, afterAll}
-use Rattle.log.specs.Log.{lines, Item, items, callsIn, Reading, read_log}
+use Rattle.book.specs.Filling.{answer, after, after_all}
+use Rattle.log.specs.Log.{lines, Item, items, calls_in, Reading, read_log}
 use Rattle.log.specs.Log.Item.{passed, table, opening, call, neither}
-use Rattle.log.specs.Log.Reading.{log, noOpening, notACall, refused}
+use Rattle.log.specs.Log.Reading.{log, no_opening, not_a_call, refused}
 use Rattle.play.specs.declared.Checked.{Checked}
 use Rattle.play.specs.declared.Checked.TheVariants as coded
 use Rattle.play.specs.declared.Played.{Played}
 use Rattle.play.specs.declared.Played.TheVariants.{AsChecked, Lengths}
 
 -- the filling calls of a log, in order
-abbrev pub logCalls : List ℕ → List Call
-logCalls bytes = callsIn (items bytes)
+abbrev pub log_calls : List ℕ → List Call
+log_calls bytes = calls_in (items bytes)
 
 -- a log: its head, how many lines it has, and how many filling calls
-unfoldable pub checkedOf : List ℕ → Reading → Checked
-checkedOf bytes (log h) = coded.Log h (length (lines bytes)) (length (logCalls bytes))
-checkedOf bytes noOpening = coded.NoOpening
-checkedOf bytes (notACall n) = coded.NotACall n
-checkedOf bytes (refused n k) = coded.Refused n k
+unfoldable pub checked_of : List ℕ → Reading → Checked
+checked_of bytes (log h) = coded.Log h (length (lines bytes)) (length (log_calls bytes))
+checked_of bytes no_opening = coded.NoOpening
+checked_of bytes (not_a_call n) = coded.NotACall n
+checked_of bytes (refused n k) = coded.Refused n k
 
 unfoldable pub checked : List ℕ → Checked
-checked bytes = checkedOf bytes (read_log bytes)
+checked bytes = checked_of bytes (read_log bytes)
 
 -- the ten lists have the lengths of the head, and there is a byte of answers for each line
-unfoldable pub lengthsOk : List ℕ → Head → Book → List ℕ → Bool
-lengthsOk bytes h b answers = bookFits h b && eqb (length answers) (length (lines bytes))
+unfoldable pub lengths_ok : List ℕ → Head → Book → List ℕ → Bool
+lengths_ok bytes h b answers = book_fits h b && eqb (length answers) (length (lines bytes))
 
 -- the answer's code of a filling call (0 stored, 100 late, 101 repeat, or a refusal's number), 102 for the opening, 103 for a line
 -- without a call
-unfoldable pub itemCode : Head → Book → Item → ℕ
-itemCode h b passed = 103
-itemCode h b (table t) = 103
-itemCode h b (opening o) = 102
-itemCode h b (call c) = answerCode (answer h b c)
-itemCode h b neither = 103
+unfoldable pub item_code : Head → Book → Item → ℕ
+item_code h b passed = 103
+item_code h b (table t) = 103
+item_code h b (opening o) = 102
+item_code h b (call c) = answer_code (answer h b c)
+item_code h b neither = 103
 
-unfoldable pub afterItem : Head → Book → Item → Book
-afterItem h b passed = b
-afterItem h b (table t) = b
-afterItem h b (opening o) = b
-afterItem h b (call c) = after h b c
-afterItem h b neither = b
+unfoldable pub after_item : Head → Book → Item → Book
+after_item h b passed = b
+after_item h b (table t) = b
+after_item h b (opening o) = b
+after_item h b (call c) = after h b c
+after_item h b neither = b
 
 -- a byte for each line, each call given the lists as the one before left them
 unfoldable pub codes : Head → Book → List Item → List ℕ
 codes h b [] = []
-codes h b (x ∷ xs) = itemCode h b x ∷ codes h (afterItem h b x) xs
+codes h b (x ∷ xs) = item_code h b x ∷ codes h (after_item h b x) xs
 
 -- playing answers as checking does, and 2 for lengths that are wrong
-unfoldable pub playedAs : List ℕ → Book → List ℕ → Reading → Played
-playedAs bytes b answers (log h) = cond (lengthsOk bytes h b answers) (AsChecked (checked bytes)) Lengths
-playedAs bytes b answers noOpening = AsChecked (checked bytes)
-playedAs bytes b answers (notACall n) = AsChecked (checked bytes)
-playedAs bytes b answers (refused n k) = AsChecked (checked bytes)
+unfoldable pub played_as : List ℕ → Book → List ℕ → Reading → Played
+played_as bytes b answers (log h) = cond (lengths_ok bytes h b answers) (AsChecked (checked bytes)) Lengths
+played_as bytes b answers no_opening = AsChecked (checked bytes)
+played_as bytes b answers (not_a_call n) = AsChecked (checked bytes)
+played_as bytes b answers (refused n k) = AsChecked (checked bytes)
 
-unfoldable pub playAnswer : List ℕ → Book → List ℕ → Played
-playAnswer bytes b answers = playedAs bytes b answers (read_log bytes)
+unfoldable pub play_answer : List ℕ → Book → List ℕ → Played
+play_answer bytes b answers = played_as bytes b answers (read_log bytes)
 
 -- the lists after the calls, in order after opening; a refusal leaves them
-unfoldable pub listsAs : List ℕ → Book → List ℕ → Reading → Book
-listsAs bytes b answers (log h) = cond (lengthsOk bytes h b answers) (afterAll h (opened h) (logCalls bytes)) b
-listsAs bytes b answers noOpening = b
-listsAs bytes b answers (notACall n) = b
-listsAs bytes b answers (refused n k) = b
+unfoldable pub lists_as : List ℕ → Book → List ℕ → Reading → Book
+lists_as bytes b answers (log h) = cond (lengths_ok bytes h b answers) (after_all h (opened h) (log_calls bytes)) b
+lists_as bytes b answers no_opening = b
+lists_as bytes b answers (not_a_call n) = b
+lists_as bytes b answers (refused n k) = b
 
-unfoldable pub playAfter : List ℕ → Book → List ℕ → Book
-playAfter bytes b answers = listsAs bytes b answers (read_log bytes)
+unfoldable pub play_after : List ℕ → Book → List ℕ → Book
+play_after bytes b answers = lists_as bytes b answers (read_log bytes)
 
 -- the answers; a refusal leaves them
-unfoldable pub answersAs : List ℕ → Book → List ℕ → Reading → List ℕ
-answersAs bytes b answers (log h) = cond (lengthsOk bytes h b answers) (codes h (opened h) (items bytes)) answers
-answersAs bytes b answers noOpening = answers
-answersAs bytes b answers (notACall n) = answers
-answersAs bytes b answers (refused n k) = answers
+unfoldable pub answers_as : List ℕ → Book → List ℕ → Reading → List ℕ
+answers_as bytes b answers (log h) = cond (lengths_ok bytes h b answers) (codes h (opened h) (items bytes)) answers
+answers_as bytes b answers no_opening = answers
+answers_as bytes b answers (not_a_call n) = answers
+answers_as bytes b answers (refused n k) = answers
 
-unfoldable pub answersAfter : List ℕ → Book → List ℕ → List ℕ
-answersAfter bytes b answers = answersAs bytes b answers (read_log bytes)
+unfoldable pub answers_after : List ℕ → Book → List ℕ → List ℕ
+answers_after bytes b answers = answers_as bytes b answers (read_log bytes)

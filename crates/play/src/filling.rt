@@ -1,14 +1,14 @@
 // The lines of a log made on the ten lists, each given them as the line before left them.
 ghost use Rattle.std.specs.Prelude.{true, ◌≡◌, length};
-ghost use Rattle.rules.specs.Opening.{headOk};
-ghost use Rattle.book.specs.Lent.{lentBook};
-ghost use Rattle.book.specs.Answers.{answerCode, receivedMeant, openedMeant};
-ghost use Rattle.book.specs.Cells.{bookFits};
-ghost use Rattle.book.specs.Filling.{afterAll};
-ghost use Rattle.log.specs.declared.limits.Limits.{Limits as limitsType};
-ghost use Rattle.log.specs.Log.{itemIn, items, lines as lines_of};
-ghost use Rattle.play.specs.Playing.{itemCode, afterItem, codes, logCalls};
-ghost use Rattle.play.specs.Inner.Filling.{isDone};
+ghost use Rattle.rules.specs.Opening.{head_ok};
+ghost use Rattle.book.specs.Lent.{lent_book};
+ghost use Rattle.book.specs.Answers.{answer_code, received_meant, opened_meant};
+ghost use Rattle.book.specs.Cells.{book_fits};
+ghost use Rattle.book.specs.Filling.{after_all};
+ghost use Rattle.log.specs.declared.limits.Limits.{Limits as limits_type};
+ghost use Rattle.log.specs.Log.{item_in, items, lines as lines_of};
+ghost use Rattle.play.specs.Playing.{item_code, after_item, codes, log_calls};
+ghost use Rattle.play.specs.Inner.Filling.{is_done};
 
 use base::Performed;
 use book::{Received, calls};
@@ -17,7 +17,7 @@ use log::lines;
 use rules::Head;
 
 pub fn is_done(opened: Performed) -> bool
-    ensures { result ≡ isDone (openedMeant opened) }
+    ensures { result ≡ is_done (opened_meant opened) }
 {
     match opened {
         Performed::Done => true,
@@ -26,7 +26,7 @@ pub fn is_done(opened: Performed) -> bool
 }
 
 fn code_of(filed: Received) -> u8
-    ensures { result ≡ answerCode (receivedMeant filed) }
+    ensures { result ≡ answer_code (received_meant filed) }
 {
     match filed {
         Received::Stored => 0,
@@ -51,16 +51,16 @@ fn play_line(
     widths: &mut [u16],
     line: LogLine,
 ) -> u8
-    requires { (headOk head ≡ true)
-        × (bookFits head (lentBook values versions statuses holidays readings read_versions agreed agreed_versions counts widths)
+    requires { (head_ok head ≡ true)
+        × (book_fits head (lent_book values versions statuses holidays readings read_versions agreed agreed_versions counts widths)
         ≡ true) }
     ensures { let book =
-        lentBook values.entry versions.entry statuses.entry holidays.entry readings.entry read_versions.entry
+        lent_book values.entry versions.entry statuses.entry holidays.entry readings.entry read_versions.entry
         agreed.entry agreed_versions.entry counts.entry widths.entry in
-        (limits : limitsType) → (result ≡ itemCode head book (itemIn line limits))
-        × (lentBook values.exit versions.exit statuses.exit holidays.exit readings.exit read_versions.exit
+        (limits : limits_type) → (result ≡ item_code head book (item_in line limits))
+        × (lent_book values.exit versions.exit statuses.exit holidays.exit readings.exit read_versions.exit
         agreed.exit agreed_versions.exit counts.exit widths.exit
-        ≡ afterItem head book (itemIn line limits)) }
+        ≡ after_item head book (item_in line limits)) }
 {
     match line {
         LogLine::Passed => 103,
@@ -100,17 +100,17 @@ pub fn fill_all(
     widths: &mut [u16],
     answers: &mut [u8],
 )
-    requires { (headOk head ≡ true)
-        × (bookFits head (lentBook values versions statuses holidays readings read_versions agreed agreed_versions counts widths)
+    requires { (head_ok head ≡ true)
+        × (book_fits head (lent_book values versions statuses holidays readings read_versions agreed agreed_versions counts widths)
         ≡ true)
         × (length answers.old ≡ length (lines_of log.now)) }
     ensures { let book =
-        lentBook values.entry versions.entry statuses.entry holidays.entry readings.entry read_versions.entry
+        lent_book values.entry versions.entry statuses.entry holidays.entry readings.entry read_versions.entry
         agreed.entry agreed_versions.entry counts.entry widths.entry in
         (answers.new ≡ codes head book (items log.now))
-        × (lentBook values.exit versions.exit statuses.exit holidays.exit readings.exit read_versions.exit
+        × (lent_book values.exit versions.exit statuses.exit holidays.exit readings.exit read_versions.exit
         agreed.exit agreed_versions.exit counts.exit widths.exit
-        ≡ afterAll head book (logCalls log.now)) }
+        ≡ after_all head book (log_calls log.now)) }
 {
     let mut at = 0;
     let mut i: usize = 0;

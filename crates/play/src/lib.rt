@@ -3,8 +3,8 @@ mod filling;
 mod reading;
 
 ghost use Rattle.std.specs.Prelude.{◌≡◌};
-ghost use Rattle.book.specs.Lent.{lentBook};
-ghost use Rattle.play.specs.Playing.{checked, playAnswer, playAfter, answersAfter};
+ghost use Rattle.book.specs.Lent.{lent_book};
+ghost use Rattle.play.specs.Playing.{checked, play_answer, play_after, answers_after};
 
 use crate::reading::OpeningFound;
 use rules::Head;
@@ -55,13 +55,13 @@ pub fn play(
 ) -> Played
     ensures { let bytes = log.now in
         let book =
-        lentBook values.entry versions.entry statuses.entry holidays.entry readings.entry read_versions.entry
+        lent_book values.entry versions.entry statuses.entry holidays.entry readings.entry read_versions.entry
         agreed.entry agreed_versions.entry counts.entry widths.entry in
-        (result ≡ playAnswer bytes book answers.old)
-        × (lentBook values.exit versions.exit statuses.exit holidays.exit readings.exit read_versions.exit
+        (result ≡ play_answer bytes book answers.old)
+        × (lent_book values.exit versions.exit statuses.exit holidays.exit readings.exit read_versions.exit
         agreed.exit agreed_versions.exit counts.exit widths.exit
-        ≡ playAfter bytes book answers.old)
-        × (answers.new ≡ answersAfter bytes book answers.old) }
+        ≡ play_after bytes book answers.old)
+        × (answers.new ≡ answers_after bytes book answers.old) }
 {
     let found = check(log);
     match found {

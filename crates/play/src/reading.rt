@@ -1,11 +1,11 @@
 // What the bytes of a log are: its lines up to the opening, and those after it.
 ghost use Rattle.std.specs.Prelude.{◌≡◌, suc, ◌<◌, length, drop};
-ghost use Rattle.rules.specs.Limits.{loadAnswer};
-ghost use Rattle.log.specs.Log.{table_of, itemIn, items, readOpen, orBuiltIn};
-ghost use Rattle.log.specs.Log.Item.{table as tableItem};
-ghost use Rattle.play.specs.Playing.{checkedOf};
-ghost use Rattle.play.specs.Inner.Steps.{headStep, openingStep, step_of, goesOn, tableAfter, openingAt, OpeningMeant};
-ghost use Rattle.play.specs.Inner.Steps.{isOutside, calls_at, TestedAt, Reached};
+ghost use Rattle.rules.specs.Limits.{load_answer};
+ghost use Rattle.log.specs.Log.{table_of, item_in, items, read_open, or_built_in};
+ghost use Rattle.log.specs.Log.Item.{table as table_item};
+ghost use Rattle.play.specs.Playing.{checked_of};
+ghost use Rattle.play.specs.Inner.Steps.{head_step, opening_step, step_of, goes_on, table_after, opening_at, OpeningMeant};
+ghost use Rattle.play.specs.Inner.Steps.{is_outside, calls_at, TestedAt, Reached};
 
 use crate::Checked;
 use log::limits::Limits;
@@ -32,7 +32,7 @@ pub enum OpeningFound {
 
 // The limit at a place of the table, which has none in front of the first.
 fn limit_at(table: Limits, kind: u32) -> Loaded
-    ensures { result ≡ loadAnswer (orBuiltIn (table_of table)) kind }
+    ensures { result ≡ load_answer (or_built_in (table_of table)) kind }
 {
     if table.count == 0 {
         let built_in = [40000u32, 70000];
@@ -42,7 +42,7 @@ fn limit_at(table: Limits, kind: u32) -> Loaded
 }
 
 fn head_step(head: Head) -> Step
-    ensures { result ≡ headStep head }
+    ensures { result ≡ head_step head }
 {
     if opening::head_ok(head) {
         return Step::Opened(head);
@@ -51,7 +51,7 @@ fn head_step(head: Head) -> Step
 }
 
 fn opening_step(table: Limits, opening: Opening) -> Step
-    ensures { result ≡ openingStep opening (loadAnswer (orBuiltIn (table_of table)) opening.kind) }
+    ensures { result ≡ opening_step opening (load_answer (or_built_in (table_of table)) opening.kind) }
 {
     let loaded = limit_at(table, opening.kind);
     match loaded {
@@ -61,7 +61,7 @@ fn opening_step(table: Limits, opening: Opening) -> Step
 }
 
 fn table_step(table: Limits, limits: Limits) -> Step
-    ensures { result ≡ step_of (table_of table) (tableItem (table_of limits)) }
+    ensures { result ≡ step_of (table_of table) (table_item (table_of limits)) }
 {
     if table.count != 0 {
         return Step::NotACall;
@@ -74,7 +74,7 @@ fn table_step(table: Limits, limits: Limits) -> Step
 }
 
 fn step_of(table: Limits, entry: Entry) -> Step
-    ensures { result ≡ step_of (table_of table) (itemIn entry.line entry.limits) }
+    ensures { result ≡ step_of (table_of table) (item_in entry.line entry.limits) }
 {
     let line = entry.line;
     match line {
@@ -90,7 +90,7 @@ fn step_of(table: Limits, entry: Entry) -> Step
 }
 
 fn goes_on(step: Step) -> bool
-    ensures { result ≡ goesOn step }
+    ensures { result ≡ goes_on step }
 {
     match step {
         Step::On => true,
@@ -101,7 +101,7 @@ fn goes_on(step: Step) -> bool
 }
 
 fn table_after(table: Limits, entry: Entry) -> Limits
-    ensures { table_of result ≡ tableAfter (table_of table) (itemIn entry.line entry.limits) }
+    ensures { table_of result ≡ table_after (table_of table) (item_in entry.line entry.limits) }
 {
     let line = entry.line;
     match line {
@@ -114,7 +114,7 @@ fn table_after(table: Limits, entry: Entry) -> Limits
 }
 
 fn opening_at(step: Step, at: usize, n: usize) -> OpeningFound
-    ensures { result ≡ openingAt step at n }
+    ensures { result ≡ opening_at step at n }
 {
     match step {
         Step::On => OpeningFound::Without(Checked::NoOpening),
@@ -147,7 +147,7 @@ pub fn find_opening(log: &[u8]) -> OpeningFound
 }
 
 fn is_outside(line: LogLine) -> bool
-    ensures { result ≡ isOutside line }
+    ensures { result ≡ is_outside line }
 {
     match line {
         LogLine::Passed => false,
@@ -203,7 +203,7 @@ fn tested_at(log: &[u8], at: usize) -> TestedLine
 // The lines after the opening, which begin at `from` behind `before` lines.
 pub fn following(log: &[u8], head: Head, from: usize, before: usize) -> Checked
     requires { Reached log.now from before 0 }
-    ensures { result ≡ checkedOf log.now (readOpen head (suc before) (items (drop from log.now))) }
+    ensures { result ≡ checked_of log.now (read_open head (suc before) (items (drop from log.now))) }
 {
     let mut at = from;
     let mut n = before;

@@ -8,22 +8,22 @@ use native.Mathlib.Omega.{arith}
 use lib.ListN.{length, take, drop, take-append-drop, length-append, length-drop}
 use lib.Seq.{take-append_seam, take-append-add, drop-append-le, drop-append-add, drop-drop, drop_at, take-add, length-take-le}
 use Rattle.base.specs.Lists.{up_to}
-use Rattle.base.proofs.Lists.{length-upTo}
+use Rattle.base.proofs.Lists.{length_up_to}
 use Rattle.rules.specs.declared.Head.{Head}
 use Rattle.file.specs.declared.Figures.{Figures}
 use Rattle.rules.specs.declared.Outcome.{Outcome}
 use Rattle.rules.specs.declared.Span.{Span}
-use Rattle.rules.specs.Opening.{Cells, slotCount}
-use Rattle.rules.specs.Spans.{outcomeAt, outcomes, spans}
-use Rattle.rules.specs.Inner.Passes.{begunBefore}
+use Rattle.rules.specs.Opening.{Cells, slot_count}
+use Rattle.rules.specs.Spans.{outcome_at, outcomes, spans}
+use Rattle.rules.specs.Inner.Passes.{begun_before}
 use Rattle.rules.proofs.Bounds.{Bounded}
 use Rattle.rules.proofs.SpansInOrder.{begun_all}
-use Rattle.file.specs.Layout.{row, table, slotRow, spanRow, trailerRow, figuresOf, tables_of, fileOf}
-use Rattle.publishing.specs.Publishing.{published, fileLength}
-use Rattle.publishing.specs.Inner.Publishing.{firstSlots, bufferOf, bufferAt}
+use Rattle.file.specs.Layout.{row, table, slot_row, span_row, trailer_row, figures_of, tables_of, file_of}
+use Rattle.publishing.specs.Publishing.{published, file_length}
+use Rattle.publishing.specs.Inner.Publishing.{first_slots, buffer_of, buffer_at}
 use Rattle.file.specs.Inner.Writing.{written}
-use Rattle.file.proofs.Written.{length-written, written-more}
-use Rattle.file.proofs.Rows.{length-row, length-table}
+use Rattle.file.proofs.Written.{length_written, written_more}
+use Rattle.file.proofs.Rows.{length_row, length_table}
 
 -- the bytes of d from place a up to place m
 abbrev gap : List ℕ → ℕ → ℕ → List ℕ
@@ -36,7 +36,7 @@ module _ (d : List ℕ) where
 
   -- t behind s
   behind : (s t : List ℕ) → length s ≤ length d → written (written d 0 s) (length s) t ≡ written d 0 (s ++ t)
-  behind s t l = rw zero-add at (written-more d 0 s t (rw zero-add l))
+  behind s t l = rw zero-add at (written_more d 0 s t (rw zero-add l))
 
   -- s at the front and t from place m on
   two : (s t : List ℕ) (m : ℕ) → length s ≤ m → m + length t ≤ length d
@@ -53,10 +53,10 @@ module _ (d : List ℕ) where
       rw (zero-add, p, q) (append_assoc s (gap d (length s) m) (t ++ drop (m + length t) d))
 
   -- more at the front
-  pub front-more : (s t r : List ℕ) (m : ℕ) → length s + length r ≤ m → m + length t ≤ length d
+  pub front_more : (s t r : List ℕ) (m : ℕ) → length s + length r ≤ m → m + length t ≤ length d
       → written (written (written d 0 s) m t) (length s) r ≡ written (written d 0 (s ++ r)) m t
   unfolding written
-  front-more s t r m l k =
+  front_more s t r m l k =
       let g : List ℕ = gap d (length s) m in
       let x : List ℕ = t ++ drop (m + length t) d in
       let n : length (s ++ r) ≡ length s + length r = length-append s r in
@@ -78,15 +78,15 @@ module _ (d : List ℕ) where
           ∙ drop_at (take (length r) o) (take (m - (length s + length r)) (drop (length r) o)) (length r) (length-take-le (length r) o n))
 
 -- a table of one row, and of two tables' rows
-pub table-one : {X : Type 0} (r : X → List (ℕ × ℕ)) (x : X) → table r (x ∷ []) ≡ row (r x)
+pub table_one : {X : Type 0} (r : X → List (ℕ × ℕ)) (x : X) → table r (x ∷ []) ≡ row (r x)
 unfolding table
-table-one r x = append-nil (row (r x))
+table_one r x = append-nil (row (r x))
 
-pub table-append : {X : Type 0} (r : X → List (ℕ × ℕ)) (xs ys : List X) → table r (xs ++ ys) ≡ table r xs ++ table r ys
+pub table_append : {X : Type 0} (r : X → List (ℕ × ℕ)) (xs ys : List X) → table r (xs ++ ys) ≡ table r xs ++ table r ys
 unfolding table
-table-append r [] ys = refl
-table-append r (x ∷ xs) ys =
-    ap (λ (l : List ℕ). row (r x) ++ l) (table-append r xs ys) ∙ sym (append_assoc (row (r x)) (table r xs) (table r ys))
+table_append r [] ys = refl
+table_append r (x ∷ xs) ys =
+    ap (λ (l : List ℕ). row (r x) ++ l) (table_append r xs ys) ∙ sym (append_assoc (row (r x)) (table r xs) (table r ys))
 
 pub written_none : (d : List ℕ) (at : ℕ) → written d at [] ≡ d
 unfolding written
@@ -94,66 +94,66 @@ written_none d at = rw add-zero (take-append-drop at d)
 
 -- the buffer of a publishing
 module _ (h : Head) (b : Cells) where
-  slot-bytes : (os : List Outcome) → length (table slotRow os) ≡ 6 * length os
-  slot-bytes os = length-table slotRow 6 (λ x. refl) os
+  slot_bytes_lem : (os : List Outcome) → length (table slot_row os) ≡ 6 * length os
+  slot_bytes_lem os = length_table slot_row 6 (λ x. refl) os
 
-  span-bytes : (ss : List Span) → length (table (spanRow true) ss) ≡ 14 * length ss
-  span-bytes ss = length-table (spanRow true) 14 (λ x. refl) ss
+  span_bytes_lem : (ss : List Span) → length (table (span_row true) ss) ≡ 14 * length ss
+  span_bytes_lem ss = length_table (span_row true) 14 (λ x. refl) ss
 
-  pub buffer-first : (d : List ℕ) → bufferAt h b d 0 ≡ d
-  unfolding bufferAt bufferOf up_to begunBefore table
-  buffer-first d = rw (written_none d 0) (written_none d (6 * slotCount h))
+  pub buffer_first : (d : List ℕ) → buffer_at h b d 0 ≡ d
+  unfolding buffer_at buffer_of up_to begun_before table
+  buffer_first d = rw (written_none d 0) (written_none d (6 * slot_count h))
 
   -- more slots, and more spans
-  pub buffer-slots : (d : List ℕ) (os rest : List Outcome) (ss : List Span) → length os + length rest ≤ slotCount h
-      → 6 * slotCount h + 14 * length ss ≤ length d
-      → written (bufferOf h d os ss) (6 * length os) (table slotRow rest) ≡ bufferOf h d (os ++ rest) ss
-  unfolding bufferOf
-  buffer-slots d os rest ss l k =
-      let a = slot-bytes os in
-      let c = slot-bytes rest in
-      let g = span-bytes ss in
-      rw (table-append slotRow os rest, ← a)
-      (front-more d (table slotRow os) (table (spanRow true) ss) (table slotRow rest) (6 * slotCount h) (omega arith) (omega arith))
+  pub buffer_slots : (d : List ℕ) (os rest : List Outcome) (ss : List Span) → length os + length rest ≤ slot_count h
+      → 6 * slot_count h + 14 * length ss ≤ length d
+      → written (buffer_of h d os ss) (6 * length os) (table slot_row rest) ≡ buffer_of h d (os ++ rest) ss
+  unfolding buffer_of
+  buffer_slots d os rest ss l k =
+      let a = slot_bytes_lem os in
+      let c = slot_bytes_lem rest in
+      let g = span_bytes_lem ss in
+      rw (table_append slot_row os rest, ← a)
+      (front_more d (table slot_row os) (table (span_row true) ss) (table slot_row rest) (6 * slot_count h) (omega arith) (omega arith))
 
-  pub buffer-spans : (d : List ℕ) (os : List Outcome) (ss rest : List Span) → length os ≤ slotCount h
-      → 6 * slotCount h + 14 * length ss ≤ length d
-      → written (bufferOf h d os ss) (6 * slotCount h + 14 * length ss) (table (spanRow true) rest) ≡ bufferOf h d os (ss ++ rest)
-  unfolding bufferOf
-  buffer-spans d os ss rest l k =
-      let a = slot-bytes os in
-      let g = span-bytes ss in
-      let n : 0 + length (table slotRow os) ≤ length d = omega arith in
-      let o : 6 * slotCount h + length (table (spanRow true) ss) ≤ length (written d 0 (table slotRow os)) =
-      rw (length-written d 0 (table slotRow os) n) (omega arith) in
-      rw (table-append (spanRow true) ss rest, ← g)
-      (written-more (written d 0 (table slotRow os)) (6 * slotCount h) (table (spanRow true) ss) (table (spanRow true) rest) o)
+  pub buffer_spans : (d : List ℕ) (os : List Outcome) (ss rest : List Span) → length os ≤ slot_count h
+      → 6 * slot_count h + 14 * length ss ≤ length d
+      → written (buffer_of h d os ss) (6 * slot_count h + 14 * length ss) (table (span_row true) rest) ≡ buffer_of h d os (ss ++ rest)
+  unfolding buffer_of
+  buffer_spans d os ss rest l k =
+      let a = slot_bytes_lem os in
+      let g = span_bytes_lem ss in
+      let n : 0 + length (table slot_row os) ≤ length d = omega arith in
+      let o : 6 * slot_count h + length (table (span_row true) ss) ≤ length (written d 0 (table slot_row os)) =
+      rw (length_written d 0 (table slot_row os) n) (omega arith) in
+      rw (table_append (span_row true) ss rest, ← g)
+      (written_more (written d 0 (table slot_row os)) (6 * slot_count h) (table (span_row true) ss) (table (span_row true) rest) o)
 
-  pub length-first : (i : ℕ) → length (firstSlots h b i) ≡ i
-  length-first i = length-upTo (outcomeAt h b) 0 i
+  pub length_first : (i : ℕ) → length (first_slots h b i) ≡ i
+  length_first i = length_up_to (outcome_at h b) 0 i
 
   -- the trailer behind both tables ends the file
-  file-written : (w : Bounded h) (d : List ℕ) → fileLength h b ≤ length d
-      → written (bufferAt h b d (slotCount h)) (6 * slotCount h + 14 * length (spans h b)) (row (trailerRow (figuresOf (published h b))))
-      ≡ fileOf (published h b) ++ drop (fileLength h b) d
-  unfolding bufferAt bufferOf fileOf tables_of fileLength published outcomes
-  file-written w d k =
-      let s : List ℕ = table slotRow (firstSlots h b (slotCount h)) in
-      let t : List ℕ = table (spanRow true) (spans h b) in
-      let u : List ℕ = row (trailerRow (figuresOf (published h b))) in
-      let a = slot-bytes (firstSlots h b (slotCount h)) ∙ ap (λ (x : ℕ). 6 * x) (length-upTo (outcomeAt h b) 0 (slotCount h)) in
-      let c = span-bytes (spans h b) in
-      let n : length (s ++ t) ≡ 6 * slotCount h + 14 * length (spans h b) = omega (arith, length-append s t) in
-      let o = length-upTo (outcomeAt h b) 0 (slotCount h) in
-      let g : length u ≡ 32 = length-row (trailerRow (figuresOf (published h b))) in
-      let p : written (written d 0 s) (6 * slotCount h) t ≡ written d 0 (s ++ t) = rw (sym a) (behind d s t (omega arith)) in
-      let q : written (written d 0 (s ++ t)) (6 * slotCount h + 14 * length (spans h b)) u ≡ written d 0 ((s ++ t) ++ u) =
+  file_written : (w : Bounded h) (d : List ℕ) → file_length h b ≤ length d
+      → written (buffer_at h b d (slot_count h)) (6 * slot_count h + 14 * length (spans h b)) (row (trailer_row (figures_of (published h b))))
+      ≡ file_of (published h b) ++ drop (file_length h b) d
+  unfolding buffer_at buffer_of file_of tables_of file_length published outcomes
+  file_written w d k =
+      let s : List ℕ = table slot_row (first_slots h b (slot_count h)) in
+      let t : List ℕ = table (span_row true) (spans h b) in
+      let u : List ℕ = row (trailer_row (figures_of (published h b))) in
+      let a = slot_bytes_lem (first_slots h b (slot_count h)) ∙ ap (λ (x : ℕ). 6 * x) (length_up_to (outcome_at h b) 0 (slot_count h)) in
+      let c = span_bytes_lem (spans h b) in
+      let n : length (s ++ t) ≡ 6 * slot_count h + 14 * length (spans h b) = omega (arith, length-append s t) in
+      let o = length_up_to (outcome_at h b) 0 (slot_count h) in
+      let g : length u ≡ 32 = length_row (trailer_row (figures_of (published h b))) in
+      let p : written (written d 0 s) (6 * slot_count h) t ≡ written d 0 (s ++ t) = rw (sym a) (behind d s t (omega arith)) in
+      let q : written (written d 0 (s ++ t)) (6 * slot_count h + 14 * length (spans h b)) u ≡ written d 0 ((s ++ t) ++ u) =
       rw (sym n) (behind d (s ++ t) u (omega arith)) in
-      let m : length ((s ++ t) ++ u) ≡ 6 * length (firstSlots h b (slotCount h)) + 14 * length (spans h b) + 32 =
+      let m : length ((s ++ t) ++ u) ≡ 6 * length (first_slots h b (slot_count h)) + 14 * length (spans h b) + 32 =
       omega (arith, length-append (s ++ t) u) in
       rw (begun_all h b w, p) (q ∙ front d ((s ++ t) ++ u) ∙ ap (λ (x : ℕ). ((s ++ t) ++ u) ++ drop x d) m)
 
-  pub file-put : (w : Bounded h) (d d₁ d₂ : List ℕ) (place : ℕ) (g : Figures) → fileLength h b ≤ length d
-      → d₁ ≡ bufferAt h b d (slotCount h) → place ≡ 6 * slotCount h + 14 * length (spans h b)
-      → g ≡ figuresOf (published h b) → d₂ ≡ written d₁ place (row (trailerRow g)) → d₂ ≡ fileOf (published h b) ++ drop (fileLength h b) d
-  file-put w d d₁ d₂ place g k x y z e = e ∙ (rw (x, y, z) (file-written w d k))
+  pub file_put : (w : Bounded h) (d d₁ d₂ : List ℕ) (place : ℕ) (g : Figures) → file_length h b ≤ length d
+      → d₁ ≡ buffer_at h b d (slot_count h) → place ≡ 6 * slot_count h + 14 * length (spans h b)
+      → g ≡ figures_of (published h b) → d₂ ≡ written d₁ place (row (trailer_row g)) → d₂ ≡ file_of (published h b) ++ drop (file_length h b) d
+  file_put w d d₁ d₂ place g k x y z e = e ∙ (rw (x, y, z) (file_written w d k))

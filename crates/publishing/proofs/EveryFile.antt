@@ -9,93 +9,93 @@ use lib.ListN.{length, take, drop}
 use lib.Seq.{take_at}
 use borrow.Author.Tests.{not-false}
 use Rattle.base.proofs.Logic.{and_parts}
-use Rattle.base.proofs.Refusals.{unless-answered}
-use Rattle.base.proofs.Sums.{sum-cong}
+use Rattle.base.proofs.Refusals.{unless_answered}
+use Rattle.base.proofs.Sums.{sum_cong}
 use Rattle.rules.specs.declared.Head.{Head}
 use Rattle.rules.specs.declared.Outcome.{Outcome}
 use Rattle.rules.specs.declared.Span.{Span}
-use Rattle.rules.specs.Opening.{Cells, headOk, slotCount, slotsPerDay}
-use Rattle.rules.specs.Spans.{start, slotsIn}
+use Rattle.rules.specs.Opening.{Cells, head_ok, slot_count, slots_per_day}
+use Rattle.rules.specs.Spans.{start, slots_in}
 use Rattle.rules.proofs.Bounds.{bounded}
-use Rattle.rules.proofs.Neighbours.{Neighbours, each-span}
-use Rattle.rules.proofs.Places.{span-end}
+use Rattle.rules.proofs.Neighbours.{Neighbours, each_span_lem}
+use Rattle.rules.proofs.Places.{span_end}
 use Rattle.rules.proofs.States.{scaled-sum, scaled-within}
-use Rattle.book.specs.Cells.{Book, cellsOk, bookFits, bookOk}
-use Rattle.book.proofs.Fits.{fits-of}
-use Rattle.file.specs.Layout.{fileOf}
+use Rattle.book.specs.Cells.{Book, cells_ok, book_fits, book_ok}
+use Rattle.book.proofs.Fits.{fits_of}
+use Rattle.file.specs.Layout.{file_of}
 use Rattle.file.specs.Contents.{span}
-use Rattle.file.proofs.Content.{length-file}
-use Rattle.file.proofs.Canonical.{content-back}
+use Rattle.file.proofs.Content.{length_file}
+use Rattle.file.proofs.Canonical.{content_back}
 use Rattle.publishing.specs.declared.Published.{Published}
 use Rattle.publishing.specs.declared.Published.TheVariants.{Length, Refused}
-use Rattle.publishing.specs.Publishing.{published, fileLength, publishRules, publishAnswer, bytesAfter, publishAfter}
+use Rattle.publishing.specs.Publishing.{published, file_length, publish_rules, publish_answer, bytes_after, publish_after}
 use Rattle.publishing.specs.Claim.{SumsToR, EveryFile}
 use Rattle.publishing.specs.Inner.Publishing.{Sound}
-use Rattle.publishing.proofs.Files.{slots-own, slot-own, well-formed, published-accepted}
+use Rattle.publishing.proofs.Files.{slots_own, slot_own, well_formed, published-accepted}
 
 -- what is published soundly: a good head, lists that fit, and cells that calls could leave
-pub sound-book : (h : Head) (b : Book) → headOk h ≡ true → bookFits h b ≡ true → bookOk h b ≡ true → Sound h b.cells
-unfolding bookOk
-sound-book h b good fit ok =
-    record { head = good; fit = (fits-of h b fit).0; cells = (and_parts (cellsOk h b.cells) _ ok).0 }
+pub sound_book : (h : Head) (b : Book) → head_ok h ≡ true → book_fits h b ≡ true → book_ok h b ≡ true → Sound h b.cells
+unfolding book_ok
+sound_book h b good fit ok =
+    record { head = good; fit = (fits_of h b fit).0; cells = (and_parts (cells_ok h b.cells) _ ok).0 }
 
-module _ (h : Head) (b : Book) (out : List ℕ) (n : ℕ) (e : publishAnswer h b out ≡ Length n) where
-  answered : (headOk h ≡ true) × (bookFits h b ≡ true) × (bookOk h b ≡ true) × (fileLength h b.cells ≡ n)
-  unfolding publishAnswer
+module _ (h : Head) (b : Book) (out : List ℕ) (n : ℕ) (e : publish_answer h b out ≡ Length n) where
+  answered : (head_ok h ≡ true) × (book_fits h b ≡ true) × (book_ok h b ≡ true) × (file_length h b.cells ≡ n)
+  unfolding publish_answer
   answered =
       let (same, kept) =
-      unless-answered Refused (λ a. a ≡ Length n) (λ k r. let z : ◌≡◌ {A = ℕ} 0 1 = cc in omega arith) (publishRules h b out) _ e in
+      unless_answered Refused (λ a. a ≡ Length n) (λ k r. let z : ◌≡◌ {A = ℕ} 0 1 = cc in omega arith) (publish_rules h b out) _ e in
       (not-false _ (kept 0), not-false _ (kept 1), not-false _ (kept 2), cc)
 
   sound : Sound h b.cells
-  sound = sound-book h b answered.0 answered.1 answered.2
+  sound = sound_book h b answered.0 answered.1 answered.2
 
-  file-long : length (fileOf (published h b.cells)) ≡ n
-  unfolding fileLength published
-  file-long = length-file (published h b.cells) ∙ answered.3
+  file_long : length (file_of (published h b.cells)) ≡ n
+  unfolding file_length published
+  file_long = length_file (published h b.cells) ∙ answered.3
 
-  file-left : take n (publishAfter h b out) ≡ fileOf (published h b.cells)
-  unfolding publishAfter
-  file-left =
-      ap (λ (p : Published). take n (bytesAfter p (published h b.cells) out)) e
-      ∙ take_at (fileOf (published h b.cells)) (drop n out) n file-long
+  file_left : take n (publish_after h b out) ≡ file_of (published h b.cells)
+  unfolding publish_after
+  file_left =
+      ap (λ (p : Published). take n (bytes_after p (published h b.cells) out)) e
+      ∙ take_at (file_of (published h b.cells)) (drop n out) n file_long
 
 -- a scaled span of what a book publishes
-module _ (h : Head) (ok : headOk h ≡ true) (b : Cells) (s : Span) (n : Neighbours h b s) (one : s.state ≡ 1) where
+module _ (h : Head) (ok : head_ok h ≡ true) (b : Cells) (s : Span) (n : Neighbours h b s) (one : s.state ≡ 1) where
   -- its slots are among the N
-  inside : (i : ℕ) → i < start h b s.first s.last + slotsIn h b s.first s.last → i < slotCount h
-  unfolding slotCount
+  inside : (i : ℕ) → i < start h b s.first s.last + slots_in h b s.first s.last → i < slot_count h
+  unfolding slot_count
   inside i l =
       omega (
         arith,
-        span-end h b s.first s.last (omega (arith, n.ordered)),
-        mul-le-mul_right (slotsPerDay h) n.within,
-        mul_comm h.days (slotsPerDay h),
+        span_end h b s.first s.last (omega (arith, n.ordered)),
+        mul-le-mul_right (slots_per_day h) n.within,
+        mul_comm h.days (slots_per_day h),
       )
 
-  sums-to-R : SumsToR h b (published h b) s
-  sums-to-R =
+  sums_to_r : SumsToR h b (published h b) s
+  sums_to_r =
       let total = scaled-sum h (bounded h ok) b s n one in
       let (low, high) = scaled-within h (bounded h ok) b s n one in
       record {
-        sums = sum-cong _ _ _ _ (λ i l m. ap (λ (o : Outcome). o.value) (slot-own h b i (inside i m))) ∙ total;
+        sums = sum_cong _ _ _ _ (λ i l m. ap (λ (o : Outcome). o.value) (slot_own h b i (inside i m))) ∙ total;
         lowest = omega (arith, total);
         highest = omega (arith, total);
       }
 
-pub every-file : EveryFile
-every-file h b out n e =
+pub every_file : EveryFile
+every_file h b out n e =
     let s = sound h b out n e in
     let (accepts, tables) = published-accepted h b.cells s in
     let neighbours : (j : ℕ) → j < length (published h b.cells).spans → Neighbours h b.cells (span (published h b.cells) j) =
-    unfold published in each-span h b.cells in
-    rw (file-left h b out n e) (record {
-      long = file-long h b out n e;
+    unfold published in each_span_lem h b.cells in
+    rw (file_left h b out n e) (record {
+      long = file_long h b out n e;
       accepted = accepts;
       tables = tables;
-      content = rw tables (content-back (published h b.cells) (well-formed h b.cells s));
-      slots = slots-own h b.cells;
-      eachSlot = slot-own h b.cells;
-      eachSpan = λ j l. (neighbours j l).figures;
-      scaled = λ j l. sums-to-R h s.head b.cells (span (published h b.cells) j) (neighbours j l);
+      content = rw tables (content_back (published h b.cells) (well_formed h b.cells s));
+      slots = slots_own h b.cells;
+      each_slot = slot_own h b.cells;
+      each_span = λ j l. (neighbours j l).figures;
+      scaled = λ j l. sums_to_r h s.head b.cells (span (published h b.cells) j) (neighbours j l);
     })

@@ -7,73 +7,73 @@ use native.Mathlib.Nat.{zero-add}
 use native.Mathlib.Omega.{arith}
 use lib.ListN.{length}
 use Rattle.base.specs.Lists.{every}
-use Rattle.base.proofs.Lists.{length-upTo, getD-upTo}
+use Rattle.base.proofs.Lists.{length_up_to, get_d_up_to}
 use Rattle.base.proofs.Logic.{passed}
 use Rattle.rules.specs.declared.Head.{Head}
-use Rattle.rules.specs.Opening.{Cells, dayTests, headTests, headOk, firstDay, slotsPerDay, slotCount}
-use Rattle.rules.specs.Spans.{outcomeAt, noOutcome, outcomes}
+use Rattle.rules.specs.Opening.{Cells, day_tests, head_tests, head_ok, first_day, slots_per_day, slot_count}
+use Rattle.rules.specs.Spans.{outcome_at, no_outcome, outcomes}
 use Rattle.rules.proofs.Bounds.{bounded}
 use Rattle.rules.proofs.Outcomes.{outcome_fits}
 use Rattle.file.specs.declared.Verdict.TheVariants.{Accepted}
-use Rattle.file.specs.Layout.{figuresOf, tables_of, fileOf}
-use Rattle.file.specs.Reader.{headFieldTests, layoutOk, layoutFits, readFile, tablesPart}
-use Rattle.file.specs.Contents.{WellFormed, slot, slotRecord, recordsOf}
+use Rattle.file.specs.Layout.{figures_of, tables_of, file_of}
+use Rattle.file.specs.Reader.{head_field_tests, layout_ok, layout_fits, read_file, tables_part}
+use Rattle.file.specs.Contents.{WellFormed, slot, slot_record, records_of}
 use Rattle.publishing.specs.Publishing.{published}
 use Rattle.publishing.specs.Inner.Publishing.{Sound}
 use Rattle.file.proofs.Content.{injective}
 use Rattle.file.proofs.Agree.{Agree, tables_agree}
 use Rattle.file.proofs.Fitting.{Fitting, fitting}
-use Rattle.file.proofs.Accepted.{accepted, tables-back}
-use Rattle.publishing.proofs.Booked.{bookTables, book-ok}
-use Rattle.publishing.proofs.Publishing.{agreed-low, widths-low}
+use Rattle.file.proofs.Accepted.{accepted, tables_back}
+use Rattle.publishing.proofs.Booked.{book_tables, book_ok_lem}
+use Rattle.publishing.proofs.Publishing.{agreed_low, widths_low}
 
 module _ (h : Head) (b : Cells) where
-  pub slots-own : length (published h b).slots ≡ slotCount h
+  pub slots_own : length (published h b).slots ≡ slot_count h
   unfolding published outcomes
-  slots-own = length-upTo (outcomeAt h b) 0 (slotCount h)
+  slots_own = length_up_to (outcome_at h b) 0 (slot_count h)
 
-  pub slot-own : (i : ℕ) → i < slotCount h → slot (published h b) i ≡ outcomeAt h b i
+  pub slot_own : (i : ℕ) → i < slot_count h → slot (published h b) i ≡ outcome_at h b i
   unfolding published outcomes
-  slot-own i l = getD-upTo (outcomeAt h b) noOutcome 0 (slotCount h) i l ∙ ap (outcomeAt h b) (zero-add i)
+  slot_own i l = get_d_up_to (outcome_at h b) no_outcome 0 (slot_count h) i l ∙ ap (outcome_at h b) (zero-add i)
 
-  agree : Agree (recordsOf (published h b)) (bookTables h b)
-  unfolding published slotCount slotsPerDay
-  agree = record { perDay = refl; days = refl; spans = refl; slot = λ i l. ap slotRecord (slot-own i l); span = λ j l. refl }
+  agree : Agree (records_of (published h b)) (book_tables h b)
+  unfolding published slot_count slots_per_day
+  agree = record { per_day = refl; days = refl; spans = refl; slot = λ i l. ap slot_record (slot_own i l); span = λ j l. refl }
 
   module _ (s : Sound h b) where
-    ok : headOk h ≡ true
+    ok : head_ok h ≡ true
     ok = s.head
 
-    head-own : every (headFieldTests (firstDay h) h.days h.interval) ≡ true
-    unfolding headOk
+    head-own : every (head_field_tests (first_day h) h.days h.interval) ≡ true
+    unfolding head_ok
     head-own =
-        let days = passed (headTests h) ok 1 in
-        rw (passed (headTests h) ok 0, passed (dayTests h) days 1, passed (dayTests h) days 2, passed (dayTests h) days 3)
+        let days = passed (head_tests h) ok 1 in
+        rw (passed (head_tests h) ok 0, passed (day_tests h) days 1, passed (day_tests h) days 2, passed (day_tests h) days 3)
 
-    pub well-formed : WellFormed (published h b)
-    unfolding published slotCount slotsPerDay
-    well-formed = record {
+    pub well_formed : WellFormed (published h b)
+    unfolding published slot_count slots_per_day
+    well_formed = record {
       head = head-own;
-      slots = slots-own;
+      slots = slots_own;
       values =
-          λ i l. rw (slot-own i (rw slots-own at l))
-          (omega (arith, outcome_fits h (bounded h ok) b (agreed-low h b s) i (widths-low h b s)));
+          λ i l. rw (slot_own i (rw slots_own at l))
+          (omega (arith, outcome_fits h (bounded h ok) b (agreed_low h b s) i (widths_low h b s)));
       tables =
-          tables_agree (recordsOf (published h b)) (bookTables h b) agree
-          (book-ok h (bounded h ok) b (widths-low h b s) (agreed-low h b s));
-      known = unfold layoutOk in refl;
-      fits = unfold layoutFits in refl;
+          tables_agree (records_of (published h b)) (book_tables h b) agree
+          (book_ok_lem h (bounded h ok) b (widths_low h b s) (agreed_low h b s));
+      known = unfold layout_ok in refl;
+      fits = unfold layout_fits in refl;
       exact = λ e. absurd (false≢true (sym e));
     }
 
     pub published-fits : Fitting (published h b)
-    published-fits = fitting (published h b) well-formed
+    published-fits = fitting (published h b) well_formed
 
     -- the reader accepts it, with its figures and its tables
-    pub published-accepted : (readFile (fileOf (published h b)) ≡ Accepted (figuresOf (published h b)))
-        × (tablesPart (fileOf (published h b)) ≡ tables_of (published h b))
-    published-accepted = (accepted (published h b) well-formed, tables-back (published h b) well-formed)
+    pub published-accepted : (read_file (file_of (published h b)) ≡ Accepted (figures_of (published h b)))
+        × (tables_part (file_of (published h b)) ≡ tables_of (published h b))
+    published-accepted = (accepted (published h b) well_formed, tables_back (published h b) well_formed)
 
-pub files-equal : (h g : Head) (b c : Cells) → Sound h b → Sound g c
-    → (fileOf (published h b) ≡ fileOf (published g c)) ↔ (published h b ≡ published g c)
-files-equal h g b c p q = (injective (published h b) (published g c) (published-fits h b p) (published-fits g c q), ap fileOf)
+pub files_equal : (h g : Head) (b c : Cells) → Sound h b → Sound g c
+    → (file_of (published h b) ≡ file_of (published g c)) ↔ (published h b ≡ published g c)
+files_equal h g b c p q = (injective (published h b) (published g c) (published-fits h b p) (published-fits g c q), ap file_of)

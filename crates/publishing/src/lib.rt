@@ -2,13 +2,13 @@
 mod tables;
 
 ghost use Rattle.std.specs.Prelude.{true, ◌++◌, ◌≡◌, ◌+◌, ◌*◌, ◌≤◌, length, drop};
-ghost use Rattle.rules.specs.Opening.{headOk, slotCount};
-ghost use Rattle.rules.specs.Spans.{spans as spansOf};
-ghost use Rattle.rules.specs.Lent.{lentCells};
-ghost use Rattle.book.specs.Cells.{bookFits};
-ghost use Rattle.book.specs.Lent.{lentBook};
-ghost use Rattle.file.specs.Layout.{fileOf};
-ghost use Rattle.publishing.specs.Publishing.{published, fileLength, publishAnswer, publishAfter};
+ghost use Rattle.rules.specs.Opening.{head_ok, slot_count};
+ghost use Rattle.rules.specs.Spans.{spans as spans_of};
+ghost use Rattle.rules.specs.Lent.{lent_cells};
+ghost use Rattle.book.specs.Cells.{book_fits};
+ghost use Rattle.book.specs.Lent.{lent_book};
+ghost use Rattle.file.specs.Layout.{file_of};
+ghost use Rattle.publishing.specs.Publishing.{published, file_length, publish_answer, publish_after};
 ghost use Rattle.publishing.specs.Inner.Publishing.{Sound, Roomy, Put, Left};
 
 use book::{lengths, sound};
@@ -37,11 +37,11 @@ fn put_file(
     out: &mut [u8],
     spans: usize,
 )
-    requires { let b = lentCells values versions statuses holidays readings read_versions agreed agreed_versions widths in
-        Roomy head b out.old × (spans ≡ length (spansOf head b)) }
-    ensures { let b = lentCells values.entry versions.entry statuses.entry holidays.entry readings.entry read_versions.entry
+    requires { let b = lent_cells values versions statuses holidays readings read_versions agreed agreed_versions widths in
+        Roomy head b out.old × (spans ≡ length (spans_of head b)) }
+    ensures { let b = lent_cells values.entry versions.entry statuses.entry holidays.entry readings.entry read_versions.entry
         agreed.entry agreed_versions.entry widths.entry in
-        out.new ≡ fileOf (published head b) ++ drop (fileLength head b) out.old }
+        out.new ≡ file_of (published head b) ++ drop (file_length head b) out.old }
 {
     let table = 6 * opening::slot_count(head);
     let found = tables::put_tables(
@@ -74,8 +74,8 @@ fn put_file(
 
 // The length of a file with so many spans.
 fn length_of(head: Head, spans: usize) -> usize
-    requires { (headOk head ≡ true) × (spans ≤ 400) }
-    ensures { result ≡ 6 * slotCount head + 14 * spans + 32 }
+    requires { (head_ok head ≡ true) × (spans ≤ 400) }
+    ensures { result ≡ 6 * slot_count head + 14 * spans + 32 }
 {
     6 * opening::slot_count(head) + 14 * spans + 32
 }
@@ -94,8 +94,8 @@ fn put_sound(
     widths: &[u16],
     out: &mut [u8],
 ) -> Published
-    requires { Sound head (lentCells values versions statuses holidays readings read_versions agreed agreed_versions widths) }
-    ensures { let b = lentCells values.entry versions.entry statuses.entry holidays.entry readings.entry read_versions.entry
+    requires { Sound head (lent_cells values versions statuses holidays readings read_versions agreed agreed_versions widths) }
+    ensures { let b = lent_cells values.entry versions.entry statuses.entry holidays.entry readings.entry read_versions.entry
         agreed.entry agreed_versions.entry widths.entry in
         Put head b out.old result out.new }
 {
@@ -135,10 +135,10 @@ pub fn lists_fit(
     counts: &[u16],
     widths: &[u16],
 ) -> bool
-    requires { headOk head ≡ true }
-    ensures { let book = lentBook values.entry versions.entry statuses.entry holidays.entry readings.entry
+    requires { head_ok head ≡ true }
+    ensures { let book = lent_book values.entry versions.entry statuses.entry holidays.entry readings.entry
         read_versions.entry agreed.entry agreed_versions.entry counts.entry widths.entry in
-        result ≡ bookFits head book }
+        result ≡ book_fits head book }
 {
     lengths::book_fits(
         head,
@@ -170,9 +170,9 @@ fn put_fitted(
     widths: &[u16],
     out: &mut [u8],
 ) -> Published
-    requires { let book = lentBook values versions statuses holidays readings read_versions agreed agreed_versions counts widths in
-        (headOk head ≡ true) × (bookFits head book ≡ true) }
-    ensures { let book = lentBook values.entry versions.entry statuses.entry holidays.entry readings.entry
+    requires { let book = lent_book values versions statuses holidays readings read_versions agreed agreed_versions counts widths in
+        (head_ok head ≡ true) × (book_fits head book ≡ true) }
+    ensures { let book = lent_book values.entry versions.entry statuses.entry holidays.entry readings.entry
         read_versions.entry agreed.entry agreed_versions.entry counts.entry widths.entry in
         Left head book out.old result out.new }
 {
@@ -221,10 +221,10 @@ pub fn publish(
     widths: &[u16],
     out: &mut [u8],
 ) -> Published
-    ensures { let book = lentBook values.entry versions.entry statuses.entry holidays.entry readings.entry
+    ensures { let book = lent_book values.entry versions.entry statuses.entry holidays.entry readings.entry
         read_versions.entry agreed.entry agreed_versions.entry counts.entry widths.entry in
-        (result ≡ publishAnswer head book out.old)
-        × (out.new ≡ publishAfter head book out.old) }
+        (result ≡ publish_answer head book out.old)
+        × (out.new ≡ publish_after head book out.old) }
 {
     if !opening::head_ok(head) {
         return Published::Refused(1);

@@ -1,13 +1,13 @@
 // The slot table and the span table, in one pass over the slots.
 ghost use Rattle.std.specs.Prelude.{true, ◌≡◌, ◌+◌, ◌*◌, ◌≤◌, length};
 ghost use Rattle.rules.specs.declared.Head.{Head as DeclaredHead};
-ghost use Rattle.rules.specs.Opening.{Cells, slotCount};
+ghost use Rattle.rules.specs.Opening.{Cells, slot_count};
 ghost use Rattle.rules.specs.Spans.{outcomes};
-ghost use Rattle.rules.specs.Lent.{lentSlots, lentAgreed, lentCells};
+ghost use Rattle.rules.specs.Lent.{lent_slots, lent_agreed, lent_cells};
 ghost use Rattle.rules.specs.Inner.Passes.{list_of};
-ghost use Rattle.file.specs.Layout.{table, spanRow};
+ghost use Rattle.file.specs.Layout.{table, span_row};
 ghost use Rattle.file.specs.Inner.Writing.{written};
-ghost use Rattle.publishing.specs.Inner.Publishing.{totalsOf, addedTo, progressAt, bufferAt, Countable, Roomy, Next};
+ghost use Rattle.publishing.specs.Inner.Publishing.{totals_of, added_to, progress_at, buffer_at, Countable, Roomy, Next};
 ghost use Rattle.publishing.specs.Inner.Publishing.{PutFrom, PutTo, Entering, PutInside, PutStretch};
 
 use file::writer;
@@ -44,7 +44,7 @@ pub struct DirectPut {
 
 // Before slot 0.
 fn begin() -> Progress
-    ensures { (h : DeclaredHead) (b : Cells) → result ≡ progressAt h b 0 }
+    ensures { (h : DeclaredHead) (b : Cells) → result ≡ progress_at h b 0 }
 {
     let totals = Totals {
         actual: 0,
@@ -62,7 +62,7 @@ fn begin() -> Progress
 
 fn add(totals: Totals, slot: Outcome) -> Totals
     requires { Countable totals }
-    ensures { result ≡ addedTo totals slot }
+    ensures { result ≡ added_to totals slot }
 {
     let sum = totals.sum + (slot.value as u64);
     let quality = slot.quality;
@@ -102,7 +102,7 @@ fn add(totals: Totals, slot: Outcome) -> Totals
 fn put_begun(out: &mut [u8], at: usize, count: usize, begins: Begins) -> usize
     requires { at + 14 * count + 14 * length (list_of begins) ≤ length out.old }
     ensures { (result ≡ count + length (list_of begins))
-        × (out.new ≡ written out.old (at + 14 * count) (table (spanRow true) (list_of begins))) }
+        × (out.new ≡ written out.old (at + 14 * count) (table (span_row true) (list_of begins))) }
 {
     match begins {
         Begins::Span(span) => {
@@ -127,10 +127,10 @@ fn put_direct(
     before: bool,
     so_far: Totals,
 ) -> DirectPut
-    requires { let s = lentSlots values versions statuses in
-        PutFrom head s (lentAgreed agreed agreed_versions) out.old from to before so_far }
-    ensures { let s = lentSlots values.entry versions.entry statuses.entry in
-        let a = lentAgreed agreed.entry agreed_versions.entry in
+    requires { let s = lent_slots values versions statuses in
+        PutFrom head s (lent_agreed agreed agreed_versions) out.old from to before so_far }
+    ensures { let s = lent_slots values.entry versions.entry statuses.entry in
+        let a = lent_agreed agreed.entry agreed_versions.entry in
         PutTo head s a out.old out.new from to so_far result }
 {
     let mut outage = before;
@@ -179,9 +179,9 @@ fn put_inside(
     out: &mut [u8],
     from: Progress,
 ) -> Progress
-    requires { let b = lentCells values versions statuses holidays readings read_versions agreed agreed_versions widths in
+    requires { let b = lent_cells values versions statuses holidays readings read_versions agreed agreed_versions widths in
         Entering head b out.old from }
-    ensures { let b = lentCells values.entry versions.entry statuses.entry holidays.entry readings.entry read_versions.entry
+    ensures { let b = lent_cells values.entry versions.entry statuses.entry holidays.entry readings.entry read_versions.entry
         agreed.entry agreed_versions.entry widths.entry in
         PutInside head b out.old out.new from result }
 {
@@ -268,9 +268,9 @@ fn put_stretch(
     table: usize,
     here: Progress,
 ) -> Progress
-    requires { let b = lentCells values versions statuses holidays readings read_versions agreed agreed_versions widths in
+    requires { let b = lent_cells values versions statuses holidays readings read_versions agreed agreed_versions widths in
         Next head b out.old table here }
-    ensures { let b = lentCells values.entry versions.entry statuses.entry holidays.entry readings.entry read_versions.entry
+    ensures { let b = lent_cells values.entry versions.entry statuses.entry holidays.entry readings.entry read_versions.entry
         agreed.entry agreed_versions.entry widths.entry in
         PutStretch head b out.old out.new here result }
 {
@@ -335,11 +335,11 @@ pub fn put_tables(
     out: &mut [u8],
     table: usize,
 ) -> Totals
-    requires { let b = lentCells values versions statuses holidays readings read_versions agreed agreed_versions widths in
-        Roomy head b out.old × (table ≡ 6 * slotCount head) }
-    ensures { let b = lentCells values.entry versions.entry statuses.entry holidays.entry readings.entry read_versions.entry
+    requires { let b = lent_cells values versions statuses holidays readings read_versions agreed agreed_versions widths in
+        Roomy head b out.old × (table ≡ 6 * slot_count head) }
+    ensures { let b = lent_cells values.entry versions.entry statuses.entry holidays.entry readings.entry read_versions.entry
         agreed.entry agreed_versions.entry widths.entry in
-        (result ≡ totalsOf (outcomes head b)) × (out.new ≡ bufferAt head b out.old (slotCount head)) }
+        (result ≡ totals_of (outcomes head b)) × (out.new ≡ buffer_at head b out.old (slot_count head)) }
 {
     let n = opening::slot_count(head);
     let mut here = begin();

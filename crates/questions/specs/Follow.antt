@@ -1,34 +1,34 @@
 -- The fields of an explanation as numbers for C.
 use Rattle.std.specs.Prelude.{Bool, true, false, cond, not, List, [], ◌∷◌, ℕ, leb, eqb, get_or, length}
-use Rattle.base.specs.Refusals.{firstBroken}
+use Rattle.base.specs.Refusals.{first_broken}
 use Rattle.base.specs.Refusals.Rule.{rule}
 use Rattle.rules.specs.declared.Head.{Head}
 use Rattle.rules.specs.declared.tests.Cause.{Cause}
 use Rattle.rules.specs.declared.tests.Cause.TheVariants as cause
-use Rattle.rules.specs.Opening.{headOk, slotCount}
-use Rattle.book.specs.Cells.{Book, bookFits, bookOk}
+use Rattle.rules.specs.Opening.{head_ok, slot_count}
+use Rattle.book.specs.Cells.{Book, book_fits, book_ok}
 use Rattle.file.specs.Layout.{letter}
 use Rattle.explain.specs.declared.Rule.{Rule}
 use Rattle.explain.specs.declared.Rule.TheVariants as applied
 use Rattle.explain.specs.declared.Explanation.{Explanation}
-use Rattle.explain.specs.Explain.{explanationOf}
+use Rattle.explain.specs.Explain.{explanation_of}
 
 -- the causes in the order of 01, 0 where there is none
-abbrev pub causeCode : Cause → ℕ
-causeCode cause.Nothing = 0
-causeCode cause.Gap = 1
-causeCode cause.TimeChange = 2
-causeCode cause.Partial = 3
-causeCode cause.Demand = 4
+abbrev pub cause_code : Cause → ℕ
+cause_code cause.Nothing = 0
+cause_code cause.Gap = 1
+cause_code cause.TimeChange = 2
+cause_code cause.Partial = 3
+cause_code cause.Demand = 4
 
 -- the rules as 01 numbers them, 0 for a good slot; agreed is 5, as its method is
-abbrev pub ruleCode : Rule → ℕ
-ruleCode applied.Delivered = 0
-ruleCode applied.Agreed = 5
-ruleCode applied.OutageZero = 1
-ruleCode applied.Linear = 2
-ruleCode applied.SameDay = 3
-ruleCode applied.Nothing = 4
+abbrev pub rule_code : Rule → ℕ
+rule_code applied.Delivered = 0
+rule_code applied.Agreed = 5
+rule_code applied.OutageZero = 1
+rule_code applied.Linear = 2
+rule_code applied.SameDay = 3
+rule_code applied.Nothing = 4
 
 abbrev pub bit : Bool → ℕ
 bit true = 1
@@ -36,7 +36,7 @@ bit false = 0
 
 unfoldable pub fields_of : Explanation → List ℕ
 fields_of e =
-    causeCode e.cause ∷ ruleCode e.rule
+    cause_code e.cause ∷ rule_code e.rule
     ∷ e.filled.value ∷ letter e.filled.quality ∷ e.filled.method
     ∷ e.line.left ∷ e.line.right ∷ e.line.place ∷ e.line.length
     ∷ e.found.count
@@ -49,12 +49,12 @@ fields_of e =
     ∷ []
 
 -- 2, as for any list of a wrong length, where there are not 34 places for the fields
-unfoldable pub explainCode : Head → Book → ℕ → List ℕ → ℕ
-explainCode h b slot held =
-    firstBroken
-    (rule 1 (not (headOk h)) ∷ rule 2 (not (bookFits h b)) ∷ rule 2 (not (eqb (length held) 34))
-    ∷ rule 3 (leb (slotCount h) slot) ∷ rule 11 (not (bookOk h b)) ∷ [])
+unfoldable pub explain_code : Head → Book → ℕ → List ℕ → ℕ
+explain_code h b slot held =
+    first_broken
+    (rule 1 (not (head_ok h)) ∷ rule 2 (not (book_fits h b)) ∷ rule 2 (not (eqb (length held) 34))
+    ∷ rule 3 (leb (slot_count h) slot) ∷ rule 11 (not (book_ok h b)) ∷ [])
 
 -- the fields of an explanation; a refused call leaves them
-unfoldable pub fieldsAfter : Head → Book → ℕ → List ℕ → List ℕ
-fieldsAfter h b slot held = cond (eqb (explainCode h b slot held) 0) (fields_of (explanationOf h b.cells slot)) held
+unfoldable pub fields_after : Head → Book → ℕ → List ℕ → List ℕ
+fields_after h b slot held = cond (eqb (explain_code h b slot held) 0) (fields_of (explanation_of h b.cells slot)) held

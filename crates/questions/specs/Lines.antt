@@ -3,6 +3,6 @@ use Rattle.std.specs.Prelude.{ℕ}
 use Rattle.line.specs.declared.LineWritten.{LineWritten}
 use Rattle.line.specs.declared.LineWritten.TheVariants.{Length, Refused}
 
-abbrev pub linedCode : LineWritten → ℕ
-linedCode (Length n) = n
-linedCode (Refused n) = n
+abbrev pub lined_code : LineWritten → ℕ
+lined_code (Length n) = n
+lined_code (Refused n) = n

@@ -2,32 +2,32 @@
 use Rattle.std.specs.Prelude.{◌&&◌, List, [], ◌∷◌, ℕ, eqb, ℤ, pos, length}
 use Rattle.base.specs.Refusals.{unless}
 use Rattle.rules.specs.declared.Head.{Head}
-use Rattle.book.specs.Cells.{Book, bookFits}
-use Rattle.claim.specs.Claim.{leftBy, plainFile}
+use Rattle.book.specs.Cells.{Book, book_fits}
+use Rattle.claim.specs.Claim.{left_by, plain_file}
 use Rattle.berth.specs.declared.Simulated.{Simulated}
 use Rattle.berth.specs.declared.Simulated.TheVariants.{Run, Refused}
-use Rattle.berth.specs.Run.{runCalls, reportOf, runRules, listsWith, bytesWith}
+use Rattle.berth.specs.Run.{run_calls, report_of, run_rules, lists_with, bytes_with}
 
 -- a report of another length is a list of the wrong length, 2
-unfoldable pub hostAnswer : Head → ℕ → ℕ → Book → List ℕ → List ℤ → Simulated
-hostAnswer h seed loss b out report =
-    unless Refused (runRules h seed loss (eqb (length report) 2 && bookFits h b) (length out)) (Run (reportOf h seed loss))
+unfoldable pub host_answer : Head → ℕ → ℕ → Book → List ℕ → List ℤ → Simulated
+host_answer h seed loss b out report =
+    unless Refused (run_rules h seed loss (eqb (length report) 2 && book_fits h b) (length out)) (Run (report_of h seed loss))
 
 -- 0, or the refusal's number
-abbrev pub simulatedCode : Simulated → ℕ
-simulatedCode (Run r) = 0
-simulatedCode (Refused n) = n
+abbrev pub simulated_code : Simulated → ℕ
+simulated_code (Run r) = 0
+simulated_code (Refused n) = n
 
-abbrev pub reportIn : Simulated → List ℤ → List ℤ
-reportIn (Run r) report = pos r.state ∷ r.difference ∷ []
-reportIn (Refused n) report = report
+abbrev pub report_in : Simulated → List ℤ → List ℤ
+report_in (Run r) report = pos r.state ∷ r.difference ∷ []
+report_in (Refused n) report = report
 
 -- the ten lists, the buffer and the report afterwards
-unfoldable pub hostLists : Head → ℕ → ℕ → Book → List ℕ → List ℤ → Book
-hostLists h seed loss b out report = listsWith (hostAnswer h seed loss b out report) (leftBy h (runCalls h seed loss)) b
+unfoldable pub host_lists : Head → ℕ → ℕ → Book → List ℕ → List ℤ → Book
+host_lists h seed loss b out report = lists_with (host_answer h seed loss b out report) (left_by h (run_calls h seed loss)) b
 
-unfoldable pub hostBytes : Head → ℕ → ℕ → Book → List ℕ → List ℤ → List ℕ
-hostBytes h seed loss b out report = bytesWith (hostAnswer h seed loss b out report) (plainFile h (runCalls h seed loss)) out
+unfoldable pub host_bytes : Head → ℕ → ℕ → Book → List ℕ → List ℤ → List ℕ
+host_bytes h seed loss b out report = bytes_with (host_answer h seed loss b out report) (plain_file h (run_calls h seed loss)) out
 
-unfoldable pub hostReport : Head → ℕ → ℕ → Book → List ℕ → List ℤ → List ℤ
-hostReport h seed loss b out report = reportIn (hostAnswer h seed loss b out report) report
+unfoldable pub host_report : Head → ℕ → ℕ → Book → List ℕ → List ℤ → List ℤ
+host_report h seed loss b out report = report_in (host_answer h seed loss b out report) report

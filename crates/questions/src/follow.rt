@@ -1,9 +1,9 @@
 // The export that explains a slot, its fields as numbers.
 ghost use Rattle.std.specs.Prelude.{◌≡◌, length};
-ghost use Rattle.book.specs.Lent.{lentBook};
+ghost use Rattle.book.specs.Lent.{lent_book};
 ghost use Rattle.file.specs.Layout.{letter};
-ghost use Rattle.host.specs.Codes.{headOf};
-ghost use Rattle.questions.specs.Follow.{causeCode, ruleCode, bit, fields_of, explainCode, fieldsAfter};
+ghost use Rattle.host.specs.Codes.{head_of};
+ghost use Rattle.questions.specs.Follow.{cause_code, rule_code, bit, fields_of, explain_code, fields_after};
 
 use explain::{Explanation, Rule};
 use host::head_of;
@@ -11,7 +11,7 @@ use rules::Quality;
 use rules::tests::Cause;
 
 fn cause_code(cause: Cause) -> u64
-    ensures { result ≡ causeCode cause }
+    ensures { result ≡ cause_code cause }
 {
     match cause {
         Cause::Nothing => 0,
@@ -24,7 +24,7 @@ fn cause_code(cause: Cause) -> u64
 
 // A good slot 0, the others as 01 numbers them, agreed by its method.
 fn rule_code(rule: Rule) -> u64
-    ensures { result ≡ ruleCode rule }
+    ensures { result ≡ rule_code rule }
 {
     match rule {
         Rule::Delivered => 0,
@@ -153,11 +153,11 @@ pub extern "C" fn sawmauve_explain(
     slot: u32,
     fields: &mut [u64],
 ) -> u32
-    ensures { let head = headOf year month day days interval limit tolerance in
-        let book = lentBook values.entry versions.entry statuses.entry holidays.entry readings.entry read_versions.entry
+    ensures { let head = head_of year month day days interval limit tolerance in
+        let book = lent_book values.entry versions.entry statuses.entry holidays.entry readings.entry read_versions.entry
         agreed.entry agreed_versions.entry counts.entry widths.entry in
-        (result ≡ explainCode head book slot fields.old)
-        × (fields.new ≡ fieldsAfter head book slot fields.old) }
+        (result ≡ explain_code head book slot fields.old)
+        × (fields.new ≡ fields_after head book slot fields.old) }
 {
     let head = head_of(year, month, day, days, interval, limit, tolerance);
     let told = explain::explain(

@@ -1,9 +1,9 @@
 // The exports of a whole log, and of one line of it.
 ghost use Rattle.std.specs.Prelude.{[], ◌∷◌, ◌≡◌, length};
-ghost use Rattle.book.specs.Lent.{lentBook};
-ghost use Rattle.play.specs.Playing.{checked, playAnswer, playAfter, answersAfter};
-ghost use Rattle.questions.specs.Logs.{checkCode, checkLine, logFigures, logCode, logAfter, playedCode};
-ghost use Rattle.questions.specs.Logs.{callCode, callFields, lineCode, lineFields, oneCode, oneFields};
+ghost use Rattle.book.specs.Lent.{lent_book};
+ghost use Rattle.play.specs.Playing.{checked, play_answer, play_after, answers_after};
+ghost use Rattle.questions.specs.Logs.{check_code, check_line, log_figures, log_code, log_after, played_code};
+ghost use Rattle.questions.specs.Logs.{call_code, call_fields, line_code, line_fields, one_code, one_fields};
 
 use book::calls::Call;
 use log::line::LogLine;
@@ -12,7 +12,7 @@ use play::{Checked, Played};
 // The nine figures of a log, and 0; else the number of what it is.
 fn tell_log(found: Checked, figures: &mut [u64]) -> u32
     requires { length figures.old ≡ 9 }
-    ensures { (result ≡ checkCode found) × (figures.new ≡ logFigures found figures.old) }
+    ensures { (result ≡ check_code found) × (figures.new ≡ log_figures found figures.old) }
 {
     match found {
         Checked::Log(head, lines, calls) => {
@@ -35,8 +35,8 @@ fn tell_log(found: Checked, figures: &mut [u64]) -> u32
 
 #[unsafe(no_mangle)]
 pub extern "C" fn sawmauve_log(log: &[u8], figures: &mut [u64]) -> u32
-    ensures { (result ≡ logCode log.now figures.old)
-        × (figures.new ≡ logAfter log.now figures.old) }
+    ensures { (result ≡ log_code log.now figures.old)
+        × (figures.new ≡ log_after log.now figures.old) }
 {
     if figures.len() != 9 {
         return 2;
@@ -46,7 +46,7 @@ pub extern "C" fn sawmauve_log(log: &[u8], figures: &mut [u64]) -> u32
 }
 
 fn line_number(found: Checked) -> u64
-    ensures { result ≡ checkLine found }
+    ensures { result ≡ check_line found }
 {
     match found {
         Checked::Log(_, _, _) => 0,
@@ -58,13 +58,13 @@ fn line_number(found: Checked) -> u64
 
 #[unsafe(no_mangle)]
 pub extern "C" fn sawmauve_log_line(log: &[u8]) -> u64
-    ensures { result ≡ checkLine (checked log.now) }
+    ensures { result ≡ check_line (checked log.now) }
 {
     line_number(play::check(log))
 }
 
 fn check_code(found: Checked) -> u32
-    ensures { result ≡ checkCode found }
+    ensures { result ≡ check_code found }
 {
     match found {
         Checked::Log(_, _, _) => 0,
@@ -75,7 +75,7 @@ fn check_code(found: Checked) -> u32
 }
 
 fn played_code(played: Played) -> u32
-    ensures { result ≡ playedCode played }
+    ensures { result ≡ played_code played }
 {
     match played {
         Played::AsChecked(found) => check_code(found),
@@ -100,13 +100,13 @@ pub extern "C" fn sawmauve_play(
 ) -> u32
     ensures { let bytes = log.now in
         let book =
-        lentBook values.entry versions.entry statuses.entry holidays.entry readings.entry read_versions.entry
+        lent_book values.entry versions.entry statuses.entry holidays.entry readings.entry read_versions.entry
         agreed.entry agreed_versions.entry counts.entry widths.entry in
-        (result ≡ playedCode (playAnswer bytes book answers.old))
-        × (lentBook values.exit versions.exit statuses.exit holidays.exit readings.exit read_versions.exit
+        (result ≡ played_code (play_answer bytes book answers.old))
+        × (lent_book values.exit versions.exit statuses.exit holidays.exit readings.exit read_versions.exit
         agreed.exit agreed_versions.exit counts.exit widths.exit
-        ≡ playAfter bytes book answers.old)
-        × (answers.new ≡ answersAfter bytes book answers.old) }
+        ≡ play_after bytes book answers.old)
+        × (answers.new ≡ answers_after bytes book answers.old) }
 {
     let played = play::play(
         log,
@@ -140,7 +140,7 @@ fn put_seven(fields: &mut [u32], a: u32, b: u32, c: u32, d: u32, e: u32, f: u32,
 
 fn tell_call(call: Call, fields: &mut [u32]) -> u32
     requires { length fields.old ≡ 7 }
-    ensures { (result ≡ callCode call) × (fields.new ≡ callFields call) }
+    ensures { (result ≡ call_code call) × (fields.new ≡ call_fields call) }
 {
     match call {
         Call::Delivery {
@@ -178,7 +178,7 @@ fn tell_call(call: Call, fields: &mut [u32]) -> u32
 
 fn tell_line(line: LogLine, fields: &mut [u32]) -> u32
     requires { length fields.old ≡ 7 }
-    ensures { (result ≡ lineCode line) × (fields.new ≡ lineFields line fields.old) }
+    ensures { (result ≡ line_code line) × (fields.new ≡ line_fields line fields.old) }
 {
     match line {
         LogLine::Passed => {
@@ -209,8 +209,8 @@ fn tell_line(line: LogLine, fields: &mut [u32]) -> u32
 
 #[unsafe(no_mangle)]
 pub extern "C" fn sawmauve_call(line: &[u8], fields: &mut [u32]) -> u32
-    ensures { (result ≡ oneCode line.now fields.old)
-        × (fields.new ≡ oneFields line.now fields.old) }
+    ensures { (result ≡ one_code line.now fields.old)
+        × (fields.new ≡ one_fields line.now fields.old) }
 {
     if fields.len() != 7 {
         return 2;

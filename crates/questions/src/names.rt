@@ -1,7 +1,7 @@
 // The exports of a slot by its date and minute, and of a day number's date.
 ghost use Rattle.std.specs.Prelude.{◌≡◌};
-ghost use Rattle.host.specs.Codes.{headOf};
-ghost use Rattle.questions.specs.Naming.{namedCode, slotCode, dateCode};
+ghost use Rattle.host.specs.Codes.{head_of};
+ghost use Rattle.questions.specs.Naming.{named_code, slot_code, date_code};
 
 use explain::naming;
 use explain::naming::{Moment, Named};
@@ -9,7 +9,7 @@ use host::head_of;
 use rules::opening;
 
 fn named_code(named: Named) -> u32
-    ensures { result ≡ namedCode named }
+    ensures { result ≡ named_code named }
 {
     match named {
         Named::Slot(slot) => slot,
@@ -31,7 +31,7 @@ pub extern "C" fn sawmauve_slot(
     at_day: u32,
     minute: u32,
 ) -> u32
-    ensures { result ≡ slotCode (headOf year month day days interval limit tolerance) at_year at_month at_day minute }
+    ensures { result ≡ slot_code (head_of year month day days interval limit tolerance) at_year at_month at_day minute }
 {
     let head = head_of(year, month, day, days, interval, limit, tolerance);
     if !opening::head_ok(head) {
@@ -50,7 +50,7 @@ pub extern "C" fn sawmauve_slot(
 
 #[unsafe(no_mangle)]
 pub extern "C" fn sawmauve_date(day: u32) -> u32
-    ensures { result ≡ dateCode day }
+    ensures { result ≡ date_code day }
 {
     if 36524 < day {
         return 100000003;

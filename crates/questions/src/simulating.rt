@@ -1,8 +1,8 @@
 // The export of a simulated berth (02, W12).
 ghost use Rattle.std.specs.Prelude.{◌≡◌, length};
-ghost use Rattle.book.specs.Lent.{lentBook};
-ghost use Rattle.host.specs.Codes.{headOf};
-ghost use Rattle.questions.specs.Simulating.{hostAnswer, simulatedCode, reportIn, hostLists, hostBytes, hostReport};
+ghost use Rattle.book.specs.Lent.{lent_book};
+ghost use Rattle.host.specs.Codes.{head_of};
+ghost use Rattle.questions.specs.Simulating.{host_answer, simulated_code, report_in, host_lists, host_bytes, host_report};
 
 use berth::Simulated;
 use rules::opening;
@@ -10,7 +10,7 @@ use rules::opening;
 // The state and the difference into the report, and 0; else the refusal's number.
 fn tell(simulated: Simulated, report: &mut [i64]) -> u32
     requires { length report.old ≡ 2 }
-    ensures { (result ≡ simulatedCode simulated) × (report.new ≡ reportIn simulated report.old) }
+    ensures { (result ≡ simulated_code simulated) × (report.new ≡ report_in simulated report.old) }
 {
     match simulated {
         Simulated::Run(found) => {
@@ -48,17 +48,17 @@ pub extern "C" fn sawmauve_simulate(
     out: &mut [u8],
     report: &mut [i64],
 ) -> u32
-    ensures { let head = headOf year month day days interval limit tolerance in
-        let book = lentBook values.entry versions.entry statuses.entry holidays.entry readings.entry read_versions.entry
+    ensures { let head = head_of year month day days interval limit tolerance in
+        let book = lent_book values.entry versions.entry statuses.entry holidays.entry readings.entry read_versions.entry
         agreed.entry agreed_versions.entry counts.entry widths.entry in
         let given = out.old in
         let told = report.old in
-        (result ≡ simulatedCode (hostAnswer head seed loss book given told))
-        × (lentBook values.exit versions.exit statuses.exit holidays.exit readings.exit read_versions.exit
+        (result ≡ simulated_code (host_answer head seed loss book given told))
+        × (lent_book values.exit versions.exit statuses.exit holidays.exit readings.exit read_versions.exit
         agreed.exit agreed_versions.exit counts.exit widths.exit
-        ≡ hostLists head seed loss book given told)
-        × (out.new ≡ hostBytes head seed loss book given told)
-        × (report.new ≡ hostReport head seed loss book given told) }
+        ≡ host_lists head seed loss book given told)
+        × (out.new ≡ host_bytes head seed loss book given told)
+        × (report.new ≡ host_report head seed loss book given told) }
 {
     let head = host::head_of(year, month, day, days, interval, limit, tolerance);
     if !opening::head_ok(head) {

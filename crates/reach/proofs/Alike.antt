@@ -8,9 +8,9 @@ use native.Mathlib.Nat.{eq-or-lt_of_le}
 use lib.ListN.{get_or}
 use Rattle.rules.specs.declared.Head.{Head}
 use Rattle.rules.specs.Opening.{Slots}
-use Rattle.rules.specs.Tests.{isGap, causeAt, goodAt}
-use Rattle.rules.specs.Filling.{outageAt, isReference}
-use Rattle.rules.proofs.Outages.{good-delivered}
+use Rattle.rules.specs.Tests.{is_gap, cause_at, good_at}
+use Rattle.rules.specs.Filling.{outage_at, is_reference}
+use Rattle.rules.proofs.Outages.{good_delivered}
 
 -- the three cells of slot k
 pub record SameAt (s t : Slots) (k : ℕ) : Type 0 where
@@ -26,9 +26,9 @@ cond_same false true e p q = absurd (false≢true e)
 cond_same false false e p q = q
 
 -- the same where each part needs to be equal only where it is taken
-pub cond-parts : {X : Type 0} (x : Bool) {a b c d : X} → (x ≡ true → a ≡ b) → (x ≡ false → c ≡ d) → cond x a c ≡ cond x b d
-cond-parts true p q = p refl
-cond-parts false p q = q refl
+pub cond_parts : {X : Type 0} (x : Bool) {a b c d : X} → (x ≡ true → a ≡ b) → (x ≡ false → c ≡ d) → cond x a c ≡ cond x b d
+cond_parts true p q = p refl
+cond_parts false p q = q refl
 
 pub and_same : (x y : Bool) {a b : Bool} → x ≡ y → (x ≡ true → a ≡ b) → (x && a) ≡ (y && b)
 and_same true true e p = p refl
@@ -37,29 +37,29 @@ and_same false true e p = absurd (false≢true e)
 and_same false false e p = refl
 
 module _ (h : Head) (s t : Slots) (k : ℕ) (e : SameAt s t k) where
-  pub gap_same : isGap s.versions k ≡ isGap t.versions k
-  unfolding isGap
+  pub gap_same : is_gap s.versions k ≡ is_gap t.versions k
+  unfolding is_gap
   gap_same = rw e.version
 
-  pub outage-same : outageAt s.versions s.statuses k ≡ outageAt t.versions t.statuses k
-  unfolding outageAt
-  outage-same = rw (gap_same, e.status)
+  pub outage_same : outage_at s.versions s.statuses k ≡ outage_at t.versions t.statuses k
+  unfolding outage_at
+  outage_same = rw (gap_same, e.status)
 
-  pub good-same : goodAt h s k ≡ goodAt h t k
-  unfolding goodAt causeAt
-  good-same = rw (e.value, e.version, e.status)
+  pub good_same : good_at h s k ≡ good_at h t k
+  unfolding good_at cause_at
+  good_same = rw (e.value, e.version, e.status)
 
-  pub reference-same : (holidays : List ℕ) → isReference h s holidays k ≡ isReference h t holidays k
-  unfolding isReference
-  reference-same holidays = rw (good-same, e.status)
+  pub reference_same : (holidays : List ℕ) → is_reference h s holidays k ≡ is_reference h t holidays k
+  unfolding is_reference
+  reference_same holidays = rw (good_same, e.status)
 
 -- a slot at which a test passes that good slots do not pass is not the good slot m
-module _ (h : Head) (s : Slots) (m k : ℕ) (g : goodAt h s m ≡ true) where
-  pub gap-not-good : isGap s.versions k ≡ true → m ≡ k → ⊥
-  gap-not-good e z = false≢true (sym (good-delivered h s m g) ∙ rw z e)
+module _ (h : Head) (s : Slots) (m k : ℕ) (g : good_at h s m ≡ true) where
+  pub gap_not_good : is_gap s.versions k ≡ true → m ≡ k → ⊥
+  gap_not_good e z = false≢true (sym (good_delivered h s m g) ∙ rw z e)
 
-  pub past-gap : isGap s.versions k ≡ true → m ≤ k → m < k
-  past-gap e l = ⊎_elim (λ z. absurd (gap-not-good e z)) (λ n. n) (eq-or-lt_of_le l)
+  pub past_gap : is_gap s.versions k ≡ true → m ≤ k → m < k
+  past_gap e l = ⊎_elim (λ z. absurd (gap_not_good e z)) (λ n. n) (eq-or-lt_of_le l)
 
-  pub short-of-gap : isGap s.versions k ≡ true → k ≤ m → k < m
-  short-of-gap e l = ⊎_elim (λ z. absurd (gap-not-good e (sym z))) (λ n. n) (eq-or-lt_of_le l)
+  pub short_of_gap : is_gap s.versions k ≡ true → k ≤ m → k < m
+  short_of_gap e l = ⊎_elim (λ z. absurd (gap_not_good e (sym z))) (λ n. n) (eq-or-lt_of_le l)

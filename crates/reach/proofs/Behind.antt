@@ -8,86 +8,86 @@ use native.Mathlib.Nat.{eq-or-lt_of_le}
 use native.Mathlib.Omega.{arith}
 use Rattle.base.proofs.Logic.{either}
 use Rattle.rules.specs.declared.Head.{Head}
-use Rattle.rules.specs.Opening.{Slots, slotCount}
-use Rattle.rules.specs.Tests.{goodAt}
-use Rattle.rules.specs.Filling.{outageBefore, outageAfter, isOutageZero, inRun, runBefore, run_from, runStart, runLength, isLinear}
-use Rattle.rules.specs.Filling.{linearValue}
+use Rattle.rules.specs.Opening.{Slots, slot_count}
+use Rattle.rules.specs.Tests.{good_at}
+use Rattle.rules.specs.Filling.{outage_before, outage_after, is_outage_zero, in_run, run_before, run_from, run_start, run_length, is_linear}
+use Rattle.rules.specs.Filling.{linear_value}
 use Rattle.rules.proofs.Runs.{run-good}
-use Rattle.reach.proofs.Alike.{SameAt, cond_same, and_same, gap_same, outage-same, good-same, past-gap}
+use Rattle.reach.proofs.Alike.{SameAt, cond_same, and_same, gap_same, outage_same, good_same, past_gap}
 
-module _ (h : Head) (s t : Slots) (v : List ℕ) (m : ℕ) (same : (k : ℕ) → m ≤ k → SameAt s t k) (g : goodAt h s m ≡ true) where
-  outage-before : (j : ℕ) → m < j → outageBefore s.versions s.statuses j ≡ outageBefore t.versions t.statuses j
-  unfolding outageBefore
-  outage-before zero l = absurd (omega arith)
-  outage-before (suc k) l =
+module _ (h : Head) (s t : Slots) (v : List ℕ) (m : ℕ) (same : (k : ℕ) → m ≤ k → SameAt s t k) (g : good_at h s m ≡ true) where
+  outage_before_lem : (j : ℕ) → m < j → outage_before s.versions s.statuses j ≡ outage_before t.versions t.statuses j
+  unfolding outage_before
+  outage_before_lem zero l = absurd (omega arith)
+  outage_before_lem (suc k) l =
       let low : m ≤ k = omega arith in
-      cond_same _ _ (gap_same h s t k (same k low)) (λ e. outage-before k (past-gap h s m k g e low)) (outage-same h s t k (same k low))
+      cond_same _ _ (gap_same h s t k (same k low)) (λ e. outage_before_lem k (past_gap h s m k g e low)) (outage_same h s t k (same k low))
 
-  outage-after : (n j : ℕ) → m ≤ j → outageAfter s.versions s.statuses j n ≡ outageAfter t.versions t.statuses j n
-  unfolding outageAfter
-  outage-after zero j l = refl
-  outage-after (suc n) j l =
-      cond_same _ _ (gap_same h s t j (same j l)) (λ e. outage-after n (suc j) (omega arith)) (outage-same h s t j (same j l))
+  outage_after_lem : (n j : ℕ) → m ≤ j → outage_after s.versions s.statuses j n ≡ outage_after t.versions t.statuses j n
+  unfolding outage_after
+  outage_after_lem zero j l = refl
+  outage_after_lem (suc n) j l =
+      cond_same _ _ (gap_same h s t j (same j l)) (λ e. outage_after_lem n (suc j) (omega arith)) (outage_same h s t j (same j l))
 
-  pub zero-behind : (j : ℕ) → m ≤ j → isOutageZero h s j ≡ isOutageZero h t j
-  unfolding isOutageZero
-  zero-behind j l =
+  pub zero_behind : (j : ℕ) → m ≤ j → is_outage_zero h s j ≡ is_outage_zero h t j
+  unfolding is_outage_zero
+  zero_behind j l =
       and_same _ _ (gap_same h s t j (same j l))
-      (λ e. ap₂ (λ (x y : Bool). x || y) (outage-before j (past-gap h s m j g e l)) (outage-after (slotCount h - j) j l))
+      (λ e. ap₂ (λ (x y : Bool). x || y) (outage_before_lem j (past_gap h s m j g e l)) (outage_after_lem (slot_count h - j) j l))
 
-  run-behind : (j : ℕ) → m ≤ j → inRun h s v j ≡ inRun h t v j
-  unfolding inRun
-  run-behind j l = rw (good-same h s t j (same j l), zero-behind j l)
+  run_behind : (j : ℕ) → m ≤ j → in_run h s v j ≡ in_run h t v j
+  unfolding in_run
+  run_behind j l = rw (good_same h s t j (same j l), zero_behind j l)
 
   -- a slot of a run behind m is not m
-  past-run : (k : ℕ) → inRun h s v k ≡ true → m ≤ k → m < k
-  past-run k e l =
+  past_run : (k : ℕ) → in_run h s v k ≡ true → m ≤ k → m < k
+  past_run k e l =
       ⊎_elim (λ z. absurd (false≢true (sym (run-good h s v m g) ∙ rw z e))) (λ n. n) (eq-or-lt_of_le l)
 
-  run-before : (j : ℕ) → m < j → runBefore h s v j ≡ runBefore h t v j
-  unfolding runBefore
-  run-before zero l = absurd (omega arith)
-  run-before (suc k) l =
+  run_before_lem : (j : ℕ) → m < j → run_before h s v j ≡ run_before h t v j
+  unfolding run_before
+  run_before_lem zero l = absurd (omega arith)
+  run_before_lem (suc k) l =
       let low : m ≤ k = omega arith in
-      cond_same _ _ (run-behind k low) (λ e. ap suc (run-before k (past-run k e low))) refl
+      cond_same _ _ (run_behind k low) (λ e. ap suc (run_before_lem k (past_run k e low))) refl
 
   -- the run begins behind m
-  begins : (j : ℕ) → m < j → m + suc (runBefore h s v j) ≤ j
-  unfolding runBefore
+  begins : (j : ℕ) → m < j → m + suc (run_before h s v j) ≤ j
+  unfolding run_before
   begins zero l = absurd (omega arith)
   begins (suc k) l =
       let low : m ≤ k = omega arith in
-      ⊎_elim (λ e. rw e (let r = begins k (past-run k e low) in omega arith)) (λ e. rw e (omega arith)) (either (inRun h s v k))
+      ⊎_elim (λ e. rw e (let r = begins k (past_run k e low) in omega arith)) (λ e. rw e (omega arith)) (either (in_run h s v k))
 
-  run-from : (n j : ℕ) → m ≤ j → run_from h s v j n ≡ run_from h t v j n
+  run_from_lem : (n j : ℕ) → m ≤ j → run_from h s v j n ≡ run_from h t v j n
   unfolding run_from
-  run-from zero j l = refl
-  run-from (suc n) j l = cond_same _ _ (run-behind j l) (λ e. ap suc (run-from n (suc j) (omega arith))) refl
+  run_from_lem zero j l = refl
+  run_from_lem (suc n) j l = cond_same _ _ (run_behind j l) (λ e. ap suc (run_from_lem n (suc j) (omega arith))) refl
 
   module _ (j : ℕ) (l : m < j) where
-    start-same : runStart h s v j ≡ runStart h t v j
-    unfolding runStart
-    start-same = ap (λ (x : ℕ). j - x) (run-before j l)
+    start-same : run_start h s v j ≡ run_start h t v j
+    unfolding run_start
+    start-same = ap (λ (x : ℕ). j - x) (run_before_lem j l)
 
-    length-same : runLength h s v j ≡ runLength h t v j
-    unfolding runLength
-    length-same = ap₂ (λ (x y : ℕ). x + y) (run-before j l) (run-from (slotCount h - j) j (omega arith))
+    length-same : run_length h s v j ≡ run_length h t v j
+    unfolding run_length
+    length-same = ap₂ (λ (x y : ℕ). x + y) (run_before_lem j l) (run_from_lem (slot_count h - j) j (omega arith))
 
-    low : m ≤ runStart h s v j - 1
-    unfolding runStart
+    low : m ≤ run_start h s v j - 1
+    unfolding run_start
     low = omega (arith, begins j l)
 
-    left : SameAt s t (runStart h s v j - 1)
-    left = same (runStart h s v j - 1) low
+    left : SameAt s t (run_start h s v j - 1)
+    left = same (run_start h s v j - 1) low
 
-    right : SameAt s t (runStart h s v j + runLength h s v j)
-    right = same (runStart h s v j + runLength h s v j) (omega (arith, low))
+    right : SameAt s t (run_start h s v j + run_length h s v j)
+    right = same (run_start h s v j + run_length h s v j) (omega (arith, low))
 
-    pub linear-behind : isLinear h s v j ≡ isLinear h t v j
-    unfolding isLinear
+    pub linear-behind : is_linear h s v j ≡ is_linear h t v j
+    unfolding is_linear
     linear-behind =
-        rw (good-same h s t _ left, good-same h s t _ right, start-same, length-same)
+        rw (good_same h s t _ left, good_same h s t _ right, start-same, length-same)
 
-    pub value-behind : linearValue h s v j ≡ linearValue h t v j
-    unfolding linearValue
-    value-behind = rw (left.value, right.value, start-same, length-same, run-before j l)
+    pub value-behind : linear_value h s v j ≡ linear_value h t v j
+    unfolding linear_value
+    value-behind = rw (left.value, right.value, start-same, length-same, run_before_lem j l)

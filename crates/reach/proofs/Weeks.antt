@@ -9,21 +9,21 @@ use native.Mathlib.Omega.{arith}
 use borrow.Author.Tests.{eqb-false, ltb-false}
 use lib.Dec.{eqb, ltb}
 use lib.ListN.{get_or, take}
-use Rattle.calendar.specs.Calendar.{weekday, toSunday}
-use Rattle.calendar.proofs.Sundays.{one-to-seven, on-a-sunday}
+use Rattle.calendar.specs.Calendar.{weekday, to_sunday}
+use Rattle.calendar.proofs.Sundays.{one_to_seven, on_a_sunday}
 use Rattle.rules.specs.declared.Head.{Head}
-use Rattle.rules.specs.Opening.{Slots, firstDay, slotsPerDay}
-use Rattle.rules.specs.Weeks.{firstBack, farthestBack, weeksWithin}
+use Rattle.rules.specs.Opening.{Slots, first_day, slots_per_day}
+use Rattle.rules.specs.Weeks.{first_back, farthest_back, weeks_within}
 use Rattle.rules.specs.Filling.{references}
-use Rattle.rules.specs.References.{eachWeek}
+use Rattle.rules.specs.References.{each_week}
 use Rattle.rules.specs.Inner.Ways.{value_of}
-use Rattle.rules.proofs.References.{week-within, references-searched}
+use Rattle.rules.proofs.References.{week_within, references_searched}
 use Rattle.reach.specs.Reach.{Weeks, FromSunday}
-use Rattle.reach.proofs.Alike.{SameAt, cond_same, cond-parts, reference-same}
+use Rattle.reach.proofs.Alike.{SameAt, cond_same, cond_parts, reference_same}
 
 module _ (h : Head) (s t : Slots) (holidays : List ℕ) (i : ℕ) (same : (k : ℕ) → (k ≡ i → ⊥) → SameAt s t k) where
   abbrev n : ℕ
-  n = slotsPerDay h
+  n = slots_per_day h
 
   -- a slot `days` days before slot j is slot i
   back : (days j : ℕ) → days * n ≤ j → j - days * n ≡ i → j ≡ i + (days + 7 * 0) * n
@@ -32,18 +32,18 @@ module _ (h : Head) (s t : Slots) (holidays : List ℕ) (i : ℕ) (same : (k : �
       rw z (omega arith)
 
   -- none of the k weeks from `days` days before slot j leads to slot i
-  weeks-same : (k days j : ℕ) → ((r : ℕ) → r < k → j ≡ i + (days + 7 * r) * n → ⊥)
-      → eachWeek (value_of s) h s holidays days j k ≡ eachWeek (value_of t) h t holidays days j k
-  unfolding eachWeek
-  weeks-same zero days j far = refl
-  weeks-same (suc k) days j far =
-      cond-parts (ltb j (days * n)) (λ e. refl)
+  weeks_same : (k days j : ℕ) → ((r : ℕ) → r < k → j ≡ i + (days + 7 * r) * n → ⊥)
+      → each_week (value_of s) h s holidays days j k ≡ each_week (value_of t) h t holidays days j k
+  unfolding each_week
+  weeks_same zero days j far = refl
+  weeks_same (suc k) days j far =
+      cond_parts (ltb j (days * n)) (λ e. refl)
       (λ e.
       let l : days * n ≤ j = ltb-false _ _ e in
       let here : (j - days * n ≡ i → ⊥) = λ z. far 0 (omega arith) (back days j l z) in
-      let rest = weeks-same k 7 (j - days * n) (λ r m z. far (suc r) (omega arith) (further days r j l z)) in
+      let rest = weeks_same k 7 (j - days * n) (λ r m z. far (suc r) (omega arith) (further days r j l z)) in
       let at = same (j - days * n) here in
-      cond_same _ _ (reference-same h s t (j - days * n) at holidays) (λ x. ap₂ (λ (y : ℕ) (ys : List ℕ). y ∷ ys) at.value rest) rest)
+      cond_same _ _ (reference_same h s t (j - days * n) at holidays) (λ x. ap₂ (λ (y : ℕ) (ys : List ℕ). y ∷ ys) at.value rest) rest)
     where
       further : (days r j : ℕ) → days * n ≤ j → j - days * n ≡ i + (7 + 7 * r) * n → j ≡ i + (days + 7 * suc r) * n
       further days r j l z =
@@ -61,35 +61,35 @@ module _ (h : Head) (s t : Slots) (holidays : List ℕ) (i : ℕ) (same : (k : �
     day-of : (days : ℕ) → j ≡ i + days * n → d ≡ i / n + days
     day-of days e = rw e (add-mul-div_right i days pos)
 
-    on-sunday : (r : ℕ) → j ≡ i + (toSunday (firstDay h + d) + 7 * r) * n → weekday (firstDay h + i / n) ≡ 0
+    on-sunday : (r : ℕ) → j ≡ i + (to_sunday (first_day h + d) + 7 * r) * n → weekday (first_day h + i / n) ≡ 0
     on-sunday r e =
-        let x = day-of (toSunday (firstDay h + d) + 7 * r) e in
-        let z = on-a-sunday (firstDay h + d) (omega arith) in
+        let x = day-of (to_sunday (first_day h + d) + 7 * r) e in
+        let z = on_a_sunday (first_day h + d) (omega arith) in
         omega arith
 
     pub references-same : ((days : ℕ) → Within days → ⊥) → references h s holidays j ≡ references h t holidays j
-    unfolding firstBack farthestBack
+    unfolding first_back farthest_back
     references-same far =
-        references-searched h s holidays j
-        ∙ ap (take 4) (weeks-same (weeksWithin (firstBack h holidays d) (farthestBack holidays d)) (firstBack h holidays d) j
+        references_searched h s holidays j
+        ∙ ap (take 4) (weeks_same (weeks_within (first_back h holidays d) (farthest_back holidays d)) (first_back h holidays d) j
         (λ r l e. go (eqb (get_or holidays d 0) 0) refl r l e))
-        ∙ sym (references-searched h t holidays j)
+        ∙ sym (references_searched h t holidays j)
       where
-        go : (x : Bool) → eqb (get_or holidays d 0) 0 ≡ x → (r : ℕ) → r < weeksWithin (firstBack h holidays d) (farthestBack holidays d)
-            → j ≡ i + (firstBack h holidays d + 7 * r) * n → ⊥
+        go : (x : Bool) → eqb (get_or holidays d 0) 0 ≡ x → (r : ℕ) → r < weeks_within (first_back h holidays d) (farthest_back holidays d)
+            → j ≡ i + (first_back h holidays d + 7 * r) * n → ⊥
         go true x r l e =
-            let k : 7 + 7 * r ≤ 364 = (week-within 7 364 r (omega arith)).0 (rw x at l) in
+            let k : 7 + 7 * r ≤ 364 = (week_within 7 364 r (omega arith)).0 (rw x at l) in
             far (7 + 7 * r) (rw x at e, inl (record { later = omega arith; whole = omega arith; most = k }))
         go false x r l e =
-            let f : toSunday (firstDay h + d) + 7 * r ≤ 370 =
-            (week-within (toSunday (firstDay h + d)) 370 r (one-to-seven (firstDay h + d)).1).0 (rw x at l) in
-            let p : j ≡ i + (toSunday (firstDay h + d) + 7 * r) * n = rw x at e in
-            far (toSunday (firstDay h + d) + 7 * r) (
+            let f : to_sunday (first_day h + d) + 7 * r ≤ 370 =
+            (week_within (to_sunday (first_day h + d)) 370 r (one_to_seven (first_day h + d)).1).0 (rw x at l) in
+            let p : j ≡ i + (to_sunday (first_day h + d) + 7 * r) * n = rw x at e in
+            far (to_sunday (first_day h + d) + 7 * r) (
               p,
               inr (record {
                 holiday = eqb-false _ _ x;
                 sunday = on-sunday r p;
-                later = omega (arith, one-to-seven (firstDay h + d));
+                later = omega (arith, one_to_seven (first_day h + d));
                 most = f;
               }),
             )

@@ -2,13 +2,13 @@
 -- slot moves that no other clause holds.
 use Rattle.std.specs.Prelude.{List, [], ◌∷◌, ◌++◌, ◌⊎◌, ◌≡◌, ℕ, ◌<◌}
 use Rattle.rules.specs.declared.Head.{Head}
-use Rattle.rules.specs.Opening.{Slots, Cells, slotCount}
-use Rattle.rules.specs.Spans.{outcomeAt}
+use Rattle.rules.specs.Opening.{Slots, Cells, slot_count}
+use Rattle.rules.specs.Spans.{outcome_at}
 use Rattle.book.specs.Answers.Answer.{stored}
 use Rattle.book.specs.Arguments.{Call}
 use Rattle.book.specs.Arguments.Call.{delivery}
 use Rattle.book.specs.Filling.{answer}
-use Rattle.claim.specs.Claim.{leftBy, plain_of}
+use Rattle.claim.specs.Claim.{left_by, plain_of}
 use Rattle.reach.specs.Reach.{DaysLater, Itself, Beside, Later, Met, SpanMet}
 
 -- a list of calls, one more delivery, and a slot to look at
@@ -25,21 +25,21 @@ pub record Late : Type 0 where
 abbrev pub figure : Late → Call
 figure l = delivery l.slot l.version l.value l.status
 
-abbrev pub bookBefore : Late → Cells
-bookBefore l = plain_of l.head l.calls
+abbrev pub book_before : Late → Cells
+book_before l = plain_of l.head l.calls
 
-abbrev pub bookAfter : Late → Cells
-bookAfter l = plain_of l.head (l.calls ++ (figure l ∷ []))
+abbrev pub book_after : Late → Cells
+book_after l = plain_of l.head (l.calls ++ (figure l ∷ []))
 
 -- the delivery is stored, and the slot's outcome moves
 pub record Moves (l : Late) : Type 0 where
-  pub answered : answer l.head (leftBy l.head l.calls) (figure l) ≡ stored
-  pub inside : l.looked < slotCount l.head
-  pub differs : outcomeAt l.head (bookBefore l) l.looked ≡ outcomeAt l.head (bookAfter l) l.looked → ⊥
+  pub answered : answer l.head (left_by l.head l.calls) (figure l) ≡ stored
+  pub inside : l.looked < slot_count l.head
+  pub differs : outcome_at l.head (book_before l) l.looked ≡ outcome_at l.head (book_after l) l.looked → ⊥
 
 -- a clause of the slot
 abbrev pub Of : (Head → Cells → Cells → ℕ → ℕ → Type 0) → Late → Type 0
-Of clause l = clause l.head (bookBefore l) (bookAfter l) l.slot l.looked
+Of clause l = clause l.head (book_before l) (book_after l) l.slot l.looked
 
 -- where it moves, only this clause holds it
 abbrev pub OnlyItself : Late → Type 0

@@ -9,34 +9,34 @@ use native.Mathlib.Numerals.{add-one}
 use native.Mathlib.Omega.{arith}
 use lib.ListN.{length, length-append, get_or}
 use Rattle.base.specs.Lists.{sum}
-use Rattle.base.proofs.Sums.{sum_first, sum-none, sum-place}
+use Rattle.base.proofs.Sums.{sum_first, sum_none, sum_place}
 use Rattle.rules.specs.declared.Head.{Head}
 use Rattle.rules.specs.Opening.{Cells}
-use Rattle.rules.specs.Spans.{isRead, nextRead, spanTo, spanFrom, spansFrom, spans}
-use Rattle.rules.specs.Inner.Stretches.{readCount}
-use Rattle.rules.proofs.Boundaries.{next-tells, next-none}
-use Rattle.rules.proofs.Stretches.{is_read, unread}
+use Rattle.rules.specs.Spans.{is_read, next_read, span_to, span_from, spans_from, spans}
+use Rattle.rules.specs.Inner.Stretches.{read_count}
+use Rattle.rules.proofs.Boundaries.{next_tells, next_none}
+use Rattle.rules.proofs.Stretches.{is_read_lem, unread}
 
 -- 1 for a boundary with a reading
 abbrev one : List ℕ → ℕ → ℕ
-one r d = cond (isRead r d) 1 0
+one r d = cond (is_read r d) 1 0
 
 module _ (r : List ℕ) where
-  pub count_none : readCount r 0 ≡ 0
-  unfolding readCount sum
+  pub count_none : read_count r 0 ≡ 0
+  unfolding read_count sum
   count_none = refl
 
   -- one boundary on
-  pub count-read : (d : ℕ) → (get_or r d 0 ≡ 0 → ⊥) → readCount r d + 1 ≡ readCount r (d + 1)
-  unfolding readCount sum
-  count-read d e = rw (add-one d, zero-add d, is_read r d e)
+  pub count_read : (d : ℕ) → (get_or r d 0 ≡ 0 → ⊥) → read_count r d + 1 ≡ read_count r (d + 1)
+  unfolding read_count sum
+  count_read d e = rw (add-one d, zero-add d, is_read_lem r d e)
 
-  pub count-unread : (d : ℕ) → get_or r d 0 ≡ 0 → readCount r d ≡ readCount r (d + 1)
-  unfolding readCount sum
-  count-unread d e = rw (add-one d, zero-add d, unread r d e) (sym (add-zero (readCount r d)))
+  pub count_unread : (d : ℕ) → get_or r d 0 ≡ 0 → read_count r d ≡ read_count r (d + 1)
+  unfolding read_count sum
+  count_unread d e = rw (add-one d, zero-add d, unread r d e) (sym (add-zero (read_count r d)))
 
-  one-small : (d : ℕ) → one r d ≤ 1
-  one-small d = go (isRead r d)
+  one_small : (d : ℕ) → one r d ≤ 1
+  one_small d = go (is_read r d)
     where
       go : (t : Bool) → cond t 1 0 ≤ 1
       go true = omega arith
@@ -44,41 +44,41 @@ module _ (r : List ℕ) where
 
 module _ (h : Head) (b : Cells) where
   abbrev r : List ℕ
-  r = b.readVersions
+  r = b.read_versions
 
   -- a span begins at d exactly when d is read and a later boundary too
-  from_next : (d : ℕ) (o : Option ℕ) (rest : ℕ) → nextRead r (d + 1) (h.days - d) ≡ o → rest ≡ sum (one r) (d + 1) (h.days - d)
-      → length (cond (isRead r d) (spanTo h b d o) []) + (rest - 1) ≡ one r d + rest - 1
-  unfolding spanTo
+  from_next : (d : ℕ) (o : Option ℕ) (rest : ℕ) → next_read r (d + 1) (h.days - d) ≡ o → rest ≡ sum (one r) (d + 1) (h.days - d)
+      → length (cond (is_read r d) (span_to h b d o) []) + (rest - 1) ≡ one r d + rest - 1
+  unfolding span_to
   from_next d none rest e s =
-      let z : rest ≡ 0 = s ∙ sum-none (one r) (d + 1) (h.days - d) (λ x l m. rw (next-none r (h.days - d) (d + 1) e x l m)) in
-      go (isRead r d) z
+      let z : rest ≡ 0 = s ∙ sum_none (one r) (d + 1) (h.days - d) (λ x l m. rw (next_none r (h.days - d) (d + 1) e x l m)) in
+      go (is_read r d) z
     where
-      go : (t : Bool) → rest ≡ 0 → length (cond t (spanTo h b d none) []) + (rest - 1) ≡ cond t 1 0 + rest - 1
+      go : (t : Bool) → rest ≡ 0 → length (cond t (span_to h b d none) []) + (rest - 1) ≡ cond t 1 0 + rest - 1
       go true z = omega arith
       go false z = omega arith
   from_next d (some last) rest e s =
-      let p = next-tells r (h.days - d) (d + 1) last e in
+      let p = next_tells r (h.days - d) (d + 1) last e in
       let q : one r last ≡ 1 = rw p.here in
-      let k : 1 ≤ rest = omega (arith, sum-place (one r) (d + 1) (h.days - d) last p.low p.high) in
-      go (isRead r d) k
+      let k : 1 ≤ rest = omega (arith, sum_place (one r) (d + 1) (h.days - d) last p.low p.high) in
+      go (is_read r d) k
     where
-      go : (t : Bool) → 1 ≤ rest → length (cond t (spanTo h b d (some last)) []) + (rest - 1) ≡ cond t 1 0 + rest - 1
+      go : (t : Bool) → 1 ≤ rest → length (cond t (span_to h b d (some last)) []) + (rest - 1) ≡ cond t 1 0 + rest - 1
       go true k = omega arith
       go false k = omega arith
 
-  counted : (k d : ℕ) → d + k ≡ h.days → length (spansFrom h b d k) ≡ sum (one r) d (suc k) - 1
-  unfolding spansFrom spanFrom sum
-  counted zero d e = omega (arith, one-small r (d + 0))
+  counted : (k d : ℕ) → d + k ≡ h.days → length (spans_from h b d k) ≡ sum (one r) d (suc k) - 1
+  unfolding spans_from span_from sum
+  counted zero d e = omega (arith, one_small r (d + 0))
   counted (suc k) d e =
       let f : h.days - d ≡ suc k = omega arith in
       let p = counted k (suc d) (omega arith) in
       let q : sum (one r) (suc d) (suc k) ≡ sum (one r) (d + 1) (h.days - d) = rw (f, add-one d) in
       rw (length-append, p) (from (sum (one r) (suc d) (suc k)) q ∙ ap (λ (x : ℕ). x - 1) (sym (sum_first (one r) d (suc k))))
     where
-      from : (rest : ℕ) → rest ≡ sum (one r) (d + 1) (h.days - d) → length (spanFrom h b d) + (rest - 1) ≡ one r d + rest - 1
-      from rest q = from_next d (nextRead r (d + 1) (h.days - d)) rest refl q
+      from : (rest : ℕ) → rest ≡ sum (one r) (d + 1) (h.days - d) → length (span_from h b d) + (rest - 1) ≡ one r d + rest - 1
+      from rest q = from_next d (next_read r (d + 1) (h.days - d)) rest refl q
 
-  pub span-count : length r ≡ suc h.days → length (spans h b) ≡ readCount r (length r) - 1
-  unfolding spans readCount
-  span-count e = rw e (counted h.days 0 (omega arith))
+  pub span_count_lem : length r ≡ suc h.days → length (spans h b) ≡ read_count r (length r) - 1
+  unfolding spans read_count
+  span_count_lem e = rw e (counted h.days 0 (omega arith))

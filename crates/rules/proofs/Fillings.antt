@@ -11,62 +11,62 @@ use Rattle.rules.specs.declared.Head.{Head}
 use Rattle.rules.specs.declared.Outcome.{Outcome}
 use Rattle.rules.specs.declared.Quality.TheVariants.{A, S, F}
 use Rattle.rules.specs.Opening.{Slots, Agreed, Cells}
-use Rattle.rules.specs.Tests.{goodAt}
-use Rattle.rules.specs.Filling.{isAgreed, isOutageZero, isLinear, linearValue, references, fromReferences, filledAt}
-use Rattle.rules.specs.Spans.{isS, filled, state_of, newValue, in_span}
-use Rattle.rules.specs.Inner.Walks.{agreedOf}
+use Rattle.rules.specs.Tests.{good_at}
+use Rattle.rules.specs.Filling.{is_agreed, is_outage_zero, is_linear, linear_value, references, from_references, filled_at}
+use Rattle.rules.specs.Spans.{is_s, filled, state_of, new_value, in_span}
+use Rattle.rules.specs.Inner.Walks.{agreed_of}
 
 -- the first rule that applies to a slot with a cause
-module _ (h : Head) (s : Slots) (a : Agreed) (holidays : List ℕ) (i : ℕ) (cause : goodAt h s i ≡ false) where
-  pub filled-agreed : isAgreed a.versions i ≡ true → agreedOf (get_or a.values i 0) ≡ filledAt h s a holidays i
-  unfolding filledAt
-  filled-agreed t = rw (cause, t)
+module _ (h : Head) (s : Slots) (a : Agreed) (holidays : List ℕ) (i : ℕ) (cause : good_at h s i ≡ false) where
+  pub filled_agreed : is_agreed a.versions i ≡ true → agreed_of (get_or a.values i 0) ≡ filled_at h s a holidays i
+  unfolding filled_at
+  filled_agreed t = rw (cause, t)
 
-  module _ (t : isAgreed a.versions i ≡ false) where
-    pub filled_zero : isOutageZero h s i ≡ true → record { value = 0; quality = A; method = 1 } ≡ filledAt h s a holidays i
-    unfolding filledAt
+  module _ (t : is_agreed a.versions i ≡ false) where
+    pub filled_zero : is_outage_zero h s i ≡ true → record { value = 0; quality = A; method = 1 } ≡ filled_at h s a holidays i
+    unfolding filled_at
     filled_zero z = rw (cause, t, z)
 
-    module _ (z : isOutageZero h s i ≡ false) where
-      pub filled-line : (v : ℕ) → v ≡ linearValue h s a.versions i → isLinear h s a.versions i ≡ true
-          → record { value = v; quality = S; method = 2 } ≡ filledAt h s a holidays i
-      unfolding filledAt
+    module _ (z : is_outage_zero h s i ≡ false) where
+      pub filled-line : (v : ℕ) → v ≡ linear_value h s a.versions i → is_linear h s a.versions i ≡ true
+          → record { value = v; quality = S; method = 2 } ≡ filled_at h s a holidays i
+      unfolding filled_at
       filled-line v e l = rw (cause, t, z, l, e)
 
-      pub filled-rest : isLinear h s a.versions i ≡ false → fromReferences (references h s holidays i) ≡ filledAt h s a holidays i
-      unfolding filledAt
+      pub filled-rest : is_linear h s a.versions i ≡ false → from_references (references h s holidays i) ≡ filled_at h s a holidays i
+      unfolding filled_at
       filled-rest l = rw (cause, t, z, l)
 
 module _ (P : Outcome → Type 0) where
   -- a slot before its span is scaled
-  pub filled-by : (h : Head) (s : Slots) (a : Agreed) (holidays : List ℕ) (i : ℕ)
-      → (goodAt h s i ≡ true → P (record { value = get_or s.values i 0; quality = A; method = 0 }))
+  pub filled_by : (h : Head) (s : Slots) (a : Agreed) (holidays : List ℕ) (i : ℕ)
+      → (good_at h s i ≡ true → P (record { value = get_or s.values i 0; quality = A; method = 0 }))
       → P (record { value = get_or a.values i 0; quality = F; method = 5 })
       → P (record { value = 0; quality = A; method = 1 })
-      → (isLinear h s a.versions i ≡ true → P (record { value = linearValue h s a.versions i; quality = S; method = 2 }))
-      → P (fromReferences (references h s holidays i))
-      → P (filledAt h s a holidays i)
-  unfolding filledAt
-  filled-by h s a holidays i good agreed outage linear rest =
+      → (is_linear h s a.versions i ≡ true → P (record { value = linear_value h s a.versions i; quality = S; method = 2 }))
+      → P (from_references (references h s holidays i))
+      → P (filled_at h s a holidays i)
+  unfolding filled_at
+  filled_by h s a holidays i good agreed outage linear rest =
       ⊎_elim (λ e. rw e (good e)) (λ e. rw e (
       ⊎_elim (λ t. rw t agreed) (λ t. rw t (
       ⊎_elim (λ f. rw f outage) (λ f. rw f (
       ⊎_elim (λ g. rw g (linear g)) (λ g. rw g rest)
-      (either (isLinear h s a.versions i))))
-      (either (isOutageZero h s i))))
-      (either (isAgreed a.versions i))))
-      (either (goodAt h s i))
+      (either (is_linear h s a.versions i))))
+      (either (is_outage_zero h s i))))
+      (either (is_agreed a.versions i))))
+      (either (good_at h s i))
 
   -- a slot of a span
-  pub spanned-by : (h : Head) (b : Cells) (first last i : ℕ)
-      → (isS (filled h b first last i).quality ≡ true → P (record {
-        value = newValue h b first last i;
+  pub spanned_by_lem : (h : Head) (b : Cells) (first last i : ℕ)
+      → (is_s (filled h b first last i).quality ≡ true → P (record {
+        value = new_value h b first last i;
         quality = S;
         method = (filled h b first last i).method + 16;
       }))
       → P (filled h b first last i)
       → P (in_span h b first last i)
   unfolding in_span
-  spanned-by h b first last i scaled kept =
+  spanned_by_lem h b first last i scaled kept =
       ⊎_elim (λ t. rw t (scaled (and_parts _ _ t).0)) (λ t. rw t kept)
-      (either (isS (filled h b first last i).quality && eqb (state_of h b first last) 1))
+      (either (is_s (filled h b first last i).quality && eqb (state_of h b first last) 1))

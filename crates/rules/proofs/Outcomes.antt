@@ -6,91 +6,91 @@ use native.Mathlib.Omega.{arith}
 use lib.ListN.{length, get_or}
 use Rattle.rules.specs.declared.Head.{Head}
 use Rattle.rules.specs.declared.Outcome.{Outcome}
-use Rattle.rules.specs.Opening.{Cells, slotsPerDay}
-use Rattle.rules.specs.Filling.{filledAt}
-use Rattle.rules.specs.Spans.{is_scaled, start, slotsIn, G, range, R, actualSum, in_span, span_of, noSpan, outcomeAt, spans}
+use Rattle.rules.specs.Opening.{Cells, slots_per_day}
+use Rattle.rules.specs.Filling.{filled_at}
+use Rattle.rules.specs.Spans.{is_scaled, start, slots_in, G, range, R, actual_sum, in_span, span_of, no_span, outcome_at, spans}
 use Rattle.rules.specs.Inner.Lent.{AgreedLow, WidthsLow}
 use Rattle.rules.proofs.Bounds.{Bounded}
-use Rattle.rules.proofs.ValueBounds.{filled-low}
-use Rattle.rules.proofs.Fillings.{spanned-by}
-use Rattle.rules.proofs.Qualities.{Filled, Form, filled-form, scaled-form}
-use Rattle.rules.proofs.Qualities.Filled.{delivered, agreed, outage, linear, sameDay, nothing}
+use Rattle.rules.proofs.ValueBounds.{filled_low}
+use Rattle.rules.proofs.Fillings.{spanned_by_lem}
+use Rattle.rules.proofs.Qualities.{Filled, Form, filled_form, scaled_form}
+use Rattle.rules.proofs.Qualities.Filled.{delivered, agreed, outage, linear, same_day, nothing}
 use Rattle.rules.proofs.Qualities.Form.{unscaled}
-use Rattle.rules.proofs.Neighbours.{span-found}
-use Rattle.rules.proofs.Ranges.{advance-below, range-of-ordered, range-of-low, least-within}
-use Rattle.rules.proofs.Scaling.{new-high}
-use Rattle.rules.proofs.Places.{Place, place, span-end}
+use Rattle.rules.proofs.Neighbours.{span_found}
+use Rattle.rules.proofs.Ranges.{advance_below, range_of_ordered, range_of_low, least-within}
+use Rattle.rules.proofs.Scaling.{new_high}
+use Rattle.rules.proofs.Places.{Place, place, span_end}
 use Rattle.rules.proofs.Places.Place.{outside, inside}
 
 module _ (h : Head) (b : Cells) (first last : ℕ) where
   -- its lowest and highest advance
-  pub ends-ordered : (range h b first last).lowest ≤ (range h b first last).highest
+  pub ends_ordered : (range h b first last).lowest ≤ (range h b first last).highest
   unfolding range
-  ends-ordered = range-of-ordered _ _ _
+  ends_ordered = range_of_ordered _ _ _
 
   -- R lies between them
-  pub advance-within : ((range h b first last).lowest ≤ R h b first last) × (R h b first last ≤ (range h b first last).highest)
+  pub advance_within : ((range h b first last).lowest ≤ R h b first last) × (R h b first last ≤ (range h b first last).highest)
   unfolding R
-  advance-within = least-within (range h b first last) (actualSum h b first last) ends-ordered
+  advance_within = least-within (range h b first last) (actual_sum h b first last) ends_ordered
 
-  pub highest-low : WidthsLow b.widths → (range h b first last).highest ≤ 99_999_999
+  pub highest_low : WidthsLow b.widths → (range h b first last).highest ≤ 99_999_999
   unfolding range G
-  highest-low w = range-of-low _ _ _ (advance-below _ _) (w last)
+  highest_low w = range_of_low _ _ _ (advance_below _ _) (w last)
 
-  pub advance-low : WidthsLow b.widths → R h b first last ≤ 99_999_999
-  advance-low w = omega (arith, advance-within.1, highest-low w)
+  pub advance_low : WidthsLow b.widths → R h b first last ≤ 99_999_999
+  advance_low w = omega (arith, advance_within.1, highest_low w)
 
-filled-unscaled : {o : Outcome} → Filled o → is_scaled o.method ≡ false
-filled-unscaled (delivered v) = refl
-filled-unscaled (agreed v) = refl
-filled-unscaled outage = refl
-filled-unscaled (linear v) = refl
-filled-unscaled (sameDay v) = refl
-filled-unscaled nothing = refl
+filled_unscaled : {o : Outcome} → Filled o → is_scaled o.method ≡ false
+filled_unscaled (delivered v) = refl
+filled_unscaled (agreed v) = refl
+filled_unscaled outage = refl
+filled_unscaled (linear v) = refl
+filled_unscaled (same_day v) = refl
+filled_unscaled nothing = refl
 
 -- slot i lies in a span
 abbrev pub Covered : Head → Cells → ℕ → Type 0
 Covered h b i =
-    (j : ℕ) × (j < length (spans h b)) × ((get_or (spans h b) j noSpan).first * slotsPerDay h ≤ i)
-    × (i < (get_or (spans h b) j noSpan).last * slotsPerDay h)
+    (j : ℕ) × (j < length (spans h b)) × ((get_or (spans h b) j no_span).first * slots_per_day h ≤ i)
+    × (i < (get_or (spans h b) j no_span).last * slots_per_day h)
 
 module _ (h : Head) (bounds : Bounded h) (b : Cells) where
   module _ (low : AgreedLow b.agreed) (i : ℕ) where
-    form : Form (filledAt h b.slots b.agreed b.holidays i)
-    form = unscaled (filled-form h b.slots b.agreed b.holidays i) (filled-low h bounds b.slots b.agreed b.holidays i low)
+    form : Form (filled_at h b.slots b.agreed b.holidays i)
+    form = unscaled (filled_form h b.slots b.agreed b.holidays i) (filled_low h bounds b.slots b.agreed b.holidays i low)
 
     span-form : (first last : ℕ) → Form (in_span h b first last i)
     span-form first last =
-        spanned-by Form h b first last i (λ q. scaled-form (filled-form h b.slots b.agreed b.holidays i) q _) form
+        spanned_by_lem Form h b first last i (λ q. scaled_form (filled_form h b.slots b.agreed b.holidays i) q _) form
 
-    pub outcome-form : Form (outcomeAt h b i)
+    pub outcome-form : Form (outcome_at h b i)
     outcome-form = go (place h bounds b i)
       where
         go : {o : Outcome} → Place h b i o → Form o
         go outside = form
         go (inside s n l m) = span-form s.first s.last
 
-    span_fits : WidthsLow b.widths → (first last : ℕ) → i < start h b first last + slotsIn h b first last
+    span_fits : WidthsLow b.widths → (first last : ℕ) → i < start h b first last + slots_in h b first last
         → (in_span h b first last i).value < 100_000_000
     span_fits w first last l =
-        spanned-by (λ o. o.value < 100_000_000) h b first last i
-        (λ _. omega (arith, new-high h b first last i l, advance-low h b first last w))
-        (omega (arith, filled-low h bounds b.slots b.agreed b.holidays i low))
+        spanned_by_lem (λ o. o.value < 100_000_000) h b first last i
+        (λ _. omega (arith, new_high h b first last i l, advance_low h b first last w))
+        (omega (arith, filled_low h bounds b.slots b.agreed b.holidays i low))
 
-    pub outcome_fits : WidthsLow b.widths → (outcomeAt h b i).value < 100_000_000
+    pub outcome_fits : WidthsLow b.widths → (outcome_at h b i).value < 100_000_000
     outcome_fits w = go (place h bounds b i)
       where
         go : {o : Outcome} → Place h b i o → o.value < 100_000_000
-        go outside = omega (arith, filled-low h bounds b.slots b.agreed b.holidays i low)
-        go (inside s n l m) = span_fits w s.first s.last (rw (span-end h b s.first s.last (omega (arith, n.ordered))) m)
+        go outside = omega (arith, filled_low h bounds b.slots b.agreed b.holidays i low)
+        go (inside s n l m) = span_fits w s.first s.last (rw (span_end h b s.first s.last (omega (arith, n.ordered))) m)
 
   -- no 18 or 19 outside spans
-  pub scaled-inside : (i : ℕ) → is_scaled (outcomeAt h b i).method ≡ true → Covered h b i
+  pub scaled_inside : (i : ℕ) → is_scaled (outcome_at h b i).method ≡ true → Covered h b i
   unfolding span_of
-  scaled-inside i = go (place h bounds b i)
+  scaled_inside i = go (place h bounds b i)
     where
       go : {o : Outcome} → Place h b i o → is_scaled o.method ≡ true → Covered h b i
-      go outside t = absurd (false≢true (sym (filled-unscaled (filled-form h b.slots b.agreed b.holidays i)) ∙ t))
+      go outside t = absurd (false≢true (sym (filled_unscaled (filled_form h b.slots b.agreed b.holidays i)) ∙ t))
       go (inside s n l m) t =
-          let (j, k, x) = span-found h b s.first s.last (omega (arith, n.ordered, n.within)) n.first_read n.next in
+          let (j, k, x) = span_found h b s.first s.last (omega (arith, n.ordered, n.within)) n.first_read n.next in
           (j, k, rw x l, rw x m)

@@ -8,25 +8,25 @@ use borrow.Author.Tests.{leb-true, leb-false, le-leb}
 use lib.Dec.{leb}
 use Rattle.base.proofs.Logic.{and_parts, either}
 use Rattle.rules.specs.declared.range.Range.{Range}
-use Rattle.rules.specs.Spans.{advance, range_of, leastIn, isNear}
+use Rattle.rules.specs.Spans.{advance, range_of, least_in, is_near}
 
 -- |a − v|
 abbrev pub apart : ℕ → ℕ → ℕ
 apart a v = (a - v) + (v - a)
 
-pub advance-below : (earlier later : ℕ) → advance earlier later < 100_000_000
+pub advance_below : (earlier later : ℕ) → advance earlier later < 100_000_000
 unfolding advance
-advance-below earlier later = omega arith
+advance_below earlier later = omega arith
 
 module _ (g u v : ℕ) where
-  pub range-of-ordered : (range_of g u v).lowest ≤ (range_of g u v).highest
+  pub range_of_ordered : (range_of g u v).lowest ≤ (range_of g u v).highest
   unfolding range_of
-  range-of-ordered = ⊎_elim (λ e. rw e (omega arith)) (λ e. rw e (omega arith)) (either (leb 100_000_000 (g + v)))
+  range_of_ordered = ⊎_elim (λ e. rw e (omega arith)) (λ e. rw e (omega arith)) (either (leb 100_000_000 (g + v)))
 
   -- an eight-digit dial goes round at most once
-  pub range-of-low : g < 100_000_000 → v ≤ 9999 → (range_of g u v).highest ≤ 99_999_999
+  pub range_of_low : g < 100_000_000 → v ≤ 9999 → (range_of g u v).highest ≤ 99_999_999
   unfolding range_of
-  range-of-low l m =
+  range_of_low l m =
       ⊎_elim (λ e. rw e (omega arith)) (λ e. let n = leb-false 100_000_000 (g + v) e in rw e (omega arith))
       (either (leb 100_000_000 (g + v)))
 
@@ -37,8 +37,8 @@ data Least (range : Range) (v : ℕ) : ℕ → Type 0 where
   over : range.lowest < v → range.highest < v → Least range v range.highest
 
 module _ (range : Range) (v : ℕ) where
-  least : Least range v (leastIn range v)
-  unfolding leastIn
+  least : Least range v (least_in range v)
+  unfolding least_in
   least = go (leb v range.lowest) refl (leb v range.highest) refl
     where
       go : (s : Bool) → leb v range.lowest ≡ s → (t : Bool) → leb v range.highest ≡ t
@@ -49,7 +49,7 @@ module _ (range : Range) (v : ℕ) where
 
   module _ (ordered : range.lowest ≤ range.highest) where
     -- it lies in the range
-    pub least-within : (range.lowest ≤ leastIn range v) × (leastIn range v ≤ range.highest)
+    pub least-within : (range.lowest ≤ least_in range v) × (least_in range v ≤ range.highest)
     least-within = go least
       where
         go : {r : ℕ} → Least range v r → (range.lowest ≤ r) × (r ≤ range.highest)
@@ -58,7 +58,7 @@ module _ (range : Range) (v : ℕ) where
         go (over l m) = (ordered, omega arith)
 
     -- where an advance in the range is at least v, it is at least v too, and no higher than that one
-    pub least-least : (a : ℕ) → range.lowest ≤ a → a ≤ range.highest → v ≤ a → (v ≤ leastIn range v) × (leastIn range v ≤ a)
+    pub least-least : (a : ℕ) → range.lowest ≤ a → a ≤ range.highest → v ≤ a → (v ≤ least_in range v) × (least_in range v ≤ a)
     least-least a l m n = go least
       where
         go : {r : ℕ} → Least range v r → (v ≤ r) × (r ≤ a)
@@ -67,7 +67,7 @@ module _ (range : Range) (v : ℕ) where
         go (over j k) = (omega arith, omega arith)
 
     -- where there is none, it is the highest
-    pub least-none : range.highest < v → leastIn range v ≡ range.highest
+    pub least-none : range.highest < v → least_in range v ≡ range.highest
     least-none n = go least
       where
         go : {r : ℕ} → Least range v r → r ≡ range.highest
@@ -77,19 +77,19 @@ module _ (range : Range) (v : ℕ) where
 
     module _ (t : ℕ) where
       -- the test of state 0 holds exactly when some advance in the range is within t of v
-      pub near-found : isNear range v t ≡ true → (a : ℕ) × (range.lowest ≤ a) × (a ≤ range.highest) × (apart a v ≤ t)
-      unfolding isNear
+      pub near-found : is_near range v t ≡ true → (a : ℕ) × (range.lowest ≤ a) × (a ≤ range.highest) × (apart a v ≤ t)
+      unfolding is_near
       near-found e =
           let p = and_parts (leb (range.lowest - v) t) (leb (v - range.highest) t) e in
-          (leastIn range v, least-within.0, least-within.1, go least (leb-true _ _ p.0) (leb-true _ _ p.1))
+          (least_in range v, least-within.0, least-within.1, go least (leb-true _ _ p.0) (leb-true _ _ p.1))
         where
           go : {r : ℕ} → Least range v r → range.lowest - v ≤ t → v - range.highest ≤ t → apart r v ≤ t
           go (below l) p q = omega arith
           go (inside l m) p q = omega arith
           go (over l m) p q = omega arith
 
-      pub near-holds : (a : ℕ) → range.lowest ≤ a → a ≤ range.highest → apart a v ≤ t → isNear range v t ≡ true
-      unfolding isNear
+      pub near-holds : (a : ℕ) → range.lowest ≤ a → a ≤ range.highest → apart a v ≤ t → is_near range v t ≡ true
+      unfolding is_near
       near-holds a l m n =
           let p : leb (range.lowest - v) t ≡ true = le-leb (range.lowest - v) t (omega arith) in
           let q : leb (v - range.highest) t ≡ true = le-leb (v - range.highest) t (omega arith) in

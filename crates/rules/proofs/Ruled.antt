@@ -11,20 +11,20 @@ use Rattle.base.proofs.Logic.{either}
 use Rattle.rules.specs.declared.Head.{Head}
 use Rattle.rules.specs.declared.Outcome.{Outcome}
 use Rattle.rules.specs.declared.linear.StraightLine.{StraightLine}
-use Rattle.rules.specs.Opening.{Slots, Agreed, slotCount}
-use Rattle.rules.specs.Tests.{goodAt}
-use Rattle.rules.specs.Filling.{isOutageZero, isAgreed, inRun, references, filledAt, shape_of, shape_at}
-use Rattle.rules.specs.Inner.Walks.{line_at, ruledBy, Drawn}
+use Rattle.rules.specs.Opening.{Slots, Agreed, slot_count}
+use Rattle.rules.specs.Tests.{good_at}
+use Rattle.rules.specs.Filling.{is_outage_zero, is_agreed, in_run, references, filled_at, shape_of, shape_at}
+use Rattle.rules.specs.Inner.Walks.{line_at, ruled_by, Drawn}
 use Rattle.rules.proofs.Bounds.{Bounded}
 use Rattle.rules.proofs.Fillings.{filled_zero, filled-line, filled-rest}
-use Rattle.rules.proofs.Lines.{line-none, line-fills, line-leaves}
+use Rattle.rules.proofs.Lines.{line_none, line-fills, line-leaves}
 use Rattle.rules.proofs.Runs.{run_holds, run-zeroed}
-use Rattle.rules.proofs.Shapes.{shape-filled}
+use Rattle.rules.proofs.Shapes.{shape_filled}
 
-module _ (h : Head) (w : Bounded h) (s : Slots) (a : Agreed) (i : ℕ) (l : i < slotCount h) (cause : goodAt h s i ≡ false)
-    (t : isAgreed a.versions i ≡ false) (o : Bool) (z : o ≡ isOutageZero h s i) (p : StraightLine) (q : p ≡ line_at h s a.versions i)
+module _ (h : Head) (w : Bounded h) (s : Slots) (a : Agreed) (i : ℕ) (l : i < slot_count h) (cause : good_at h s i ≡ false)
+    (t : is_agreed a.versions i ≡ false) (o : Bool) (z : o ≡ is_outage_zero h s i) (p : StraightLine) (q : p ≡ line_at h s a.versions i)
   where
-    in-run : o ≡ false → inRun h s a.versions i ≡ true
+    in-run : o ≡ false → in_run h s a.versions i ≡ true
     in-run e = run_holds h s a.versions i cause t o z e
 
     -- a line that is looked at has figures that fit
@@ -32,33 +32,33 @@ module _ (h : Head) (w : Bounded h) (s : Slots) (a : Agreed) (i : ℕ) (l : i < 
     line-drawn m =
         ⊎_elim
         (λ e.
-        let none = q ∙ sym (line-none h s a.versions i (run-zeroed h s a.versions i o z e)) in
+        let none = q ∙ sym (line_none h s a.versions i (run-zeroed h s a.versions i o z e)) in
         absurd (let y : p.length ≡ 0 = ap (λ (r : StraightLine). r.length) none in omega arith))
         (λ e. (line-fills h s a.versions w i l (in-run e) p q m).1)
         (either o)
 
     module _ (holidays : List ℕ) where
-      ruled-zero : o ≡ true → ruledBy o p (references h s holidays i) ≡ filledAt h s a holidays i
-      unfolding ruledBy
+      ruled-zero : o ≡ true → ruled_by o p (references h s holidays i) ≡ filled_at h s a holidays i
+      unfolding ruled_by
       ruled-zero e = rw e (filled_zero h s a holidays i cause t (sym z ∙ e))
 
       module _ (e : o ≡ false) where
-        ruled-line : ltb 0 p.length ≡ true → ruledBy o p (references h s holidays i) ≡ filledAt h s a holidays i
-        unfolding ruledBy
+        ruled-line : ltb 0 p.length ≡ true → ruled_by o p (references h s holidays i) ≡ filled_at h s a holidays i
+        unfolding ruled_by
         ruled-line m =
             let f = line-fills h s a.versions w i l (in-run e) p q (ltb-true _ _ m) in
             simp (e, m) (filled-line h s a holidays i cause t (sym z ∙ e) _ f.2 f.0)
 
-        ruled-rest : ltb 0 p.length ≡ false → ruledBy o p (references h s holidays i) ≡ filledAt h s a holidays i
-        unfolding ruledBy
+        ruled-rest : ltb 0 p.length ≡ false → ruled_by o p (references h s holidays i) ≡ filled_at h s a holidays i
+        unfolding ruled_by
         ruled-rest m =
             let f = line-leaves h s a.versions w i l (in-run e) p q (ltb-false _ _ m) in
             simp (e, m) (filled-rest h s a holidays i cause t (sym z ∙ e) f)
 
-      ruled-fills : ruledBy o p (references h s holidays i) ≡ filledAt h s a holidays i
+      ruled-fills : ruled_by o p (references h s holidays i) ≡ filled_at h s a holidays i
       ruled-fills = ⊎_elim ruled-zero (λ e. ⊎_elim (ruled-line e) (ruled-rest e) (either (ltb 0 p.length))) (either o)
 
       -- its outcome before scaling, and its shape
-      pub ruled : (r : Outcome) (x : ℕ) → let xs = references h s holidays i in r ≡ ruledBy o p xs → x ≡ shape_of r xs
-          → (r ≡ filledAt h s a holidays i) × (x ≡ shape_at h s a holidays i)
-      ruled r x e f = let g = e ∙ ruled-fills in (g, f ∙ shape-filled h s a holidays i r g)
+      pub ruled : (r : Outcome) (x : ℕ) → let xs = references h s holidays i in r ≡ ruled_by o p xs → x ≡ shape_of r xs
+          → (r ≡ filled_at h s a holidays i) × (x ≡ shape_at h s a holidays i)
+      ruled r x e f = let g = e ∙ ruled-fills in (g, f ∙ shape_filled h s a holidays i r g)

@@ -12,33 +12,33 @@ use Rattle.base.proofs.Logic.{either}
 use Rattle.rules.specs.declared.Head.{Head}
 use Rattle.rules.specs.declared.range.Range.{Range}
 use Rattle.rules.specs.Opening.{Cells}
-use Rattle.rules.specs.Spans.{isS, isN, range_of, leastIn, isNear, stateBy, filled, start, slotsIn, G, range, actualSum, R, state_of}
+use Rattle.rules.specs.Spans.{is_s, is_n, range_of, least_in, is_near, state_by, filled, start, slots_in, G, range, actual_sum, R, state_of}
 use Rattle.rules.specs.Spans.{span_of}
-use Rattle.rules.proofs.Ranges.{apart, advance-below}
+use Rattle.rules.proofs.Ranges.{apart, advance_below}
 
 -- 01's state: 2 if a slot is N; else, if a slot is S, 1 when R ≥ V and 3 when R < V; else 0 when |R − V| ≤ t and 3 otherwise
-abbrev pub dialState : Bool → Bool → ℕ → ℕ → ℕ → ℕ
-dialState hasN hasS r v t = cond hasN 2 (cond hasS (cond (leb v r) 1 3) (cond (leb (apart r v) t) 0 3))
+abbrev pub dial_state : Bool → Bool → ℕ → ℕ → ℕ → ℕ
+dial_state has_n has_s r v t = cond has_n 2 (cond has_s (cond (leb v r) 1 3) (cond (leb (apart r v) t) 0 3))
 
 -- one advance
 abbrev only : ℕ → Range
 only g = record { lowest = g; highest = g }
 
-range-only : (g : ℕ) → g < 100_000_000 → range_of g 0 0 ≡ only g
+range_only : (g : ℕ) → g < 100_000_000 → range_of g 0 0 ≡ only g
 unfolding range_of
-range-only g l =
+range_only g l =
     let e : leb 100_000_000 (g + 0) ≡ false = lt-leb 100_000_000 (g + 0) (omega arith) in
     let p : g - 0 ≡ g = omega arith in
     let q : g + 0 ≡ g = omega arith in
     rw e (λ t. record { lowest = p t; highest = q t })
 
-least-only : (g v : ℕ) → leastIn (only g) v ≡ g
-unfolding leastIn
-least-only g v = ⊎_elim (λ e. rw e) (λ e. rw e) (either (leb v g))
+least_only : (g v : ℕ) → least_in (only g) v ≡ g
+unfolding least_in
+least_only g v = ⊎_elim (λ e. rw e) (λ e. rw e) (either (leb v g))
 
-near-only : (g v t : ℕ) → isNear (only g) v t ≡ leb (apart g v) t
-unfolding isNear
-near-only g v t = ⊎_elim below over (either (leb v g))
+near_only : (g v t : ℕ) → is_near (only g) v t ≡ leb (apart g v) t
+unfolding is_near
+near_only g v t = ⊎_elim below over (either (leb v g))
   where
     below : leb v g ≡ true → (leb (g - v) t && leb (v - g) t) ≡ leb (apart g v) t
     below e =
@@ -54,38 +54,38 @@ near-only g v t = ⊎_elim below over (either (leb v g))
         let s : v - g ≡ apart g v = omega arith in
         rw z (ap (λ (x : ℕ). leb x t) s)
 
-state-only : (hasN hasS : Bool) (g v t : ℕ) → stateBy hasN hasS (only g) g v t ≡ dialState hasN hasS g v t
-unfolding stateBy
-state-only hasN hasS g v t = rw (near-only g v t)
+state_only : (has_n has_s : Bool) (g v t : ℕ) → state_by has_n has_s (only g) g v t ≡ dial_state has_n has_s g v t
+unfolding state_by
+state_only has_n has_s g v t = rw (near_only g v t)
 
 module _ (h : Head) (b : Cells) (sharp : (d : ℕ) → get_or b.widths d 0 ≡ 0) (first last : ℕ) where
   abbrev g : ℕ
   g = G h b first last
 
-  range-sharp : range h b first last ≡ only g
+  range_sharp : range h b first last ≡ only g
   unfolding range G
-  range-sharp = rw (sharp first, sharp last) (range-only _ (advance-below _ _))
+  range_sharp = rw (sharp first, sharp last) (range_only _ (advance_below _ _))
 
-  advance-sharp : R h b first last ≡ g
+  advance_sharp : R h b first last ≡ g
   unfolding R
-  advance-sharp = rw range-sharp (least-only g (actualSum h b first last))
+  advance_sharp = rw range_sharp (least_only g (actual_sum h b first last))
 
-  abbrev stateThen : ℕ
-  stateThen =
-      dialState
-      (any (λ i. isN (filled h b first last i).quality) (start h b first last) (slotsIn h b first last))
-      (any (λ i. isS (filled h b first last i).quality) (start h b first last) (slotsIn h b first last))
-      g (actualSum h b first last) h.tolerance
+  abbrev state_then : ℕ
+  state_then =
+      dial_state
+      (any (λ i. is_n (filled h b first last i).quality) (start h b first last) (slots_in h b first last))
+      (any (λ i. is_s (filled h b first last i).quality) (start h b first last) (slots_in h b first last))
+      g (actual_sum h b first last) h.tolerance
 
-  state-sharp : state_of h b first last ≡ stateThen
+  state_sharp : state_of h b first last ≡ state_then
   unfolding state_of
-  state-sharp = rw (advance-sharp, range-sharp) (state-only _ _ g (actualSum h b first last) h.tolerance)
+  state_sharp = rw (advance_sharp, range_sharp) (state_only _ _ g (actual_sum h b first last) h.tolerance)
 
   -- R, lowest and highest are the advance of the readings, and the state is 01's
-  pub sharp-dial : (R h b first last ≡ g)
-      × (span_of h b first last ≡ record { first = first; last = last; lowest = g; highest = g; state = stateThen })
+  pub sharp_dial : (R h b first last ≡ g)
+      × (span_of h b first last ≡ record { first = first; last = last; lowest = g; highest = g; state = state_then })
   unfolding span_of
-  sharp-dial = (
-    advance-sharp,
-    λ t. record { first = first; last = last; lowest = (range-sharp t).lowest; highest = (range-sharp t).highest; state = state-sharp t },
+  sharp_dial = (
+    advance_sharp,
+    λ t. record { first = first; last = last; lowest = (range_sharp t).lowest; highest = (range_sharp t).highest; state = state_sharp t },
   )

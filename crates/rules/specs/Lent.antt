@@ -6,21 +6,21 @@ use Rattle.rules.specs.Opening.{Slots, Agreed, Cells}
 abbrev pub slots : List ℕ → List ℕ → List ℕ → Slots
 slots values versions statuses = record { values = values; versions = versions; statuses = statuses }
 
-abbrev pub agreedLists : List ℕ → List ℕ → Agreed
-agreedLists values versions = record { values = values; versions = versions }
+abbrev pub agreed_lists : List ℕ → List ℕ → Agreed
+agreed_lists values versions = record { values = values; versions = versions }
 
 abbrev pub cells : Slots → List ℕ → List ℕ → List ℕ → Agreed → List ℕ → Cells
-cells s holidays readings readVersions agreed widths =
-    record { slots = s; holidays = holidays; readings = readings; readVersions = readVersions; agreed = agreed; widths = widths }
+cells s holidays readings read_versions agreed widths =
+    record { slots = s; holidays = holidays; readings = readings; read_versions = read_versions; agreed = agreed; widths = widths }
 
-abbrev pub lentSlots : Bor (List ℕ) → Bor (List ℕ) → Bor (List ℕ) → Slots
-lentSlots values versions statuses = slots values.now versions.now statuses.now
+abbrev pub lent_slots : Bor (List ℕ) → Bor (List ℕ) → Bor (List ℕ) → Slots
+lent_slots values versions statuses = slots values.now versions.now statuses.now
 
-abbrev pub lentAgreed : Bor (List ℕ) → Bor (List ℕ) → Agreed
-lentAgreed agreed agreedVersions = agreedLists agreed.now agreedVersions.now
+abbrev pub lent_agreed : Bor (List ℕ) → Bor (List ℕ) → Agreed
+lent_agreed agreed agreed_versions = agreed_lists agreed.now agreed_versions.now
 
-abbrev pub lentCells : Bor (List ℕ) → Bor (List ℕ) → Bor (List ℕ) → Bor (List ℕ) → Bor (List ℕ) → Bor (List ℕ) → Bor (List ℕ)
+abbrev pub lent_cells : Bor (List ℕ) → Bor (List ℕ) → Bor (List ℕ) → Bor (List ℕ) → Bor (List ℕ) → Bor (List ℕ) → Bor (List ℕ)
     → Bor (List ℕ) → Bor (List ℕ) → Cells
-lentCells values versions statuses holidays readings readVersions agreed agreedVersions widths =
-    cells (lentSlots values versions statuses) holidays.now readings.now readVersions.now
-    (lentAgreed agreed agreedVersions) widths.now
+lent_cells values versions statuses holidays readings read_versions agreed agreed_versions widths =
+    cells (lent_slots values versions statuses) holidays.now readings.now read_versions.now
+    (lent_agreed agreed agreed_versions) widths.now

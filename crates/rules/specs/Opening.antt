@@ -1,46 +1,46 @@
 -- The head of a book, its slots and its cells (01, Opening).
 use Rattle.std.specs.Prelude.{Bool, ◌||◌, List, [], ◌∷◌, ℕ, ◌+◌, ◌*◌, ◌/◌, leb, eqb}
 use Rattle.base.specs.Lists.{every}
-use Rattle.calendar.specs.Calendar.{dayNumber, isDate, dayCount}
+use Rattle.calendar.specs.Calendar.{day_number, is_date, day_count}
 use Rattle.rules.specs.declared.Head.{Head}
-use Rattle.rules.specs.Numbers.{mostDays, dayMinutes, mostLimit, mostTolerance}
+use Rattle.rules.specs.Numbers.{most_days, day_minutes, most_limit, most_tolerance}
 
 -- the day number of the first day
-unfoldable pub firstDay : Head → ℕ
-firstDay h = dayNumber h.year h.month h.day
+unfoldable pub first_day : Head → ℕ
+first_day h = day_number h.year h.month h.day
 
-unfoldable pub intervalOk : ℕ → Bool
-intervalOk interval = eqb interval 5 || (eqb interval 15 || eqb interval 30)
+unfoldable pub interval_ok : ℕ → Bool
+interval_ok interval = eqb interval 5 || (eqb interval 15 || eqb interval 30)
 
 -- the last day is not after 2099-12-31
-abbrev pub dayTests : Head → List Bool
-dayTests h =
-    isDate h.year h.month h.day
+abbrev pub day_tests : Head → List Bool
+day_tests h =
+    is_date h.year h.month h.day
     ∷ leb 1 h.days
-    ∷ leb h.days mostDays
-    ∷ leb (firstDay h + h.days) dayCount
+    ∷ leb h.days most_days
+    ∷ leb (first_day h + h.days) day_count
     ∷ []
 
 -- the demand limit is 1 to 1,000,000 W (02, W5)
-abbrev pub headTests : Head → List Bool
-headTests h =
-    intervalOk h.interval
-    ∷ every (dayTests h)
+abbrev pub head_tests : Head → List Bool
+head_tests h =
+    interval_ok h.interval
+    ∷ every (day_tests h)
     ∷ leb 1 h.limit
-    ∷ leb h.limit mostLimit
-    ∷ leb h.tolerance mostTolerance
+    ∷ leb h.limit most_limit
+    ∷ leb h.tolerance most_tolerance
     ∷ []
 
-unfoldable pub headOk : Head → Bool
-headOk h = every (headTests h)
+unfoldable pub head_ok : Head → Bool
+head_ok h = every (head_tests h)
 
 -- n: slots a day
-unfoldable pub slotsPerDay : Head → ℕ
-slotsPerDay h = dayMinutes / h.interval
+unfoldable pub slots_per_day : Head → ℕ
+slots_per_day h = day_minutes / h.interval
 
 -- N = n × D: slots of the book
-unfoldable pub slotCount : Head → ℕ
-slotCount h = slotsPerDay h * h.days
+unfoldable pub slot_count : Head → ℕ
+slot_count h = slots_per_day h * h.days
 
 -- the three lent lists of slots
 pub record Slots : Type 0 where
@@ -58,7 +58,7 @@ pub record Cells : Type 0 where
   pub slots : Slots
   pub holidays : List ℕ
   pub readings : List ℕ
-  pub readVersions : List ℕ
+  pub read_versions : List ℕ
   pub agreed : Agreed
   -- of the readings (02, W10)
   pub widths : List ℕ

@@ -6,37 +6,37 @@ use Rattle.rules.specs.declared.tests.Cause.TheVariants.{Nothing, Gap, TimeChang
 use Rattle.rules.specs.Opening.{Slots}
 
 -- version 0: nothing came for slot i
-unfoldable pub isGap : List ℕ → ℕ → Bool
-isGap versions i = eqb (get_or versions i 0) 0
+unfoldable pub is_gap : List ℕ → ℕ → Bool
+is_gap versions i = eqb (get_or versions i 0) 0
 
 -- bits 0, 1 and 2 of a status
-unfoldable pub timeChangeBit : ℕ → Bool
-timeChangeBit x = eqb (x % 2) 1
+unfoldable pub time_change_bit : ℕ → Bool
+time_change_bit x = eqb (x % 2) 1
 
-unfoldable pub outageBit : ℕ → Bool
-outageBit x = eqb (x / 2 % 2) 1
+unfoldable pub outage_bit : ℕ → Bool
+outage_bit x = eqb (x / 2 % 2) 1
 
-unfoldable pub partialBit : ℕ → Bool
-partialBit x = eqb (x / 4 % 2) 1
+unfoldable pub partial_bit : ℕ → Bool
+partial_bit x = eqb (x / 4 % 2) 1
 
 -- the first that applies is the cause
-unfoldable pub causeOf : ℕ → ℕ → ℕ → ℕ → ℕ → Cause
-causeOf limit interval version value status =
+unfoldable pub cause_of : ℕ → ℕ → ℕ → ℕ → ℕ → Cause
+cause_of limit interval version value status =
     cond (eqb version 0) Gap
-    (cond (timeChangeBit status) TimeChange
-    (cond (partialBit status) Partial
+    (cond (time_change_bit status) TimeChange
+    (cond (partial_bit status) Partial
     (cond (ltb (limit * interval) (value * 60)) Demand Nothing)))
 
-unfoldable pub causeAt : Head → Slots → ℕ → Cause
-causeAt h s i = causeOf h.limit h.interval (get_or s.versions i 0) (get_or s.values i 0) (get_or s.statuses i 0)
+unfoldable pub cause_at : Head → Slots → ℕ → Cause
+cause_at h s i = cause_of h.limit h.interval (get_or s.versions i 0) (get_or s.values i 0) (get_or s.statuses i 0)
 
 -- a slot without a cause is good
-abbrev pub isGood : Cause → Bool
-isGood Nothing = true
-isGood Gap = false
-isGood TimeChange = false
-isGood Partial = false
-isGood Demand = false
+abbrev pub is_good : Cause → Bool
+is_good Nothing = true
+is_good Gap = false
+is_good TimeChange = false
+is_good Partial = false
+is_good Demand = false
 
-unfoldable pub goodAt : Head → Slots → ℕ → Bool
-goodAt h s i = isGood (causeAt h s i)
+unfoldable pub good_at : Head → Slots → ℕ → Bool
+good_at h s i = is_good (cause_at h s i)

@@ -1,8 +1,8 @@
 // Direct slots, whose outcomes rest on their own cells alone: good ones, and agreed ones that have a cause (02, W1).
 ghost use Rattle.std.specs.Prelude.{◌≡◌, ◌-◌, ◌*◌, ◌≤◌};
 ghost use Rattle.base.specs.Lists.{sum};
-ghost use Rattle.rules.specs.Lent.{lentSlots, lentAgreed};
-ghost use Rattle.rules.specs.Inner.Walks.{directOf, DirectFrom, DirectTo};
+ghost use Rattle.rules.specs.Lent.{lent_slots, lent_agreed};
+ghost use Rattle.rules.specs.Inner.Walks.{direct_of, DirectFrom, DirectTo};
 
 use crate::{Head, outage, tests};
 
@@ -26,11 +26,11 @@ pub fn add_up(
     to: usize,
     before: bool,
 ) -> Added
-    requires { DirectFrom head (lentSlots values versions statuses) (lentAgreed agreed agreed_versions) from to before }
-    ensures { let s = lentSlots values.entry versions.entry statuses.entry in
-        let a = lentAgreed agreed.entry agreed_versions.entry in
+    requires { DirectFrom head (lent_slots values versions statuses) (lent_agreed agreed agreed_versions) from to before }
+    ensures { let s = lent_slots values.entry versions.entry statuses.entry in
+        let a = lent_agreed agreed.entry agreed_versions.entry in
         DirectTo head s a from to result.end result.outage
-        × (result.sum ≡ sum (λ i. (directOf head s a i).value) from (result.end - from))
+        × (result.sum ≡ sum (λ i. (direct_of head s a i).value) from (result.end - from))
         × (result.sum ≤ (result.end - from) * 4_294_967_295) }
 {
     let mut sum: u64 = 0;

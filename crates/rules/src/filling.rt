@@ -1,13 +1,13 @@
 // Filling a slot that has a cause (01, Filling).
 ghost use Rattle.std.specs.Prelude.{false, ◌≡◌, ◌+◌, ◌*◌, ◌<◌, ◌≤◌, take, length};
 ghost use Rattle.base.specs.Lists.{sum_of};
-ghost use Rattle.rules.specs.Opening.{slotCount};
-ghost use Rattle.rules.specs.Tests.{goodAt};
-ghost use Rattle.rules.specs.Filling.{isReference, references, meanOf, fromReferences, isOutageZero, filledAt, shape_of, shape_at};
-ghost use Rattle.rules.specs.References.{referenceDays, inFour};
-ghost use Rattle.rules.specs.Lent.{lentSlots, lentAgreed};
+ghost use Rattle.rules.specs.Opening.{slot_count};
+ghost use Rattle.rules.specs.Tests.{good_at};
+ghost use Rattle.rules.specs.Filling.{is_reference, references, mean_of, from_references, is_outage_zero, filled_at, shape_of, shape_at};
+ghost use Rattle.rules.specs.References.{reference_days, in_four};
+ghost use Rattle.rules.specs.Lent.{lent_slots, lent_agreed};
 ghost use Rattle.rules.specs.Inner.Lent.{Lent, Settled};
-ghost use Rattle.rules.specs.Inner.Walks.{actualOf, agreedOf, line_at, lineBefore, ruledBy, Drawn};
+ghost use Rattle.rules.specs.Inner.Walks.{actual_of, agreed_of, line_at, line_before, ruled_by, Drawn};
 
 use crate::linear::StraightLine;
 use crate::{Head, Outcome, Quality, linear, opening, tests, weeks};
@@ -52,8 +52,8 @@ fn is_reference(
     holidays: &[u8],
     at: usize,
 ) -> bool
-    requires { Lent head (lentSlots values versions statuses) holidays.now × (at < slotCount head) }
-    ensures { result ≡ isReference head (lentSlots values.entry versions.entry statuses.entry) holidays.now at }
+    requires { Lent head (lent_slots values versions statuses) holidays.now × (at < slot_count head) }
+    ensures { result ≡ is_reference head (lent_slots values.entry versions.entry statuses.entry) holidays.now at }
 {
     if !tests::is_good(head, values, versions, statuses, at) {
         return false;
@@ -73,10 +73,10 @@ pub fn find_references(
     holidays: &[u8],
     slot: usize,
 ) -> References
-    requires { Lent head (lentSlots values versions statuses) holidays.now × (slot < slotCount head) }
-    ensures { let s = lentSlots values.entry versions.entry statuses.entry in
+    requires { Lent head (lent_slots values versions statuses) holidays.now × (slot < slot_count head) }
+    ensures { let s = lent_slots values.entry versions.entry statuses.entry in
         let xs = references head s holidays.now slot in
-        (result.days ≡ inFour (referenceDays head s holidays.now slot)) × (result.values ≡ inFour xs) × (result.count ≡ length xs) }
+        (result.days ≡ in_four (reference_days head s holidays.now slot)) × (result.values ≡ in_four xs) × (result.count ≡ length xs) }
 {
     let day = opening::day_with(head, slot);
     let week = 7 * day.slots;
@@ -114,7 +114,7 @@ pub fn find_references(
 pub fn mean_of(found: References) -> Mean
     requires { (1 ≤ found.count) × (found.count ≤ 4) }
     ensures { let xs = take found.count found.values in
-        (result.mean ≡ meanOf xs)
+        (result.mean ≡ mean_of xs)
         × (result.number ≡ found.count)
         × (result.mean * result.number + result.remainder ≡ sum_of xs)
         × (result.remainder < result.number) }
@@ -165,9 +165,9 @@ fn same_day(
     holidays: &[u8],
     at: usize,
 ) -> Shaped
-    requires { Lent head (lentSlots values versions statuses) holidays.now × (at < slotCount head) }
-    ensures { let xs = references head (lentSlots values.entry versions.entry statuses.entry) holidays.now at in
-        (result.outcome ≡ fromReferences xs) × (result.shape ≡ shape_of result.outcome xs) }
+    requires { Lent head (lent_slots values versions statuses) holidays.now × (at < slot_count head) }
+    ensures { let xs = references head (lent_slots values.entry versions.entry statuses.entry) holidays.now at in
+        (result.outcome ≡ from_references xs) × (result.shape ≡ shape_of result.outcome xs) }
 {
     let found = find_references(head, values, versions, statuses, holidays, at);
     if found.count == 0 {
@@ -192,7 +192,7 @@ fn same_day(
 
 // The outcome of a good slot.
 pub fn delivered(value: u32) -> Outcome
-    ensures { result ≡ actualOf value }
+    ensures { result ≡ actual_of value }
 {
     Outcome {
         value: value,
@@ -203,7 +203,7 @@ pub fn delivered(value: u32) -> Outcome
 
 // The outcome of an agreed slot.
 pub fn by_agreement(value: u32) -> Outcome
-    ensures { result ≡ agreedOf value }
+    ensures { result ≡ agreed_of value }
 {
     Outcome {
         value: value,
@@ -224,11 +224,11 @@ pub fn unscaled(
     outage: bool,
     line: StraightLine,
 ) -> Shaped
-    requires { Lent head (lentSlots values versions statuses) holidays.now
-        × (at < slotCount head)
+    requires { Lent head (lent_slots values versions statuses) holidays.now
+        × (at < slot_count head)
         × (0 < line.length → Drawn line) }
-    ensures { let xs = references head (lentSlots values.entry versions.entry statuses.entry) holidays.now at in
-        (result.outcome ≡ ruledBy outage line xs) × (result.shape ≡ shape_of result.outcome xs) }
+    ensures { let xs = references head (lent_slots values.entry versions.entry statuses.entry) holidays.now at in
+        (result.outcome ≡ ruled_by outage line xs) × (result.shape ≡ shape_of result.outcome xs) }
 {
     if outage {
         let zero = Outcome {
@@ -266,16 +266,16 @@ pub fn fill_cause(
     outage: bool,
     before: StraightLine,
 ) -> RuledSlot
-    requires { let s = lentSlots values versions statuses in
+    requires { let s = lent_slots values versions statuses in
         Lent head s holidays.now
-        × Settled head (lentAgreed agreed agreed_versions)
-        × (at < slotCount head)
-        × (goodAt head s at ≡ false)
-        × (outage ≡ isOutageZero head s at)
-        × (before ≡ lineBefore head s agreed_versions.now at) }
-    ensures { let s = lentSlots values.entry versions.entry statuses.entry in
-        let a = lentAgreed agreed.entry agreed_versions.entry in
-        (result.outcome ≡ filledAt head s a holidays.now at)
+        × Settled head (lent_agreed agreed agreed_versions)
+        × (at < slot_count head)
+        × (good_at head s at ≡ false)
+        × (outage ≡ is_outage_zero head s at)
+        × (before ≡ line_before head s agreed_versions.now at) }
+    ensures { let s = lent_slots values.entry versions.entry statuses.entry in
+        let a = lent_agreed agreed.entry agreed_versions.entry in
+        (result.outcome ≡ filled_at head s a holidays.now at)
         × (result.shape ≡ shape_at head s a holidays.now at)
         × (result.line ≡ line_at head s a.versions at) }
 {

@@ -1,7 +1,7 @@
 // The harbour's table of demand limits (02, W5).
 ghost use Rattle.std.specs.Prelude.{◌≡◌, length};
 ghost use Rattle.base.specs.Lists.{all};
-ghost use Rattle.rules.specs.Limits.{risesAt, tableOk, loadAnswer};
+ghost use Rattle.rules.specs.Limits.{rises_at, table_ok, load_answer};
 
 use crate::MOST_LIMIT;
 
@@ -14,7 +14,7 @@ pub enum Loaded {
 
 // Each limit is above the one before, and none over 1,000,000.
 fn is_rising(table: &[u32]) -> bool
-    ensures { result ≡ all (risesAt table.now) 0 (length table.now) }
+    ensures { result ≡ all (rises_at table.now) 0 (length table.now) }
 {
     let mut last = 0;
     let mut i = 0;
@@ -33,7 +33,7 @@ fn is_rising(table: &[u32]) -> bool
 }
 
 fn table_ok(table: &[u32]) -> bool
-    ensures { result ≡ tableOk table.now }
+    ensures { result ≡ table_ok table.now }
 {
     if table.len() < 1 {
         return false;
@@ -46,7 +46,7 @@ fn table_ok(table: &[u32]) -> bool
 
 // The limit at a place of the table, counted from 1.
 pub fn load(table: &[u32], kind: u32) -> Loaded
-    ensures { result ≡ loadAnswer table.now kind }
+    ensures { result ≡ load_answer table.now kind }
 {
     if !table_ok(table) {
         return Loaded::Refused(13);

@@ -1,11 +1,11 @@
 // A run of slots that a straight line may fill (02, W2).
 ghost use Rattle.std.specs.Prelude.{true, false, ◌≡◌, ◌+◌, ◌<◌, length};
-ghost use Rattle.rules.specs.Opening.{slotCount};
-ghost use Rattle.rules.specs.Tests.{goodAt};
-ghost use Rattle.rules.specs.Filling.{isOutageZero, isAgreed, inRun, runBefore, floorOver, lineValue};
-ghost use Rattle.rules.specs.Lent.{lentSlots};
+ghost use Rattle.rules.specs.Opening.{slot_count};
+ghost use Rattle.rules.specs.Tests.{good_at};
+ghost use Rattle.rules.specs.Filling.{is_outage_zero, is_agreed, in_run, run_before, floor_over, line_value};
+ghost use Rattle.rules.specs.Lent.{lent_slots};
 ghost use Rattle.rules.specs.Inner.Lent.{Fitted};
-ghost use Rattle.rules.specs.Inner.Walks.{bareLine, line_at, lineBefore, lengthWithin, Drawn};
+ghost use Rattle.rules.specs.Inner.Walks.{bare_line, line_at, line_before, length_within, Drawn};
 
 use crate::{Head, MOST_MINUTES, outage, tests};
 
@@ -21,7 +21,7 @@ pub struct StraightLine {
 
 // The j-th slot of a run that no line fills; 0 where there is no run.
 pub fn bare(place: u32) -> StraightLine
-    ensures { result ≡ bareLine place }
+    ensures { result ≡ bare_line place }
 {
     StraightLine {
         place: place,
@@ -34,7 +34,7 @@ pub fn bare(place: u32) -> StraightLine
 // z / m, rounded towards the lower whole number: `/` rounds towards zero.
 fn floor_over(z: i64, m: u32) -> i64
     requires { 0 < m }
-    ensures { result ≡ floorOver z m }
+    ensures { result ≡ floor_over z m }
 {
     let d = m as i64;
     let q = z / d;
@@ -47,7 +47,7 @@ fn floor_over(z: i64, m: u32) -> i64
 // l + (r − l) × j / (g + 1).
 pub fn line_value(line: StraightLine) -> u32
     requires { Drawn line }
-    ensures { result ≡ lineValue line.left line.right line.place line.length }
+    ensures { result ≡ line_value line.left line.right line.place line.length }
 {
     let left = line.left as i64;
     let rise = (line.right as i64) - left;
@@ -64,13 +64,13 @@ fn length_within(
     agreed_versions: &[u32],
     at: usize,
 ) -> usize
-    requires { let s = lentSlots values versions statuses in
+    requires { let s = lent_slots values versions statuses in
         Fitted head s
-        × (length agreed_versions.now ≡ slotCount head)
-        × (at < slotCount head)
-        × (inRun head s agreed_versions.now at ≡ true) }
-    ensures { let s = lentSlots values.entry versions.entry statuses.entry in
-        result ≡ lengthWithin head s agreed_versions.now at }
+        × (length agreed_versions.now ≡ slot_count head)
+        × (at < slot_count head)
+        × (in_run head s agreed_versions.now at ≡ true) }
+    ensures { let s = lent_slots values.entry versions.entry statuses.entry in
+        result ≡ length_within head s agreed_versions.now at }
 {
     let most = (MOST_MINUTES / head.interval) as usize;
     let mut k: usize = 1;
@@ -103,13 +103,13 @@ fn begin(
     agreed_versions: &[u32],
     at: usize,
 ) -> StraightLine
-    requires { let s = lentSlots values versions statuses in
+    requires { let s = lent_slots values versions statuses in
         Fitted head s
-        × (length agreed_versions.now ≡ slotCount head)
-        × (at < slotCount head)
-        × (inRun head s agreed_versions.now at ≡ true)
-        × (runBefore head s agreed_versions.now at ≡ 0) }
-    ensures { let s = lentSlots values.entry versions.entry statuses.entry in
+        × (length agreed_versions.now ≡ slot_count head)
+        × (at < slot_count head)
+        × (in_run head s agreed_versions.now at ≡ true)
+        × (run_before head s agreed_versions.now at ≡ 0) }
+    ensures { let s = lent_slots values.entry versions.entry statuses.entry in
         result ≡ line_at head s agreed_versions.now at }
 {
     if at < 1 {
@@ -144,15 +144,15 @@ pub fn line_unagreed(
     outage: bool,
     before: StraightLine,
 ) -> StraightLine
-    requires { let s = lentSlots values versions statuses in
+    requires { let s = lent_slots values versions statuses in
         Fitted head s
-        × (length agreed_versions.now ≡ slotCount head)
-        × (at < slotCount head)
-        × (goodAt head s at ≡ false)
-        × (isAgreed agreed_versions.now at ≡ false)
-        × (outage ≡ isOutageZero head s at)
-        × (before ≡ lineBefore head s agreed_versions.now at) }
-    ensures { let s = lentSlots values.entry versions.entry statuses.entry in
+        × (length agreed_versions.now ≡ slot_count head)
+        × (at < slot_count head)
+        × (good_at head s at ≡ false)
+        × (is_agreed agreed_versions.now at ≡ false)
+        × (outage ≡ is_outage_zero head s at)
+        × (before ≡ line_before head s agreed_versions.now at) }
+    ensures { let s = lent_slots values.entry versions.entry statuses.entry in
         result ≡ line_at head s agreed_versions.now at }
 {
     if outage {
@@ -181,14 +181,14 @@ pub fn line_on(
     outage: bool,
     before: StraightLine,
 ) -> StraightLine
-    requires { let s = lentSlots values versions statuses in
+    requires { let s = lent_slots values versions statuses in
         Fitted head s
-        × (length agreed_versions.now ≡ slotCount head)
-        × (at < slotCount head)
-        × (goodAt head s at ≡ false)
-        × (outage ≡ isOutageZero head s at)
-        × (before ≡ lineBefore head s agreed_versions.now at) }
-    ensures { let s = lentSlots values.entry versions.entry statuses.entry in
+        × (length agreed_versions.now ≡ slot_count head)
+        × (at < slot_count head)
+        × (good_at head s at ≡ false)
+        × (outage ≡ is_outage_zero head s at)
+        × (before ≡ line_before head s agreed_versions.now at) }
+    ensures { let s = lent_slots values.entry versions.entry statuses.entry in
         result ≡ line_at head s agreed_versions.now at }
 {
     if 0 < agreed_versions[at] {

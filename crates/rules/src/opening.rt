@@ -1,9 +1,9 @@
 // The bounds of a head and the figures that follow from it (01, Opening).
 ghost use Rattle.std.specs.Prelude.{◌≡◌, true, ◌+◌, ◌/◌, ◌≤◌, leb};
-ghost use Rattle.calendar.specs.Calendar.{isDate, dayCount};
-ghost use Rattle.rules.specs.Numbers.{mostDays};
+ghost use Rattle.calendar.specs.Calendar.{is_date, day_count};
+ghost use Rattle.rules.specs.Numbers.{most_days};
 ghost use Rattle.base.specs.Lists.{every};
-ghost use Rattle.rules.specs.Opening.{intervalOk, dayTests, headOk, firstDay, slotsPerDay, slotCount};
+ghost use Rattle.rules.specs.Opening.{interval_ok, day_tests, head_ok, first_day, slots_per_day, slot_count};
 
 use crate::{Head, MOST_DAYS, MOST_LIMIT, MOST_TOLERANCE};
 use calendar::DAY_COUNT;
@@ -16,7 +16,7 @@ pub struct Day {
 }
 
 pub fn is_interval(interval: u32) -> bool
-    ensures { result ≡ intervalOk interval }
+    ensures { result ≡ interval_ok interval }
 {
     if interval == 5 {
         return true;
@@ -29,8 +29,8 @@ pub fn is_interval(interval: u32) -> bool
 
 // The last day is not after 2099-12-31: 400 days from any day before 2098 end in time.
 fn ends_in_time(head: Head) -> bool
-    requires { (isDate head.year head.month head.day ≡ true) × (head.days ≤ mostDays) }
-    ensures { result ≡ leb (firstDay head + head.days) dayCount }
+    requires { (is_date head.year head.month head.day ≡ true) × (head.days ≤ most_days) }
+    ensures { result ≡ leb (first_day head + head.days) day_count }
 {
     if head.year < 2098 {
         return true;
@@ -40,7 +40,7 @@ fn ends_in_time(head: Head) -> bool
 
 // The first day is a date, and the last one not after 2099-12-31.
 fn are_days(head: Head) -> bool
-    ensures { result ≡ every (dayTests head) }
+    ensures { result ≡ every (day_tests head) }
 {
     if !calendar::is_date(head.year, head.month, head.day) {
         return false;
@@ -56,7 +56,7 @@ fn are_days(head: Head) -> bool
 
 // The head is within its bounds.
 pub fn head_ok(head: Head) -> bool
-    ensures { result ≡ headOk head }
+    ensures { result ≡ head_ok head }
 {
     if !is_interval(head.interval) {
         return false;
@@ -75,16 +75,16 @@ pub fn head_ok(head: Head) -> bool
 
 // The day number of the first day.
 pub fn first_day(head: Head) -> u32
-    requires { headOk head ≡ true }
-    ensures { result ≡ firstDay head }
+    requires { head_ok head ≡ true }
+    ensures { result ≡ first_day head }
 {
     calendar::day_number(head.year, head.month, head.day)
 }
 
 // The day of a slot, and the slots a day: a division by a constant costs a multiplication.
 pub fn day_with(head: Head, slot: usize) -> Day
-    requires { headOk head ≡ true }
-    ensures { (result.number ≡ slot / slotsPerDay head) × (result.slots ≡ slotsPerDay head) }
+    requires { head_ok head ≡ true }
+    ensures { (result.number ≡ slot / slots_per_day head) × (result.slots ≡ slots_per_day head) }
 {
     if head.interval == 30 {
         return Day {
@@ -106,24 +106,24 @@ pub fn day_with(head: Head, slot: usize) -> Day
 
 // Slots a day.
 pub fn slots_per_day(head: Head) -> usize
-    requires { headOk head ≡ true }
-    ensures { result ≡ slotsPerDay head }
+    requires { head_ok head ≡ true }
+    ensures { result ≡ slots_per_day head }
 {
     day_with(head, 0).slots
 }
 
 // The day of a slot.
 pub fn day_of(head: Head, slot: usize) -> usize
-    requires { headOk head ≡ true }
-    ensures { result ≡ slot / slotsPerDay head }
+    requires { head_ok head ≡ true }
+    ensures { result ≡ slot / slots_per_day head }
 {
     day_with(head, slot).number
 }
 
 // Slots of the book.
 pub fn slot_count(head: Head) -> usize
-    requires { headOk head ≡ true }
-    ensures { result ≡ slotCount head }
+    requires { head_ok head ≡ true }
+    ensures { result ≡ slot_count head }
 {
     slots_per_day(head) * (head.days as usize)
 }

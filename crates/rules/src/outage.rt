@@ -1,14 +1,14 @@
 // Outage zero, the first rule of filling (01, Filling).
 ghost use Rattle.std.specs.Prelude.{◌≡◌, ◌-◌, ◌<◌, ◌≤◌, length};
-ghost use Rattle.rules.specs.Filling.{outageAfter};
-ghost use Rattle.rules.specs.Inner.Walks.{zeroAt, zeroBefore};
+ghost use Rattle.rules.specs.Filling.{outage_after};
+ghost use Rattle.rules.specs.Inner.Walks.{zero_at, zero_before};
 
 use crate::tests;
 
 // The first slot from `start` that is no gap has the outage bit.
 fn outage_after(versions: &[u32], statuses: &[u8], start: usize) -> bool
     requires { (length statuses.now ≡ length versions.now) × (start ≤ length versions.now) }
-    ensures { result ≡ outageAfter versions.now statuses.now start (length versions.now - start) }
+    ensures { result ≡ outage_after versions.now statuses.now start (length versions.now - start) }
 {
     let mut j = start;
     while j < versions.len() {
@@ -24,8 +24,8 @@ fn outage_after(versions: &[u32], statuses: &[u8], start: usize) -> bool
 pub fn outage_zero(versions: &[u32], statuses: &[u8], at: usize, before: bool) -> bool
     requires { (length statuses.now ≡ length versions.now)
         × (at < length versions.now)
-        × (before ≡ zeroBefore versions.now statuses.now (length versions.now) at) }
-    ensures { result ≡ zeroAt versions.now statuses.now (length versions.now) at }
+        × (before ≡ zero_before versions.now statuses.now (length versions.now) at) }
+    ensures { result ≡ zero_at versions.now statuses.now (length versions.now) at }
 {
     if versions[at] != 0 {
         return false;

@@ -2,7 +2,7 @@
 ghost use Rattle.std.specs.Prelude.{◌≡◌};
 ghost use Rattle.rules.specs.declared.Head.{Head};
 ghost use Rattle.rules.specs.Opening.{Cells};
-ghost use Rattle.rules.specs.Inner.Passes.{passAt};
+ghost use Rattle.rules.specs.Inner.Passes.{pass_at};
 
 use crate::stretch::Stretch;
 use crate::walk::Walk;
@@ -17,7 +17,7 @@ pub struct Pass {
 
 // A pass before slot 0.
 pub fn first() -> Pass
-    ensures { (h : Head) (b : Cells) → result ≡ passAt h b 0 }
+    ensures { (h : Head) (b : Cells) → result ≡ pass_at h b 0 }
 {
     let walk = Walk {
         at: 0,

@@ -1,7 +1,7 @@
 // Where the advance of a dial lies whose readings have widths, and the advance that a span is held to (02, W10).
 ghost use Rattle.std.specs.Prelude.{◌≡◌, ◌-◌, ◌<◌};
-ghost use Rattle.base.specs.Numbers.{dialModulus};
-ghost use Rattle.rules.specs.Spans.{range_of, leastIn, isNear};
+ghost use Rattle.base.specs.Numbers.{dial_modulus};
+ghost use Rattle.rules.specs.Spans.{range_of, least_in, is_near};
 
 use base::DIAL_MODULUS;
 
@@ -13,7 +13,7 @@ pub struct Range {
 
 // With `g` the advance of two readings, `u` the earlier one's width and `v` the later one's.
 pub fn range_of(g: u32, u: u16, v: u16) -> Range
-    requires { g < dialModulus }
+    requires { g < dial_modulus }
     ensures { result ≡ range_of g u v }
 {
     let down = u as u32;
@@ -38,7 +38,7 @@ pub fn range_of(g: u32, u: u16, v: u16) -> Range
 
 // R: the least advance in the range that is at least `v`; if there is none, the highest.
 pub fn least_in(range: Range, v: u64) -> u64
-    ensures { result ≡ leastIn range v }
+    ensures { result ≡ least_in range v }
 {
     let lowest = range.lowest as u64;
     let highest = range.highest as u64;
@@ -63,7 +63,7 @@ fn above(a: u64, b: u64) -> u64
 
 // Some advance in the range is within the tolerance of `v`.
 pub fn is_near(range: Range, v: u64, tolerance: u64) -> bool
-    ensures { result ≡ isNear range v tolerance }
+    ensures { result ≡ is_near range v tolerance }
 {
     if above(range.lowest as u64, v) > tolerance {
         return false;

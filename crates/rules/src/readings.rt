@@ -1,7 +1,7 @@
 // The search for boundaries with a reading (01, Spans).
 ghost use Rattle.std.specs.Prelude.{◌≡◌, ◌-◌, ◌≤◌, length};
-ghost use Rattle.rules.specs.Spans.{nextRead};
-ghost use Rattle.rules.specs.Inner.Stretches.{nextMeant, readCount};
+ghost use Rattle.rules.specs.Spans.{next_read};
+ghost use Rattle.rules.specs.Inner.Stretches.{next_meant, read_count};
 
 #[derive(Drop)]
 pub enum Next {
@@ -12,7 +12,7 @@ pub enum Next {
 // The first boundary from `from` on that has a reading.
 pub fn next_read(read_versions: &[u32], from: usize) -> Next
     requires { from ≤ length read_versions.now }
-    ensures { nextMeant result ≡ nextRead read_versions.now from (length read_versions.now - from) }
+    ensures { next_meant result ≡ next_read read_versions.now from (length read_versions.now - from) }
 {
     let mut d = from;
     while d < read_versions.len() {
@@ -26,7 +26,7 @@ pub fn next_read(read_versions: &[u32], from: usize) -> Next
 
 // How many spans there are: one fewer than boundaries with a reading.
 pub fn span_count(read_versions: &[u32]) -> usize
-    ensures { result ≡ readCount read_versions.now (length read_versions.now) - 1 }
+    ensures { result ≡ read_count read_versions.now (length read_versions.now) - 1 }
 {
     let mut count: usize = 0;
     let mut d = 0;

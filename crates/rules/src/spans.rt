@@ -1,13 +1,13 @@
 // The sums, the advance, the state and the scaling of a span (01, Spans).
 ghost use Rattle.std.specs.Prelude.{◌≡◌, ◌+◌, ◌-◌, ◌^◌, ◌<◌, ◌≤◌};
-ghost use Rattle.base.specs.Numbers.{dialModulus};
-ghost use Rattle.rules.specs.Opening.{slotCount};
-ghost use Rattle.rules.specs.Spans.{isS, advance, stateBy, share};
-ghost use Rattle.rules.specs.Lent.{lentSlots, lentAgreed};
+ghost use Rattle.base.specs.Numbers.{dial_modulus};
+ghost use Rattle.rules.specs.Opening.{slot_count};
+ghost use Rattle.rules.specs.Spans.{is_s, advance, state_by, share};
+ghost use Rattle.rules.specs.Lent.{lent_slots, lent_agreed};
 ghost use Rattle.rules.specs.Inner.Lent.{Lent, Settled, Dialled, Widths};
-ghost use Rattle.rules.specs.Inner.Walks.{walkAt};
-ghost use Rattle.rules.specs.Numbers.{mostSlots};
-ghost use Rattle.rules.specs.Inner.Summaries.{summaryOf, actualAdded, addedTo, comparedWith, scalingOf, scaledBy, Scales};
+ghost use Rattle.rules.specs.Inner.Walks.{walk_at};
+ghost use Rattle.rules.specs.Numbers.{most_slots};
+ghost use Rattle.rules.specs.Inner.Summaries.{summary_of, actual_added, added_to, compared_with, scaling_of, scaled_by, Scales};
 
 use crate::range::Range;
 use crate::walk::Walk;
@@ -51,7 +51,7 @@ pub struct Scaled {
 // One A or F slot more.
 fn add_actual(sum: Summary, value: u64) -> Summary
     requires { sum.actual + value < 2 ^ 64 }
-    ensures { result ≡ actualAdded sum value }
+    ensures { result ≡ actual_added sum value }
 {
     Summary {
         actual: sum.actual + value,
@@ -64,8 +64,8 @@ fn add_actual(sum: Summary, value: u64) -> Summary
 
 // One slot more, of at most 115,200: an A or F value is at most 99,999,999 Wh, a shape 6,000,000, all shapes together 115,200,000,000.
 fn add(sum: Summary, slot: Outcome, shape: u64) -> Summary
-    requires { (sum.actual ≤ 11_519_999_884_800) × (sum.shapes ≤ 115_200_000_000) × (sum.count ≤ mostSlots) × (shape ≤ 6_000_000) }
-    ensures { result ≡ addedTo sum slot shape }
+    requires { (sum.actual ≤ 11_519_999_884_800) × (sum.shapes ≤ 115_200_000_000) × (sum.count ≤ most_slots) × (shape ≤ 6_000_000) }
+    ensures { result ≡ added_to sum slot shape }
 {
     let value = slot.value as u64;
     let quality = slot.quality;
@@ -101,14 +101,14 @@ pub fn summarise(
     first: Walk,
     count: usize,
 ) -> Summary
-    requires { let s = lentSlots values versions statuses in
+    requires { let s = lent_slots values versions statuses in
         Lent head s holidays.now
-        × Settled head (lentAgreed agreed agreed_versions)
-        × (first.at + count ≤ slotCount head)
-        × (first ≡ walkAt head s agreed_versions.now first.at) }
-    ensures { let s = lentSlots values.entry versions.entry statuses.entry in
-        let a = lentAgreed agreed.entry agreed_versions.entry in
-        result ≡ summaryOf head s a holidays.now first.at count }
+        × Settled head (lent_agreed agreed agreed_versions)
+        × (first.at + count ≤ slot_count head)
+        × (first ≡ walk_at head s agreed_versions.now first.at) }
+    ensures { let s = lent_slots values.entry versions.entry statuses.entry in
+        let a = lent_agreed agreed.entry agreed_versions.entry in
+        result ≡ summary_of head s a holidays.now first.at count }
 {
     let mut sum = Summary {
         actual: 0,
@@ -164,7 +164,7 @@ pub fn summarise(
 
 // G, for a dial of eight digits.
 fn advanced(earlier: u32, later: u32) -> u32
-    requires { earlier < dialModulus }
+    requires { earlier < dial_modulus }
     ensures { result ≡ advance earlier later }
 {
     let turn = DIAL_MODULUS as u64;
@@ -173,7 +173,7 @@ fn advanced(earlier: u32, later: u32) -> u32
 
 // 0 agrees, 1 scaled, 2 open, 3 disagrees.
 fn state_of(sum: Summary, range: Range, r: u64, tolerance: u64) -> u8
-    ensures { result ≡ stateBy sum.hole sum.filled range r sum.actual tolerance }
+    ensures { result ≡ state_by sum.hole sum.filled range r sum.actual tolerance }
 {
     if sum.hole {
         return 2;
@@ -204,7 +204,7 @@ pub fn compare(
         × (first ≤ head.days)
         × (last ≤ head.days)
         × (head.days ≤ 400) }
-    ensures { result ≡ comparedWith head readings.now widths.now first last sum }
+    ensures { result ≡ compared_with head readings.now widths.now first last sum }
 {
     let advance = advanced(readings[first], readings[last]);
     let range = range::range_of(advance, widths[first], widths[last]);
@@ -218,7 +218,7 @@ pub fn compare(
 
 // floor(t × c / e).
 fn share_of(t: u64, c: u64, e: u64) -> u64
-    requires { (t < dialModulus) × (c ≤ 115_200_000_000) × (0 < e) }
+    requires { (t < dial_modulus) × (c ≤ 115_200_000_000) × (0 < e) }
     ensures { result ≡ share t c e }
 {
     t * c / e
@@ -226,14 +226,14 @@ fn share_of(t: u64, c: u64, e: u64) -> u64
 
 // The new value of a slot before which the running sum is `p`, and with which it is `c`.
 fn new_value(t: u64, p: u64, c: u64, e: u64) -> u32
-    requires { (t < dialModulus) × (p ≤ c) × (c ≤ e) × (e ≤ 115_200_000_000) × (0 < e) }
+    requires { (t < dial_modulus) × (p ≤ c) × (c ≤ e) × (e ≤ 115_200_000_000) × (0 < e) }
     ensures { result ≡ share t c e - share t p e }
 {
     (share_of(t, c, e) - share_of(t, p, e)) as u32
 }
 
 pub fn is_substituted(quality: Quality) -> bool
-    ensures { result ≡ isS quality }
+    ensures { result ≡ is_s quality }
 {
     match quality {
         Quality::A => false,
@@ -246,7 +246,7 @@ pub fn is_substituted(quality: Quality) -> bool
 // The scaling at the first slot of a span.
 pub fn scaling_of(sum: Summary, r: u64) -> Scaling
     requires { sum.actual ≤ r }
-    ensures { result ≡ scalingOf sum r }
+    ensures { result ≡ scaling_of sum r }
 {
     if sum.shapes == 0 {
         return Scaling {
@@ -267,7 +267,7 @@ pub fn scaling_of(sum: Summary, r: u64) -> Scaling
 // An S slot of a scaled span, with this shape.
 pub fn scale(shape: u64, by: Scaling) -> Scaled
     requires { Scales shape by }
-    ensures { result ≡ scaledBy shape by }
+    ensures { result ≡ scaled_by shape by }
 {
     let e = shape + by.extra;
     let passed = by.passed + e;

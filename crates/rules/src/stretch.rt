@@ -2,10 +2,10 @@
 ghost use Rattle.std.specs.Prelude.{[], ◌≡◌, ◌≤◌};
 ghost use Rattle.rules.specs.declared.stretch.Begins.TheVariants.{Nothing};
 ghost use Rattle.rules.specs.Spans.{span_of};
-ghost use Rattle.rules.specs.Lent.{lentSlots, lentAgreed, lentCells, cells};
+ghost use Rattle.rules.specs.Lent.{lent_slots, lent_agreed, lent_cells, cells};
 ghost use Rattle.rules.specs.Inner.Lent.{Lent, Settled, Dialled, Widths, Whole};
-ghost use Rattle.rules.specs.Inner.Stretches.{unscaledTo, spanStretch, stretchBy, stretchFrom, stretchAt, beginsWith, beginsAt};
-ghost use Rattle.rules.specs.Inner.Stretches.{fitOutcome, fitNext, Scalable, Starts, Before};
+ghost use Rattle.rules.specs.Inner.Stretches.{unscaled_to, span_stretch, stretch_by, stretch_from, stretch_at, begins_with, begins_at};
+ghost use Rattle.rules.specs.Inner.Stretches.{fit_outcome, fit_next, Scalable, Starts, Before};
 
 use crate::readings::Next;
 use crate::spans::{Scaling, Summary};
@@ -48,7 +48,7 @@ pub struct InStretch {
 
 // Nothing is scaled up to slot `until`.
 pub fn unscaled_to(until: usize) -> Stretch
-    ensures { result ≡ unscaledTo until }
+    ensures { result ≡ unscaled_to until }
 {
     let by = Scaling {
         t: 0,
@@ -64,7 +64,7 @@ pub fn unscaled_to(until: usize) -> Stretch
 
 fn stretch_by(until: usize, state: u8, sum: Summary, r: u64) -> Stretch
     requires { state ≡ 1 → sum.actual ≤ r }
-    ensures { result ≡ stretchBy until state sum r }
+    ensures { result ≡ stretch_by until state sum r }
 {
     if state != 1 {
         return unscaled_to(until);
@@ -90,16 +90,16 @@ fn meet(
     first: usize,
     last: usize,
 ) -> Met
-    requires { let s = lentSlots values versions statuses in
+    requires { let s = lent_slots values versions statuses in
         Lent head s holidays.now
         × Dialled head readings.now
-        × Settled head (lentAgreed agreed agreed_versions)
+        × Settled head (lent_agreed agreed agreed_versions)
         × Starts head s agreed_versions.now walk first last
         × Widths head widths.now }
-    ensures { let s = lentSlots values.entry versions.entry statuses.entry in
-        let a = lentAgreed agreed.entry agreed_versions.entry in
+    ensures { let s = lent_slots values.entry versions.entry statuses.entry in
+        let a = lent_agreed agreed.entry agreed_versions.entry in
         let b = cells s holidays.now readings.now [] a widths.now in
-        (result.span ≡ span_of head b first last) × (result.stretch ≡ spanStretch head b first last walk.at) }
+        (result.span ≡ span_of head b first last) × (result.stretch ≡ span_stretch head b first last walk.at) }
 {
     let day = opening::slots_per_day(head);
     let sum = spans::summarise(
@@ -154,11 +154,11 @@ fn reach(
     day: usize,
     last: usize,
 ) -> Entered
-    requires { let b = lentCells values versions statuses holidays readings read_versions agreed agreed_versions widths in
-        Whole head b × Starts head (lentSlots values versions statuses) agreed_versions.now walk day last }
-    ensures { let b = lentCells values.entry versions.entry statuses.entry holidays.entry readings.entry read_versions.entry
+    requires { let b = lent_cells values versions statuses holidays readings read_versions agreed agreed_versions widths in
+        Whole head b × Starts head (lent_slots values versions statuses) agreed_versions.now walk day last }
+    ensures { let b = lent_cells values.entry versions.entry statuses.entry holidays.entry readings.entry read_versions.entry
         agreed.entry agreed_versions.entry widths.entry in
-        (result.begins ≡ beginsWith head b day last) × (result.stretch ≡ stretchFrom head b day last walk.at) }
+        (result.begins ≡ begins_with head b day last) × (result.stretch ≡ stretch_from head b day last walk.at) }
 {
     if read_versions[day] == 0 {
         return no_span(unscaled_to(last * opening::slots_per_day(head)));
@@ -200,11 +200,11 @@ pub fn enter(
     walk: Walk,
     carried: Stretch,
 ) -> Entered
-    requires { let b = lentCells values versions statuses holidays readings read_versions agreed agreed_versions widths in
+    requires { let b = lent_cells values versions statuses holidays readings read_versions agreed agreed_versions widths in
         Whole head b × Before head b walk carried }
-    ensures { let b = lentCells values.entry versions.entry statuses.entry holidays.entry readings.entry read_versions.entry
+    ensures { let b = lent_cells values.entry versions.entry statuses.entry holidays.entry readings.entry read_versions.entry
         agreed.entry agreed_versions.entry widths.entry in
-        (result.begins ≡ beginsAt head b walk.at) × (result.stretch ≡ stretchAt head b walk.at) }
+        (result.begins ≡ begins_at head b walk.at) × (result.stretch ≡ stretch_at head b walk.at) }
 {
     let at = walk.at;
     if at != carried.until {
@@ -235,7 +235,7 @@ pub fn enter(
 // A slot's outcome in the stretch that it lies in, and the stretch one slot on.
 pub fn fit(slot: Outcome, shape: u64, here: Stretch) -> InStretch
     requires { Scalable slot shape here }
-    ensures { (result.outcome ≡ fitOutcome slot shape here) × (result.next ≡ fitNext slot shape here) }
+    ensures { (result.outcome ≡ fit_outcome slot shape here) × (result.next ≡ fit_next slot shape here) }
 {
     let by = here.by;
     if by.whole == 0 {

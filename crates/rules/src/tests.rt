@@ -1,8 +1,8 @@
 // The tests of a slot (01, Tests of a slot).
 ghost use Rattle.std.specs.Prelude.{◌≡◌, ◌<◌};
-ghost use Rattle.rules.specs.Opening.{slotCount};
-ghost use Rattle.rules.specs.Tests.{causeOf, isGood, goodAt, outageBit};
-ghost use Rattle.rules.specs.Lent.{lentSlots};
+ghost use Rattle.rules.specs.Opening.{slot_count};
+ghost use Rattle.rules.specs.Tests.{cause_of, is_good, good_at, outage_bit};
+ghost use Rattle.rules.specs.Lent.{lent_slots};
 ghost use Rattle.rules.specs.Inner.Lent.{Fitted};
 
 use crate::Head;
@@ -18,7 +18,7 @@ pub enum Cause {
 }
 
 pub fn cause_of(limit: u32, interval: u32, version: u32, value: u32, status: u8) -> Cause
-    ensures { result ≡ causeOf limit interval version value status }
+    ensures { result ≡ cause_of limit interval version value status }
 {
     if version == 0 {
         return Cause::Gap;
@@ -36,7 +36,7 @@ pub fn cause_of(limit: u32, interval: u32, version: u32, value: u32, status: u8)
 }
 
 fn is_nothing(found: Cause) -> bool
-    ensures { result ≡ isGood found }
+    ensures { result ≡ is_good found }
 {
     match found {
         Cause::Nothing => true,
@@ -48,8 +48,8 @@ fn is_nothing(found: Cause) -> bool
 }
 
 pub fn is_good(head: Head, values: &[u32], versions: &[u32], statuses: &[u8], at: usize) -> bool
-    requires { Fitted head (lentSlots values versions statuses) × (at < slotCount head) }
-    ensures { result ≡ goodAt head (lentSlots values.entry versions.entry statuses.entry) at }
+    requires { Fitted head (lent_slots values versions statuses) × (at < slot_count head) }
+    ensures { result ≡ good_at head (lent_slots values.entry versions.entry statuses.entry) at }
 {
     if versions[at] == 0 {
         return false;
@@ -65,7 +65,7 @@ pub fn is_good(head: Head, values: &[u32], versions: &[u32], statuses: &[u8], at
 
 // The outage bit of a status.
 pub fn outage_bit(status: u8) -> bool
-    ensures { result ≡ outageBit status }
+    ensures { result ≡ outage_bit status }
 {
     status / 2 % 2 == 1
 }

@@ -1,10 +1,10 @@
 // A walk over the slots from slot 0 upward, which fills each and looks ahead once for each run of gaps, and of slots that a line may fill.
 ghost use Rattle.std.specs.Prelude.{◌≡◌, ◌+◌, ◌<◌};
-ghost use Rattle.rules.specs.Opening.{slotCount};
-ghost use Rattle.rules.specs.Filling.{filledAt, shape_at};
-ghost use Rattle.rules.specs.Lent.{lentSlots, lentAgreed};
+ghost use Rattle.rules.specs.Opening.{slot_count};
+ghost use Rattle.rules.specs.Filling.{filled_at, shape_at};
+ghost use Rattle.rules.specs.Lent.{lent_slots, lent_agreed};
 ghost use Rattle.rules.specs.Inner.Lent.{Lent, Settled};
-ghost use Rattle.rules.specs.Inner.Walks.{walkAt};
+ghost use Rattle.rules.specs.Inner.Walks.{walk_at};
 
 use crate::linear::StraightLine;
 use crate::{Head, Outcome, filling, linear, outage, tests};
@@ -36,16 +36,16 @@ pub fn fill_at(
     agreed_versions: &[u32],
     walk: Walk,
 ) -> Filled
-    requires { let s = lentSlots values versions statuses in
+    requires { let s = lent_slots values versions statuses in
         Lent head s holidays.now
-        × Settled head (lentAgreed agreed agreed_versions)
-        × (walk.at < slotCount head)
-        × (walk ≡ walkAt head s agreed_versions.now walk.at) }
-    ensures { let s = lentSlots values.entry versions.entry statuses.entry in
-        let a = lentAgreed agreed.entry agreed_versions.entry in
-        (result.outcome ≡ filledAt head s a holidays.now walk.at)
+        × Settled head (lent_agreed agreed agreed_versions)
+        × (walk.at < slot_count head)
+        × (walk ≡ walk_at head s agreed_versions.now walk.at) }
+    ensures { let s = lent_slots values.entry versions.entry statuses.entry in
+        let a = lent_agreed agreed.entry agreed_versions.entry in
+        (result.outcome ≡ filled_at head s a holidays.now walk.at)
         × (result.shape ≡ shape_at head s a holidays.now walk.at)
-        × (result.next ≡ walkAt head s a.versions (walk.at + 1)) }
+        × (result.next ≡ walk_at head s a.versions (walk.at + 1)) }
 {
     let at = walk.at;
     let on = at + 1;

@@ -1,8 +1,8 @@
 // Which weeks a search for references looks at (01, Filling, rule 3, and 02, W3).
 ghost use Rattle.std.specs.Prelude.{true, ◌≡◌, ◌+◌, ◌-◌, ◌*◌, ◌≤◌, ◌<◌, length};
-ghost use Rattle.rules.specs.Opening.{headOk};
-ghost use Rattle.rules.specs.Weeks.{firstBack, farthestBack};
-ghost use Rattle.rules.specs.Inner.Ways.{InBook, fourGaps, GapsUpTo};
+ghost use Rattle.rules.specs.Opening.{head_ok};
+ghost use Rattle.rules.specs.Weeks.{first_back, farthest_back};
+ghost use Rattle.rules.specs.Inner.Ways.{InBook, four_gaps, GapsUpTo};
 
 use crate::{Head, opening};
 
@@ -39,9 +39,9 @@ fn way_within(day: usize, first: usize, farthest: usize) -> Way
 
 // The way from a target on day `day`: on a holiday it leads to Sundays.
 pub fn way_back(head: Head, holidays: &[u8], day: usize) -> Way
-    requires { (headOk head ≡ true) × (length holidays.now ≡ head.days) × (day < head.days) }
+    requires { (head_ok head ≡ true) × (length holidays.now ≡ head.days) × (day < head.days) }
     ensures { let held = holidays.now in
-        (result.first ≡ firstBack head held day) × InBook result.first (farthestBack held day) day result.weeks }
+        (result.first ≡ first_back head held day) × InBook result.first (farthest_back held day) day result.weeks }
 {
     if holidays[day] == 0 {
         return way_within(day, 7, 364);
@@ -53,7 +53,7 @@ pub fn way_back(head: Head, holidays: &[u8], day: usize) -> Way
 // The slots one, two, three and four weeks before slot `at` are gaps: one test of all, and no branch for each.
 fn are_gaps(versions: &[u32], at: usize, week: usize) -> bool
     requires { (4 * week ≤ at) × (at < length versions.now + week) }
-    ensures { result ≡ fourGaps versions.now at week }
+    ensures { result ≡ four_gaps versions.now at week }
 {
     let near = (versions[at - week] == 0) & (versions[at - 2 * week] == 0);
     let far = (versions[at - 3 * week] == 0) & (versions[at - 4 * week] == 0);

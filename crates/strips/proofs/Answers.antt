@@ -8,13 +8,13 @@ use borrow.Author.Tests.{eqb-true, not-true, not-false}
 use lib.Dec.{eqb}
 use lib.ListN.{length}
 use Rattle.base.proofs.Logic.{and_parts}
-use Rattle.rules.specs.Opening.{intervalOk}
-use Rattle.rules.proofs.Bounds.{interval-bounds}
+use Rattle.rules.specs.Opening.{interval_ok}
+use Rattle.rules.proofs.Bounds.{interval_bounds}
 use Rattle.base.specs.declared.Performed.{Performed}
 use Rattle.base.specs.declared.Performed.TheVariants.{Done, Refused}
-use Rattle.strips.specs.Strips.{perDay, wholeDays, lengthsOk, laidAnswer, laidAfter}
+use Rattle.strips.specs.Strips.{per_day, whole_days, lengths_ok, laid_answer, laid_after}
 use Rattle.strips.specs.Inner.Laying.{Sized}
-use Rattle.strips.proofs.Lengths.{whole-records}
+use Rattle.strips.proofs.Lengths.{whole_records}
 
 -- what the code's `if !test` tells of a test that a definition names
 pub passes : {r t : Bool} → r ≡ t → not r ≡ false → t ≡ true
@@ -26,30 +26,30 @@ fails {r} e h = sym e ∙ not-true r h
 module _ (interval : ℕ) (given out : List ℕ) where
   -- an answer, and the output after it
   abbrev Left : Performed → List ℕ → List ℕ → Type 0
-  Left a laid after = (a ≡ laidAnswer interval (length given) (length out)) × (after ≡ laidAfter interval given laid out)
+  Left a laid after = (a ≡ laid_answer interval (length given) (length out)) × (after ≡ laid_after interval given laid out)
 
-  pub refuses-interval : (laid : List ℕ) → intervalOk interval ≡ false → Left (Refused 1) laid out
-  unfolding laidAnswer laidAfter
-  refuses-interval laid e = rw e (refl, refl)
+  pub refuses_interval : (laid : List ℕ) → interval_ok interval ≡ false → Left (Refused 1) laid out
+  unfolding laid_answer laid_after
+  refuses_interval laid e = rw e (refl, refl)
 
-  pub refuses-lengths : (laid : List ℕ) → intervalOk interval ≡ true → lengthsOk (perDay interval) (length given) (length out) ≡ false
+  pub refuses_lengths : (laid : List ℕ) → interval_ok interval ≡ true → lengths_ok (per_day interval) (length given) (length out) ≡ false
       → Left (Refused 22) laid out
-  unfolding laidAnswer laidAfter
-  refuses-lengths laid e f = rw (e, f) (refl, refl)
+  unfolding laid_answer laid_after
+  refuses_lengths laid e f = rw (e, f) (refl, refl)
 
-  pub accepts : (laid after : List ℕ) → intervalOk interval ≡ true → lengthsOk (perDay interval) (length given) (length out) ≡ true
+  pub accepts : (laid after : List ℕ) → interval_ok interval ≡ true → lengths_ok (per_day interval) (length given) (length out) ≡ true
       → after ≡ laid → Left Done laid after
-  unfolding laidAnswer laidAfter
+  unfolding laid_answer laid_after
   accepts laid after e f g = rw (e, f) (refl, g)
 
   -- what an accepted call is given
-  pub sized : intervalOk interval ≡ true → lengthsOk (perDay interval) (length given) (length out) ≡ true
-      → Sized (perDay interval) given out
-  unfolding lengthsOk
+  pub sized : interval_ok interval ≡ true → lengths_ok (per_day interval) (length given) (length out) ≡ true
+      → Sized (per_day interval) given out
+  unfolding lengths_ok
   sized e f =
-      let (whole, room) = and_parts (wholeDays (perDay interval) (length given)) (eqb (length out) (length given) && true) f in
+      let (whole, room) = and_parts (whole_days (per_day interval) (length given)) (eqb (length out) (length given) && true) f in
       record {
-        positive = omega (arith, interval-bounds interval e);
-        whole = whole-records (perDay interval) (length given) whole;
+        positive = omega (arith, interval_bounds interval e);
+        whole = whole_records (per_day interval) (length given) whole;
         room = eqb-true (length out) (length given) (rw and-true at room);
       }

@@ -7,37 +7,37 @@ use native.Mathlib.Omega.{arith}
 use borrow.Author.Tests.{eq-eqb, ne_eqb, eqb-true}
 use lib.Dec.{eqb}
 use Rattle.base.proofs.Sums.{any_none, any_some, any_place}
-use Rattle.strips.specs.Strips.{wholeDays}
+use Rattle.strips.specs.Strips.{whole_days}
 
 module _ (n t : ℕ) where
   -- no number of days gives the length
-  none : ((days : ℕ) → 1 ≤ days → days < 1 + 400 → t ≡ 6 * n * days → ⊥) → wholeDays n t ≡ false
-  unfolding wholeDays
+  none : ((days : ℕ) → 1 ≤ days → days < 1 + 400 → t ≡ 6 * n * days → ⊥) → whole_days n t ≡ false
+  unfolding whole_days
   none h = any_none (λ days. eqb t (6 * n * days)) 1 400 (λ days l m. ne_eqb t (6 * n * days) (h days l m))
 
-  pub part-of-a-day : (t % (6 * n) ≡ 0 → ⊥) → wholeDays n t ≡ false
-  part-of-a-day h = none (λ days l m e. h (rw e (mul-mod_right (6 * n) days)))
+  pub part_of_a_day : (t % (6 * n) ≡ 0 → ⊥) → whole_days n t ≡ false
+  part_of_a_day h = none (λ days l m e. h (rw e (mul-mod_right (6 * n) days)))
 
-  pub under-a-day : t < 6 * n → wholeDays n t ≡ false
-  under-a-day h =
+  pub under_a_day : t < 6 * n → whole_days n t ≡ false
+  under_a_day h =
       none (λ days l m e. let one : 6 * n * 1 ≤ 6 * n * days = mul-le-mul_left (6 * n) l in omega (arith, mul-one (6 * n)))
 
-  pub over-400-days : 400 * (6 * n) < t → wholeDays n t ≡ false
-  over-400-days h =
+  pub over_400_days : 400 * (6 * n) < t → whole_days n t ≡ false
+  over_400_days h =
       none (λ days l m e. let most : days ≤ 400 = omega arith in let all : 6 * n * days ≤ 6 * n * 400 = mul-le-mul_left (6 * n) most in
       omega arith)
 
-  pub whole-days : 0 < 6 * n → t % (6 * n) ≡ 0 → 6 * n ≤ t → t ≤ 400 * (6 * n) → wholeDays n t ≡ true
-  unfolding wholeDays
-  whole-days z rest least most =
+  pub whole_days_lem : 0 < 6 * n → t % (6 * n) ≡ 0 → 6 * n ≤ t → t ≤ 400 * (6 * n) → whole_days n t ≡ true
+  unfolding whole_days
+  whole_days_lem z rest least most =
       any_some (λ days. eqb t (6 * n * days)) 1 400 (t / (6 * n))
       ((le-div_iff_mul-le z).1 (omega arith)) ((div-lt_iff_lt-mul z).1 (omega arith))
       (eq-eqb t (6 * n * (t / (6 * n))) (sym (rw (rest, add-zero) at (div-add-mod t (6 * n)))))
 
   -- its length is that of whole records
-  pub whole-records : wholeDays n t ≡ true → t ≡ 6 * (t / 6)
-  unfolding wholeDays
-  whole-records e =
+  pub whole_records : whole_days n t ≡ true → t ≡ 6 * (t / 6)
+  unfolding whole_days
+  whole_records e =
       let (days, l, m, q) = any_place (λ days. eqb t (6 * n * days)) 1 400 e in
       let s : t ≡ 6 * n * days = eqb-true t (6 * n * days) q in
       omega (arith, mul_assoc 6 n days)

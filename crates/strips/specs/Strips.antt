@@ -1,14 +1,14 @@
 -- A slot table as six strips of differences, and the inverse (02, W13).
 use Rattle.std.specs.Prelude.{Bool, cond, not, List, [], ◌∷◌, ℕ, suc, ◌+◌, ◌-◌, ◌*◌, ◌/◌, ◌%◌, ◌^◌, ltb, eqb, length, get_or}
-use Rattle.rules.specs.Numbers.{dayMinutes, mostDays}
+use Rattle.rules.specs.Numbers.{day_minutes, most_days}
 use Rattle.base.specs.Lists.{every, any, sum, up_to}
-use Rattle.rules.specs.Opening.{intervalOk}
+use Rattle.rules.specs.Opening.{interval_ok}
 use Rattle.base.specs.declared.Performed.{Performed}
 use Rattle.base.specs.declared.Performed.TheVariants.{Done, Refused}
 
 -- n: slots a day
-abbrev pub perDay : ℕ → ℕ
-perDay interval = dayMinutes / interval
+abbrev pub per_day : ℕ → ℕ
+per_day interval = day_minutes / interval
 
 -- N: a slot's record is six bytes, in the table and in the strips
 abbrev pub slots_of : List ℕ → ℕ
@@ -23,77 +23,77 @@ unfoldable pub number : (ℕ → ℕ) → ℕ
 number b = b 0 + 256 * b 1 + 65_536 * b 2 + 16_777_216 * b 3
 
 -- byte k of a record: four of its value, then the quality letter and the method of an old record
-unfoldable pub recordByte : ℕ → (ℕ → ℕ) → ℕ → ℕ
-recordByte value old k = cond (ltb k 4) (byte_of value k) (old k)
+unfoldable pub record_byte : ℕ → (ℕ → ℕ) → ℕ → ℕ
+record_byte value old k = cond (ltb k 4) (byte_of value k) (old k)
 
 -- byte k of slot i's record in a table
 abbrev pub in_table : List ℕ → ℕ → ℕ → ℕ
 in_table table i k = get_or table (6 * i + k) 0
 
 -- "six strips, all first bytes, all second bytes and so on": the same byte in the strips
-abbrev pub inStrips : List ℕ → ℕ → ℕ → ℕ
-inStrips strips i k = get_or strips (i + k * slots_of strips) 0
+abbrev pub in_strips : List ℕ → ℕ → ℕ → ℕ
+in_strips strips i k = get_or strips (i + k * slots_of strips) 0
 
 -- the value of slot i in a table
 abbrev pub value_at : List ℕ → ℕ → ℕ
 value_at table i = number (in_table table i)
 
 -- "the same position a day earlier (the first day from 0)"
-unfoldable pub dayEarlier : ℕ → (ℕ → ℕ) → ℕ → ℕ
-dayEarlier n value i = cond (ltb i n) 0 (value (i - n))
+unfoldable pub day_earlier : ℕ → (ℕ → ℕ) → ℕ → ℕ
+day_earlier n value i = cond (ltb i n) 0 (value (i - n))
 
 -- "each slot value becomes its difference, modulo 4,294,967,296"
-unfoldable pub differenceAt : ℕ → List ℕ → ℕ → ℕ
-differenceAt n table i = (value_at table i + 4_294_967_296 - dayEarlier n (value_at table) i) % 4_294_967_296
+unfoldable pub difference_at : ℕ → List ℕ → ℕ → ℕ
+difference_at n table i = (value_at table i + 4_294_967_296 - day_earlier n (value_at table) i) % 4_294_967_296
 
 -- byte k of what is stored of slot i
 abbrev pub stored_at : ℕ → List ℕ → ℕ → ℕ → ℕ
-stored_at n table i k = recordByte (differenceAt n table i) (in_table table i) k
+stored_at n table i k = record_byte (difference_at n table i) (in_table table i) k
 
 -- place p of the strips has byte p / N of slot p mod N
-unfoldable pub stripsOf : ℕ → List ℕ → List ℕ
-stripsOf n table = up_to (λ p. stored_at n table (p % slots_of table) (p / slots_of table)) 0 (length table)
+unfoldable pub strips_of : ℕ → List ℕ → List ℕ
+strips_of n table = up_to (λ p. stored_at n table (p % slots_of table) (p / slots_of table)) 0 (length table)
 
 -- the difference that the strips hold of slot i
-abbrev pub differenceIn : List ℕ → ℕ → ℕ
-differenceIn strips i = number (inStrips strips i)
+abbrev pub difference_in : List ℕ → ℕ → ℕ
+difference_in strips i = number (in_strips strips i)
 
 -- slot i's value: the sum, modulo 4,294,967,296, of the differences at its position on the first day and each later one up to its own
-unfoldable pub restoredValue : ℕ → List ℕ → ℕ → ℕ
-restoredValue n strips i = sum (λ day. differenceIn strips (day * n + i % n)) 0 (suc (i / n)) % 4_294_967_296
+unfoldable pub restored_value : ℕ → List ℕ → ℕ → ℕ
+restored_value n strips i = sum (λ day. difference_in strips (day * n + i % n)) 0 (suc (i / n)) % 4_294_967_296
 
 -- byte k of slot i's record
-abbrev pub restoredAt : ℕ → List ℕ → ℕ → ℕ → ℕ
-restoredAt n strips i k = recordByte (restoredValue n strips i) (inStrips strips i) k
+abbrev pub restored_at : ℕ → List ℕ → ℕ → ℕ → ℕ
+restored_at n strips i k = record_byte (restored_value n strips i) (in_strips strips i) k
 
 -- place p of the table has byte p mod 6 of slot p / 6
 unfoldable pub table_of : ℕ → List ℕ → List ℕ
-table_of n strips = up_to (λ p. restoredAt n strips (p / 6) (p % 6)) 0 (length strips)
+table_of n strips = up_to (λ p. restored_at n strips (p / 6) (p % 6)) 0 (length strips)
 
 -- "6 × n times a number of days from 1 to 400"
-unfoldable pub wholeDays : ℕ → ℕ → Bool
-wholeDays n table = any (λ days. eqb table (6 * n * days)) 1 mostDays
+unfoldable pub whole_days : ℕ → ℕ → Bool
+whole_days n table = any (λ days. eqb table (6 * n * days)) 1 most_days
 
 -- that, and an output as long
-unfoldable pub lengthsOk : ℕ → ℕ → ℕ → Bool
-lengthsOk n table out = every (wholeDays n table ∷ eqb out table ∷ [])
+unfoldable pub lengths_ok : ℕ → ℕ → ℕ → Bool
+lengths_ok n table out = every (whole_days n table ∷ eqb out table ∷ [])
 
 -- what either call answers, by the lengths of what it is given and of its output: "22 .., after 1"
-unfoldable pub laidAnswer : ℕ → ℕ → ℕ → Performed
-laidAnswer interval table out =
-    cond (not (intervalOk interval)) (Refused 1) (cond (not (lengthsOk (perDay interval) table out)) (Refused 22) Done)
+unfoldable pub laid_answer : ℕ → ℕ → ℕ → Performed
+laid_answer interval table out =
+    cond (not (interval_ok interval)) (Refused 1) (cond (not (lengths_ok (per_day interval) table out)) (Refused 22) Done)
 
 -- a refusal changes no byte
-abbrev pub laidIn : Performed → List ℕ → List ℕ → List ℕ
-laidIn Done laid out = laid
-laidIn (Refused n) laid out = out
+abbrev pub laid_in : Performed → List ℕ → List ℕ → List ℕ
+laid_in Done laid out = laid
+laid_in (Refused n) laid out = out
 
 -- what either call leaves in its output, given what it lays there
-unfoldable pub laidAfter : ℕ → List ℕ → List ℕ → List ℕ → List ℕ
-laidAfter interval given laid out = laidIn (laidAnswer interval (length given) (length out)) laid out
+unfoldable pub laid_after : ℕ → List ℕ → List ℕ → List ℕ → List ℕ
+laid_after interval given laid out = laid_in (laid_answer interval (length given) (length out)) laid out
 
-abbrev pub toStripsAfter : ℕ → List ℕ → List ℕ → List ℕ
-toStripsAfter interval table out = laidAfter interval table (stripsOf (perDay interval) table) out
+abbrev pub to_strips_after : ℕ → List ℕ → List ℕ → List ℕ
+to_strips_after interval table out = laid_after interval table (strips_of (per_day interval) table) out
 
-abbrev pub fromStripsAfter : ℕ → List ℕ → List ℕ → List ℕ
-fromStripsAfter interval strips out = laidAfter interval strips (table_of (perDay interval) strips) out
+abbrev pub from_strips_after : ℕ → List ℕ → List ℕ → List ℕ
+from_strips_after interval strips out = laid_after interval strips (table_of (per_day interval) strips) out

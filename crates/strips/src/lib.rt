@@ -2,15 +2,15 @@
 mod records;
 
 ghost use Rattle.std.specs.Prelude.{◌≡◌, ◌*◌, ◌<◌, ◌≤◌, length};
-ghost use Rattle.strips.specs.Strips.{perDay, lengthsOk, laidAnswer, laidAfter, toStripsAfter, fromStripsAfter};
-ghost use Rattle.strips.specs.Inner.Laying.{Sized, Slot, storedIn, restoredIn, slotIn, laid_of};
+ghost use Rattle.strips.specs.Strips.{per_day, lengths_ok, laid_answer, laid_after, to_strips_after, from_strips_after};
+ghost use Rattle.strips.specs.Inner.Laying.{Sized, Slot, stored_in, restored_in, slot_in, laid_of};
 
 use base::Performed;
 
 // The table is 6 × n × a number of days from 1 to 400 long, and the output as long as it.
 fn fit(n: usize, table: usize, out: usize) -> bool
     requires { (0 < n) × (n ≤ 288) }
-    ensures { result ≡ lengthsOk n table out }
+    ensures { result ≡ lengths_ok n table out }
 {
     let day = 6 * n;
     if table % day != 0 {
@@ -28,7 +28,7 @@ fn fit(n: usize, table: usize, out: usize) -> bool
 // Writes what is stored of slot `i` into the strips.
 fn lay_slot(n: usize, table: &[u8], out: &mut [u8], i: usize)
     requires { Slot n table.now out.old i }
-    ensures { out.new ≡ storedIn n table.now out.old i }
+    ensures { out.new ≡ stored_in n table.now out.old i }
 {
     let count = table.len() / 6;
     let at = 6 * i;
@@ -41,7 +41,7 @@ fn lay_slot(n: usize, table: &[u8], out: &mut [u8], i: usize)
 // Writes slot `i` of the table; the value a day earlier is read from the table as far as it is written.
 fn restore_slot(n: usize, strips: &[u8], out: &mut [u8], i: usize)
     requires { Slot n strips.now out.old i }
-    ensures { out.new ≡ restoredIn n strips.now out.old i }
+    ensures { out.new ≡ restored_in n strips.now out.old i }
 {
     let count = strips.len() / 6;
     let difference = records::value(strips, i, count);
@@ -66,7 +66,7 @@ enum Way {
 
 fn write_slot(way: Way, n: usize, given: &[u8], out: &mut [u8], i: usize)
     requires { Slot n given.now out.old i }
-    ensures { out.new ≡ slotIn way n given.now out.old i }
+    ensures { out.new ≡ slot_in way n given.now out.old i }
 {
     match way {
         Way::ToStrips => lay_slot(n, given, out, i),
@@ -87,8 +87,8 @@ fn write(way: Way, n: usize, given: &[u8], out: &mut [u8])
 }
 
 fn convert(way: Way, interval: u32, given: &[u8], out: &mut [u8]) -> Performed
-    ensures { (result ≡ laidAnswer interval (length given.now) (length out.old))
-        × (out.new ≡ laidAfter interval given.now (laid_of way (perDay interval) given.now) out.old) }
+    ensures { (result ≡ laid_answer interval (length given.now) (length out.old))
+        × (out.new ≡ laid_after interval given.now (laid_of way (per_day interval) given.now) out.old) }
 {
     if !rules::opening::is_interval(interval) {
         return Performed::Refused(1);
@@ -103,16 +103,16 @@ fn convert(way: Way, interval: u32, given: &[u8], out: &mut [u8]) -> Performed
 
 // The strips of a table.
 pub fn to_strips(interval: u32, table: &[u8], out: &mut [u8]) -> Performed
-    ensures { (result ≡ laidAnswer interval (length table.now) (length out.old))
-        × (out.new ≡ toStripsAfter interval table.now out.old) }
+    ensures { (result ≡ laid_answer interval (length table.now) (length out.old))
+        × (out.new ≡ to_strips_after interval table.now out.old) }
 {
     convert(Way::ToStrips, interval, table, out)
 }
 
 // The table of its strips.
 pub fn from_strips(interval: u32, strips: &[u8], out: &mut [u8]) -> Performed
-    ensures { (result ≡ laidAnswer interval (length strips.now) (length out.old))
-        × (out.new ≡ fromStripsAfter interval strips.now out.old) }
+    ensures { (result ≡ laid_answer interval (length strips.now) (length out.old))
+        × (out.new ≡ from_strips_after interval strips.now out.old) }
 {
     convert(Way::FromStrips, interval, strips, out)
 }

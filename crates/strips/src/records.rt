@@ -1,7 +1,7 @@
 // Records in a buffer: value (4 bytes, low byte first), quality letter, method. The bytes of one record stand `step` apart.
 ghost use Rattle.std.specs.Prelude.{◌≡◌, ◌+◌, ◌*◌, ◌<◌, ◌≤◌, length};
-ghost use Rattle.strips.specs.Strips.{number, value_at, dayEarlier};
-ghost use Rattle.strips.specs.Inner.Laying.{spaced, strewn, recordOf};
+ghost use Rattle.strips.specs.Strips.{number, value_at, day_earlier};
+ghost use Rattle.strips.specs.Inner.Laying.{spaced, strewn, record_of};
 
 fn wide(x: u8) -> u64
     ensures { (result ≡ x) × (result < 256) }
@@ -24,7 +24,7 @@ pub fn value(bytes: &[u8], at: usize, step: usize) -> u64
 // The value of the same position a day earlier, 0 on the first day.
 pub fn day_earlier(table: &[u8], n: usize, i: usize) -> u64
     requires { (6 * i ≤ length table.now) × (0 < n) }
-    ensures { (result ≡ dayEarlier n (value_at table.now) i) × (result < 4_294_967_296) }
+    ensures { (result ≡ day_earlier n (value_at table.now) i) × (result < 4_294_967_296) }
 {
     if i < n {
         return 0;
@@ -35,7 +35,7 @@ pub fn day_earlier(table: &[u8], n: usize, i: usize) -> u64
 // Writes a record at `at`.
 pub fn put(out: &mut [u8], at: usize, step: usize, value: u64, letter: u8, method: u8)
     requires { at + 5 * step < length out.old }
-    ensures { out.new ≡ strewn out.old at step (recordOf value letter method) }
+    ensures { out.new ≡ strewn out.old at step (record_of value letter method) }
 {
     let second = at + step;
     let third = second + step;

@@ -7,28 +7,28 @@ use lib.ListN.{length}
 use Rattle.base.specs.Lists.{every, all}
 use Rattle.file.specs.declared.Figures.{Figures}
 use Rattle.file.specs.declared.Verdict.TheVariants as verdict
-use Rattle.file.specs.Reader.{readFile}
-use Rattle.file.proofs.Answers.{figures-are}
+use Rattle.file.specs.Reader.{read_file}
+use Rattle.file.proofs.Answers.{figures_are}
 use Rattle.base.specs.declared.Performed.TheVariants.{Done, Refused}
-use Rattle.totals.specs.Stays.{listTests, pairsOk, totalsOf, staysAnswer, staysAfter}
+use Rattle.totals.specs.Stays.{list_tests, pairs_ok, totals_of, stays_answer, stays_after}
 
-module _ (bs : List ℕ) (g : Figures) (e : readFile bs ≡ verdict.Accepted g) where
+module _ (bs : List ℕ) (g : Figures) (e : read_file bs ≡ verdict.Accepted g) where
   -- "A list of no pairs is fine."
-  pub no_pairs : staysAnswer bs [] [] ≡ Done
-  unfolding staysAnswer all
+  pub no_pairs : stays_answer bs [] [] ≡ Done
+  unfolding stays_answer all
   no_pairs = rw e
 
   module _ (pairs totals : List ℕ) where
-    pub refused-18 : every (listTests pairs (length totals)) ≡ false
-        → (Refused 18 ≡ staysAnswer bs pairs totals) × (totals ≡ staysAfter bs pairs totals)
-    unfolding staysAfter staysAnswer
+    pub refused-18 : every (list_tests pairs (length totals)) ≡ false
+        → (Refused 18 ≡ stays_answer bs pairs totals) × (totals ≡ stays_after bs pairs totals)
+    unfolding stays_after stays_answer
     refused-18 p = rw (e, p) (refl, refl)
 
-    module _ (lists : every (listTests pairs (length totals)) ≡ true) where
-      pub refused-19 : pairsOk g.days pairs ≡ false → (Refused 19 ≡ staysAnswer bs pairs totals) × (totals ≡ staysAfter bs pairs totals)
-      unfolding staysAfter staysAnswer
-      refused-19 q = rw (e, figures-are bs g e, lists, q) (refl, refl)
+    module _ (lists : every (list_tests pairs (length totals)) ≡ true) where
+      pub refused-19 : pairs_ok g.days pairs ≡ false → (Refused 19 ≡ stays_answer bs pairs totals) × (totals ≡ stays_after bs pairs totals)
+      unfolding stays_after stays_answer
+      refused-19 q = rw (e, figures_are bs g e, lists, q) (refl, refl)
 
-      pub done : pairsOk g.days pairs ≡ true → (Done ≡ staysAnswer bs pairs totals) × (totalsOf bs pairs ≡ staysAfter bs pairs totals)
-      unfolding staysAfter staysAnswer
-      done q = rw (e, figures-are bs g e, lists, q) (refl, refl)
+      pub done : pairs_ok g.days pairs ≡ true → (Done ≡ stays_answer bs pairs totals) × (totals_of bs pairs ≡ stays_after bs pairs totals)
+      unfolding stays_after stays_answer
+      done q = rw (e, figures_are bs g e, lists, q) (refl, refl)

@@ -2,9 +2,9 @@
 ghost use Rattle.std.specs.Prelude.{cond, ◌≡◌, ◌+◌, ◌*◌, ◌^◌, ◌≤◌, ◌<◌, length};
 ghost use Rattle.base.specs.Lists.{sum, up_to};
 ghost use Rattle.file.specs.Reader.{slot_at};
-ghost use Rattle.totals.specs.Stays.{pairCount};
+ghost use Rattle.totals.specs.Stays.{pair_count};
 ghost use Rattle.file.specs.Inner.Reading.{Tabled};
-ghost use Rattle.totals.specs.Inner.Adding.{holds, withDay, Room, totalsBefore};
+ghost use Rattle.totals.specs.Inner.Adding.{holds, with_day, Room, totals_before};
 
 use file::fields;
 
@@ -42,7 +42,7 @@ fn share(first: u32, end: u32, day: u32, energy: u64) -> u64
 // Adds a day's energy to the totals of the stays that hold the day.
 fn add_day(pairs: &[u32], totals: &mut [u64], day: u32, energy: u64)
     requires { Room pairs.now totals.old energy }
-    ensures { totals.new ≡ withDay pairs.now totals.old day energy }
+    ensures { totals.new ≡ with_day pairs.now totals.old day energy }
 {
     let mut k = 0;
     while k < totals.len() {
@@ -63,8 +63,8 @@ fn clear(totals: &mut [u64])
 
 // The totals over a slot table of `days` days of `n` slots.
 pub fn total_days(file: &[u8], n: usize, days: u32, pairs: &[u32], totals: &mut [u64])
-    requires { Tabled file.now n days × (length totals.old ≡ pairCount pairs.now) }
-    ensures { totals.new ≡ totalsBefore file.now n pairs.now days }
+    requires { Tabled file.now n days × (length totals.old ≡ pair_count pairs.now) }
+    ensures { totals.new ≡ totals_before file.now n pairs.now days }
 {
     clear(totals);
     let mut day: u32 = 0;

@@ -4,17 +4,17 @@ mod pairs;
 
 ghost use Rattle.std.specs.Prelude.{◌≡◌};
 ghost use Rattle.file.specs.declared.Verdict.TheVariants.{Accepted};
-ghost use Rattle.file.specs.Reader.{readFile};
-ghost use Rattle.totals.specs.Stays.{staysAnswer, staysAfter};
+ghost use Rattle.file.specs.Reader.{read_file};
+ghost use Rattle.totals.specs.Stays.{stays_answer, stays_after};
 
 use base::Performed;
 use file::{Figures, Verdict};
 
 // The totals of stays in an accepted file.
 fn stays_in(file: &[u8], g: Figures, pairs: &[u32], totals: &mut [u64]) -> Performed
-    requires { readFile file.now ≡ Accepted g }
-    ensures { (result ≡ staysAnswer file.now pairs.now totals.old)
-        × (totals.new ≡ staysAfter file.now pairs.now totals.old) }
+    requires { read_file file.now ≡ Accepted g }
+    ensures { (result ≡ stays_answer file.now pairs.now totals.old)
+        × (totals.new ≡ stays_after file.now pairs.now totals.old) }
 {
     if !pairs::lists_fit(pairs, totals.len()) {
         return Performed::Refused(18);
@@ -30,8 +30,8 @@ fn stays_in(file: &[u8], g: Figures, pairs: &[u32], totals: &mut [u64]) -> Perfo
 
 // Totals the stays: `pairs` holds a first day and the day after the last for each, and `totals` takes the sums of their slots.
 pub fn stays(file: &[u8], pairs: &[u32], totals: &mut [u64]) -> Performed
-    ensures { (result ≡ staysAnswer file.now pairs.now totals.old)
-        × (totals.new ≡ staysAfter file.now pairs.now totals.old) }
+    ensures { (result ≡ stays_answer file.now pairs.now totals.old)
+        × (totals.new ≡ stays_after file.now pairs.now totals.old) }
 {
     match file::read(file) {
         Verdict::Accepted(g) => stays_in(file, g, pairs, totals),

@@ -1,11 +1,11 @@
 // The list of pairs: what is refused with 18 and 19.
 ghost use Rattle.std.specs.Prelude.{◌≡◌};
 ghost use Rattle.base.specs.Lists.{every};
-ghost use Rattle.totals.specs.Stays.{listTests, pairOk, pairsOk};
+ghost use Rattle.totals.specs.Stays.{list_tests, pair_ok, pairs_ok};
 
 // At most 64 pairs of two numbers each, and as many totals.
 pub fn lists_fit(pairs: &[u32], totals: usize) -> bool
-    ensures { result ≡ every (listTests pairs.now totals) }
+    ensures { result ≡ every (list_tests pairs.now totals) }
 {
     let count = pairs.len() / 2;
     if 64 < count {
@@ -18,7 +18,7 @@ pub fn lists_fit(pairs: &[u32], totals: usize) -> bool
 }
 
 fn pair_ok(first: u32, end: u32, days: u32) -> bool
-    ensures { result ≡ pairOk days first end }
+    ensures { result ≡ pair_ok days first end }
 {
     if end <= first {
         return false;
@@ -28,7 +28,7 @@ fn pair_ok(first: u32, end: u32, days: u32) -> bool
 
 // Each first number is below its second, and none exceeds D.
 pub fn pairs_fit(pairs: &[u32], days: u32) -> bool
-    ensures { result ≡ pairsOk days pairs.now }
+    ensures { result ≡ pairs_ok days pairs.now }
 {
     let count = pairs.len() / 2;
     let mut k = 0;

@@ -1,6 +1,6 @@
 -- `make_calls`: the lists of each kind of call make up the book that the calls of the run leave.
 use mathlib.Core.Path.{◌∙◌}
-use Rattle.berth.proofs.Lists.{run-lists, opens}
+use Rattle.berth.proofs.Lists.{run_lists, opens}
 use borrow.Author.Rules.{rules}
 use Rattle.base.proofs.Known.{known}
 use Rattle.berth.proofs.make_calls.Statement.{statement}
@@ -35,7 +35,7 @@ returns c =
     let e = at_open.«open».ensures.1 in
     let o = e ∙ opens _ _ (start at_open).pre.0 (start at_open).pre.1 in
     let r = at-read-dial.read-dial.ensures in
-    (at-send-all.send-all.ensures.0, run-lists _ _ _ _ _ _ _ o at-send-all.send-all.ensures.0 at-send-all.send-all.ensures.1 r)
+    (at-send-all.send-all.ensures.0, run_lists _ _ _ _ _ _ _ o at-send-all.send-all.ensures.0 at-send-all.send-all.ensures.1 r)
 
 pub make-calls-spec : {M : Type 1} → statement M
 make-calls-spec =

@@ -1,7 +1,7 @@
 -- `run`: publishing is given the lists that the calls left, and the report is read from what it wrote.
 use native.Mathlib.Omega.{arith}
-use Rattle.berth.proofs.Sends.{true-high}
-use Rattle.berth.proofs.Answers.{wrote, total-written, reported}
+use Rattle.berth.proofs.Sends.{true_high}
+use Rattle.berth.proofs.Answers.{wrote, total_written, reported}
 use Rattle.base.proofs.Known.{known}
 use Rattle.berth.proofs.run.Statement.{statement}
 use Rattle.berth.proofs.run.Tie as tie
@@ -43,10 +43,10 @@ report-requires c κs =
     let p = begun.pre in
     let left = wrote _ begun.args.seed begun.args.loss p.0 _ p.2 at-versions.before.before.before.make-calls.ensures.1
     c.before.before.before.publish.ensures.1 in
-    let high = true-high begun.args.head begun.args.seed begun.args.loss p.0 in (
+    let high = true_high begun.args.head begun.args.seed begun.args.loss p.0 in (
       p.0,
       omega (arith, p.2, c.before.before.out.given),
-      total-written _ begun.args.seed begun.args.loss p.0 _ p.2 left,
+      total_written _ begun.args.seed begun.args.loss p.0 _ p.2 left,
       omega (arith, at-versions.before.before.before.make-calls.ensures.0),
     )
 

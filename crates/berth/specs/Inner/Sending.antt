@@ -3,28 +3,28 @@ use Rattle.std.specs.Prelude.{cond, List, ℕ, zero, suc}
 use Rattle.std.specs.Borrow.{Bor}
 use Rattle.rules.specs.declared.Head.{Head}
 use Rattle.rules.specs.Opening.{Slots}
-use Rattle.rules.specs.Lent.{lentSlots}
-use Rattle.book.specs.Filling.{deliverAfter, countsAfter}
+use Rattle.rules.specs.Lent.{lent_slots}
+use Rattle.book.specs.Filling.{deliver_after, counts_after}
 use Rattle.berth.specs.declared.generator.Berth.{Berth}
-use Rattle.berth.specs.Steps.{berthAfter}
+use Rattle.berth.specs.Steps.{berth_after}
 
 pub record Sent : Type 0 where
   pub slots : Slots
   pub counts : List ℕ
 
-abbrev pub lentSent : Bor (List ℕ) → Bor (List ℕ) → Bor (List ℕ) → Bor (List ℕ) → Sent
-lentSent values versions statuses counts = record { slots = lentSlots values versions statuses; counts = counts.now }
+abbrev pub lent_sent : Bor (List ℕ) → Bor (List ℕ) → Bor (List ℕ) → Bor (List ℕ) → Sent
+lent_sent values versions statuses counts = record { slots = lent_slots values versions statuses; counts = counts.now }
 
 -- after slot i, of which the berth has just made its step
-unfoldable pub sentOne : Head → Sent → ℕ → Berth → Sent
-sentOne h s i b =
+unfoldable pub sent_one : Head → Sent → ℕ → Berth → Sent
+sent_one h s i b =
     cond b.lost s
     (record {
-      slots = deliverAfter h s.slots s.counts i 1 b.value 0;
-      counts = countsAfter h s.slots s.counts i 1 b.value 0;
+      slots = deliver_after h s.slots s.counts i 1 b.value 0;
+      counts = counts_after h s.slots s.counts i 1 b.value 0;
     })
 
 -- after the first i slots
-unfoldable pub sentFrom : Head → ℕ → ℕ → Sent → ℕ → Sent
-sentFrom h seed loss s zero = s
-sentFrom h seed loss s (suc i) = sentOne h (sentFrom h seed loss s i) i (berthAfter h seed loss (suc i))
+unfoldable pub sent_from : Head → ℕ → ℕ → Sent → ℕ → Sent
+sent_from h seed loss s zero = s
+sent_from h seed loss s (suc i) = sent_one h (sent_from h seed loss s i) i (berth_after h seed loss (suc i))

@@ -5,11 +5,11 @@ use mathlib.Core.Path.{◌≡◌, refl, sym, ap, ◌∙◌}
 use Prim.Native.Nat.{ℕ}
 use lib.ListN.{replicate}
 use borrow.Author.Tests.{not-true, not-false}
-use Rattle.book.specs.Cells.{slotsFit, daysFit, readsFit, agreedFits, cellsFit, countsFit, bookFits}
-use Rattle.book.specs.Lent.{lentBook}
-use Rattle.book.specs.Opening.{opened, openAnswer, openAfter}
-use Rattle.book.proofs.Fits.{lengths-of, fits-of}
-use Rattle.book.proofs.Cleared.{opened-lists}
+use Rattle.book.specs.Cells.{slots_fit, days_fit, reads_fit, agreed_fits, cells_fit, counts_fit, book_fits}
+use Rattle.book.specs.Lent.{lent_book}
+use Rattle.book.specs.Opening.{opened, open_answer, open_after}
+use Rattle.book.proofs.Fits.{lengths_of, fits_of}
+use Rattle.book.proofs.Cleared.{opened_lists}
 use Rattle.base.proofs.Known.{known}
 use Rattle.book.proofs.open.Statement.{statement}
 use Rattle.book.proofs.open.Tie as tie
@@ -54,24 +54,24 @@ after-book-fits c =
 -- ---- Needs
 
 returns : tie.Need-returns
-unfolding openAnswer openAfter
+unfolding open_answer open_after
 returns c = rw (sym c.before.head_ok.ensures ∙ not-true _ c.if1.true) (refl, refl)
 
 book-fits-requires : tie.Need-book-fits-requires
 book-fits-requires c κs = sym c.before.head_ok.ensures ∙ not-false _ c.if1.false
 
 returns-2 : tie.Need-returns-2
-unfolding openAnswer openAfter cellsFit slotsFit daysFit readsFit agreedFits countsFit bookFits
+unfolding open_answer open_after cells_fit slots_fit days_fit reads_fit agreed_fits counts_fit book_fits
 returns-2 c = let a = (start c.before).args in
-    let broken : bookFits a.head
-    (lentBook a.values a.versions a.statuses a.holidays a.readings a.read-versions a.agreed a.agreed-versions
+    let broken : book_fits a.head
+    (lent_book a.values a.versions a.statuses a.holidays a.readings a.read-versions a.agreed a.agreed-versions
     a.counts a.widths) ≡ false =
-    sym c.before.book-fits.ensures ∙ not-true _ c.if2.true in
+    sym c.before.book_fits_lem.ensures ∙ not-true _ c.if2.true in
     rw (sym c.before.before.before.head_ok.ensures ∙ not-false _ c.before.before.if1.false, broken)
     (refl, refl)
 
 returns-3 : tie.Need-returns-3
-unfolding openAnswer openAfter cellsFit slotsFit daysFit readsFit agreedFits countsFit bookFits opened
+unfolding open_answer open_after cells_fit slots_fit days_fit reads_fit agreed_fits counts_fit book_fits opened
 returns-3 c =
     let at-clear-counts = after-clear-counts c.before in
     let at-clear-words6 = after-clear-words6 at-clear-counts in
@@ -84,24 +84,24 @@ returns-3 c =
     let at-clear-words = after-clear-words at-clear-words2 in
     let at-book-fits = after-book-fits c.before in
     let a = (start at-book-fits).args in
-    let lent = lentBook a.values a.versions a.statuses a.holidays a.readings a.read-versions a.agreed
+    let lent = lent_book a.values a.versions a.statuses a.holidays a.readings a.read-versions a.agreed
     a.agreed-versions a.counts a.widths in
-    let fit : bookFits a.head lent ≡ true = sym at-book-fits.book-fits.ensures
+    let fit : book_fits a.head lent ≡ true = sym at-book-fits.book_fits_lem.ensures
     ∙ not-false _ at-clear-words.before.before.if2.left in
-    let fits = fits-of a.head lent fit in
-    let long = lengths-of a.head lent.cells fits.0 in
+    let fits = fits_of a.head lent fit in
+    let long = lengths_of a.head lent.cells fits.0 in
     let zeros : ℕ → List ℕ = λ n. replicate n 0 in
     rw (sym at-book-fits.before.before.head_ok.ensures ∙ not-false _ at-book-fits.before.if1.left, fit) (
       refl,
-      opened-lists a.head
+      opened_lists a.head
           (at-clear-words.clear-words.ensures ∙ ap zeros long.values)
           (at-clear-words2.clear-words2.ensures ∙ ap zeros long.versions)
           (at-clear-bytes.clear-bytes.ensures ∙ ap zeros long.statuses)
           (at-clear-bytes2.clear-bytes2.ensures ∙ ap zeros long.holidays)
           (at-clear-words3.clear-words3.ensures ∙ ap zeros long.readings)
-          (at-clear-words4.clear-words4.ensures ∙ ap zeros long.readVersions)
+          (at-clear-words4.clear-words4.ensures ∙ ap zeros long.read_versions)
           (at-clear-words5.clear-words5.ensures ∙ ap zeros long.agreed)
-          (at-clear-words6.clear-words6.ensures ∙ ap zeros long.agreedVersions)
+          (at-clear-words6.clear-words6.ensures ∙ ap zeros long.agreed_versions)
           (at-clear-counts.clear-counts.ensures ∙ ap zeros fits.1)
           (c.before.before.clear-counts2.ensures ∙ ap zeros long.widths),
     )

@@ -2,16 +2,16 @@
 use mathlib.Core.Bool.{true}
 use mathlib.Core.Path.{◌≡◌, refl, sym, ◌∙◌}
 use Rattle.base.proofs.Known.{known}
-use Rattle.rules.specs.Opening.{headOk}
-use Rattle.book.specs.Lent.{lentReads}
-use Rattle.book.specs.Cells.{Reads, readsFit}
+use Rattle.rules.specs.Opening.{head_ok}
+use Rattle.book.specs.Lent.{lent_reads}
+use Rattle.book.specs.Cells.{Reads, reads_fit}
 use Rattle.book.specs.Answers.{Answer}
 use Rattle.book.specs.Answers.Answer.{refused}
-use Rattle.book.specs.Filling.{registerAnswer, registerAfter}
-use Rattle.book.specs.Inner.Numbers.{readAfter}
+use Rattle.book.specs.Filling.{register_answer, register_after}
+use Rattle.book.specs.Inner.Numbers.{read_after}
 use Rattle.book.proofs.Fits.{long}
-use Rattle.book.proofs.Tested.{passes, fails, refused-2}
-use Rattle.book.proofs.OneNumber.{register-read}
+use Rattle.book.proofs.Tested.{passes, fails, refused_2}
+use Rattle.book.proofs.OneNumber.{register_read}
 use Rattle.book.proofs.register.Statement.{statement}
 use Rattle.book.proofs.register.Tie as tie
 
@@ -32,30 +32,30 @@ after-file-register c = c.before.before.before.before.before
 -- ---- The tests that were passed
 
 abbrev lent : tie.Start → Reads
-lent c = lentReads c.args.readings c.args.read-versions c.args.widths
+lent c = lent_reads c.args.readings c.args.read-versions c.args.widths
 
 abbrev whole : tie.Start → Answer
-whole c = registerAnswer c.args.head (lent c) c.args.boundary c.args.version c.args.reading c.args.width
+whole c = register_answer c.args.head (lent c) c.args.boundary c.args.version c.args.reading c.args.width
 
-head_passed : (c : tie.Else1) → headOk (from1 c).args.head ≡ true
+head_passed : (c : tie.Else1) → head_ok (from1 c).args.head ≡ true
 head_passed c = passes c.before.head_ok.ensures c.if1.false
 
-fits_told : (c : tie.After-reads-fit) → c.reads_fit.result ≡ readsFit (from1 c.before).args.head (lent (from1 c.before))
-unfolding readsFit
+fits_told : (c : tie.After-reads-fit) → c.reads_fit.result ≡ reads_fit (from1 c.before).args.head (lent (from1 c.before))
+unfolding reads_fit
 fits_told c = c.reads_fit.ensures
 
 lists-broken : (c : tie.Then2) → whole (from1 c.before.before) ≡ refused 2
-unfolding registerAnswer
-lists-broken c = refused-2 _ _ _ _ (head_passed c.before.before) (fails (fits_told c.before) c.if2.true)
+unfolding register_answer
+lists-broken c = refused_2 _ _ _ _ (head_passed c.before.before) (fails (fits_told c.before) c.if2.true)
 
 -- ---- Needs
 
 returns : tie.Need-returns
-unfolding registerAnswer registerAfter
+unfolding register_answer register_after
 returns c = rw (fails c.before.head_ok.ensures c.if1.true) (refl, refl)
 
 returns-2 : tie.Need-returns-2
-unfolding registerAfter
+unfolding register_after
 returns-2 c = rw (lists-broken c) (refl, refl)
 
 file-register-requires : tie.Need-file-register-requires
@@ -64,7 +64,7 @@ file-register-requires c κs =
     (fits 1 ∙ sym (fits 0), fits 2 ∙ sym (fits 0))
 
 returns-3 : tie.Need-returns-3
-unfolding registerAfter readAfter readsFit
+unfolding register_after read_after reads_fit
 returns-3 c =
     let at-file-register = after-file-register c.before in
     let b = passed2-file-register at-file-register in
@@ -72,7 +72,7 @@ returns-3 c =
     let a = begun.args in
     let fit = passes (fits_told b.before) b.if2.left in
     let e = at-file-register.file-register.ensures in
-    rw (register-read a.head (head_passed b.before.before) (lent begun) a.boundary a.version a.reading a.width fit)
+    rw (register_read a.head (head_passed b.before.before) (lent begun) a.boundary a.version a.reading a.width fit)
     e
 
 pub register-spec : {M : Type 1} → statement M

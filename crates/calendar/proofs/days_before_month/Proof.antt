@@ -6,7 +6,7 @@ use borrow.Author.Rules.{rules}
 use Rattle.base.proofs.Known.{known}
 use lib.Dec.{lit<}
 use mir.Val.{bool_byte}
-use Rattle.calendar.proofs.Starts.{each-entry}
+use Rattle.calendar.proofs.Starts.{each_entry}
 use Rattle.calendar.proofs.days_before_month.Statement.{statement}
 use Rattle.calendar.proofs.days_before_month.Tie as tie
 
@@ -24,7 +24,7 @@ returns : tie.Need-returns
 returns c =
     let a = c.before.before.args in
     let h : a.month - 1 < 12 = omega arith in
-    rw c.before.is-leap.ensures (each-entry a.year (a.month - 1) h)
+    rw c.before.is-leap.ensures (each_entry a.year (a.month - 1) h)
 
 pub days-before-month-spec : {M : Type 1} → statement M
 days-before-month-spec =

@@ -6,27 +6,27 @@ use native.Mathlib.Omega.{arith}
 use borrow.Author.Tests.{ne_eqb}
 use Rattle.base.proofs.Known.{known}
 use lib.ListN.{get_or-eq_default}
-use Rattle.calendar.specs.Calendar.{leap, monthLengths, monthLength}
-use Rattle.calendar.proofs.Closed.{month-length}
+use Rattle.calendar.specs.Calendar.{leap, month_lengths, month_length}
+use Rattle.calendar.proofs.Closed.{month_length_lem}
 use Rattle.calendar.proofs.month_length.Statement.{statement}
 use Rattle.calendar.proofs.month_length.Tie as tie
 
 returns : tie.Need-returns
-unfolding monthLength monthLengths
+unfolding month_length month_lengths
 returns c =
     let h : 12 ≤ c.before.args.month - 1 = omega arith in
-    sym (get_or-eq_default (monthLengths (leap c.before.args.year)) 0 h)
+    sym (get_or-eq_default (month_lengths (leap c.before.args.year)) 0 h)
 
 returns-2 : tie.Need-returns-2
-unfolding monthLength monthLengths
+unfolding month_length month_lengths
 returns-2 c = rw (c.before.before.match.keys1, sym c.before.is-leap.ensures ∙ c.if2.true)
 
 returns-3 : tie.Need-returns-3
-unfolding monthLength monthLengths
+unfolding month_length month_lengths
 returns-3 c = rw (c.before.before.match.keys1, sym c.before.is-leap.ensures ∙ c.if2.false)
 
 returns-4 : tie.Need-returns-4
-unfolding monthLength monthLengths
+unfolding month_length month_lengths
 returns-4 c = ⊎_elim (λ e. rw e) (⊎_elim (λ e. rw e) (⊎_elim (λ e. rw e) (λ e. rw e))) c.match.keys2
 
 returns-5 : tie.Need-returns-5
@@ -35,7 +35,7 @@ returns-5 c =
     let p = c.match.rest.0.1 in
     let q = c.match.rest.1 in
     simp (
-      month-length,
+      month_length_lem,
       ne_eqb _ 2 p,
       ne_eqb _ 4 (λ e. q (inl e)),
       ne_eqb _ 6 (λ e. q (inr (inl e))),

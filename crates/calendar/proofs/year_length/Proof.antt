@@ -1,16 +1,16 @@
--- `year_length` is the specification's `yearLength`.
+-- `year_length` is the specification's `year_length`.
 use mathlib.Core.Path.{sym, ◌∙◌}
 use Rattle.base.proofs.Known.{known}
-use Rattle.calendar.specs.Calendar.{yearLength}
+use Rattle.calendar.specs.Calendar.{year_length}
 use Rattle.calendar.proofs.year_length.Statement.{statement}
 use Rattle.calendar.proofs.year_length.Tie as tie
 
 returns : tie.Need-returns
-unfolding yearLength
+unfolding year_length
 returns c = simp (sym c.before.is-leap.ensures ∙ c.if1.true)
 
 returns-2 : tie.Need-returns-2
-unfolding yearLength
+unfolding year_length
 returns-2 c = simp (sym c.before.is-leap.ensures ∙ c.if1.false)
 
 pub year-length-spec : {M : Type 1} → statement M

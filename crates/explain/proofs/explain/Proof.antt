@@ -1,8 +1,8 @@
 -- `explain` refuses in the order of the numbers.
 use mathlib.Core.Path.{sym, ◌∙◌}
 use borrow.Author.Tests.{not-true, not-false}
-use Rattle.book.specs.Lent.{lentBook}
-use Rattle.explain.proofs.Answering.{refused-1, refused-2, refused-3}
+use Rattle.book.specs.Lent.{lent_book}
+use Rattle.explain.proofs.Answering.{refused_1, refused_2, refused-3}
 use Rattle.base.proofs.Known.{known}
 use Rattle.explain.proofs.explain.Statement.{statement}
 use Rattle.explain.proofs.explain.Tie as tie
@@ -28,20 +28,20 @@ after-lists-fit-refused-by3 c = c.before.before.before.before
 
 returns : tie.Need-returns
 returns c = let a = (start c.before.before).args in
-    let b = lentBook a.values a.versions a.statuses a.holidays a.readings a.read-versions a.agreed a.agreed-versions
+    let b = lent_book a.values a.versions a.statuses a.holidays a.readings a.read-versions a.agreed a.agreed-versions
     a.counts a.widths in
     c.refused-by.ensures
-    ∙ refused-1 a.head b a.slot (sym c.before.before.head_ok.ensures ∙ not-true _ c.before.if1.true)
+    ∙ refused_1 a.head b a.slot (sym c.before.before.head_ok.ensures ∙ not-true _ c.before.if1.true)
 
 lists-fit-requires : tie.Need-lists-fit-requires
 lists-fit-requires c κs = sym c.before.head_ok.ensures ∙ not-false _ c.if1.false
 
 returns-2 : tie.Need-returns-2
 returns-2 c = let a = (start-refused-by2 c).args in
-    let b = lentBook a.values a.versions a.statuses a.holidays a.readings a.read-versions a.agreed a.agreed-versions
+    let b = lent_book a.values a.versions a.statuses a.holidays a.readings a.read-versions a.agreed a.agreed-versions
     a.counts a.widths in
     c.refused-by2.ensures
-    ∙ refused-2 a.head b a.slot (sym (after-head-ok c).head_ok.ensures ∙ not-false _ c.before.before.before.if1.false)
+    ∙ refused_2 a.head b a.slot (sym (after-head-ok c).head_ok.ensures ∙ not-false _ c.before.before.before.if1.false)
     (sym c.before.before.lists-fit.ensures ∙ not-true _ c.before.if2.true)
 
 slot-count-requires : tie.Need-slot-count-requires
@@ -51,7 +51,7 @@ returns-3 : tie.Need-returns-3
 returns-3 c =
     let at-lists-fit = after-lists-fit-refused-by3 c in
     let a = (start at-lists-fit.before.before).args in
-    let b = lentBook a.values a.versions a.statuses a.holidays a.readings a.read-versions a.agreed a.agreed-versions
+    let b = lent_book a.values a.versions a.statuses a.holidays a.readings a.read-versions a.agreed a.agreed-versions
     a.counts a.widths in
     c.refused-by3.ensures
     ∙ refused-3 a.head b a.slot (sym at-lists-fit.before.before.head_ok.ensures ∙ not-false _ at-lists-fit.before.if1.left)

@@ -16,7 +16,7 @@ returns c =
       (after-bare c).before.nothing.ensures,
       (after-bare c).bare.ensures,
       c.before.before.before.None-found.ensures,
-      c.before.before.no_span.ensures,
+      c.before.before.no_span_lem.ensures,
       c.before.no-shares.ensures,
       c.nothing2.ensures,
     )

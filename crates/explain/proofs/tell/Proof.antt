@@ -1,9 +1,9 @@
 -- `tell`: each part is what the rules say of the slot.
 use mathlib.Core.Path.{◌∙◌}
-use Rattle.rules.specs.Tests.{causeAt}
-use Rattle.rules.specs.Lent.{slots, agreedLists, cells}
+use Rattle.rules.specs.Tests.{cause_at}
+use Rattle.rules.specs.Lent.{slots, agreed_lists, cells}
 use Rattle.rules.proofs.Bounds.{bounded}
-use Rattle.explain.proofs.Telling.{fits-are, told_is}
+use Rattle.explain.proofs.Telling.{fits_are, told_is}
 use borrow.Author.Rules.{rules}
 use Rattle.base.proofs.Known.{known}
 use Rattle.explain.proofs.tell.Statement.{statement}
@@ -31,17 +31,17 @@ tell-with-requires c κs =
     let begun = start at-fill-slot in
     let a = begun.args in
     let b = cells (slots a.values.now a.versions.now a.statuses.now) a.holidays.now a.readings.now
-    a.read-versions.now (agreedLists a.agreed.now a.agreed-versions.now) a.widths.now in
+    a.read-versions.now (agreed_lists a.agreed.now a.agreed-versions.now) a.widths.now in
     simp (at-fill-slot.fill-slot.ensures.0, at-fill-slot.fill-slot.ensures.1, c.hold.ensures.1)
-    (fits-are a.head (bounded a.head begun.pre.0.lent.fitted.head) b a.slot begun.pre.0.widths.low)
+    (fits_are a.head (bounded a.head begun.pre.0.lent.fitted.head) b a.slot begun.pre.0.widths.low)
 
 returns : tie.Need-returns
-unfolding causeAt
+unfolding cause_at
 returns c =
     let at-fill-slot = after-fill-slot c.before in
     let a = (start at-fill-slot).args in
     let b = cells (slots a.values.now a.versions.now a.statuses.now) a.holidays.now a.readings.now
-    a.read-versions.now (agreedLists a.agreed.now a.agreed-versions.now) a.widths.now in
+    a.read-versions.now (agreed_lists a.agreed.now a.agreed-versions.now) a.widths.now in
     c.tell-with.ensures
     ∙ told_is a.head (bounded a.head (start at-fill-slot).pre.0.lent.fitted.head) b a.slot _
     at-fill-slot.fill-slot.result c.before.before.found-by.result c.before.hold.result

@@ -4,21 +4,21 @@ use Rattle.rules.specs.declared.Head.{Head}
 use Rattle.rules.specs.declared.Quality.{Quality}
 use Rattle.rules.specs.declared.spans.Scaling.{Scaling}
 use Rattle.rules.specs.declared.spans.Summary.{Summary}
-use Rattle.rules.specs.Opening.{slotsPerDay}
-use Rattle.rules.specs.Spans.{isS}
-use Rattle.rules.specs.Inner.Summaries.{comparedWith}
-use Rattle.rules.specs.Inner.Stretches.{unscaledTo}
+use Rattle.rules.specs.Opening.{slots_per_day}
+use Rattle.rules.specs.Spans.{is_s}
+use Rattle.rules.specs.Inner.Summaries.{compared_with}
+use Rattle.rules.specs.Inner.Stretches.{unscaled_to}
 use Rattle.explain.specs.declared.Spanned.{Spanned}
 use Rattle.explain.specs.declared.Shares.{Shares}
-use Rattle.explain.specs.Explain.{noShares}
+use Rattle.explain.specs.Explain.{no_shares}
 
 -- nothing is scaled
 abbrev pub unscaled : Scaling
-unscaled = (unscaledTo 0).by
+unscaled = (unscaled_to 0).by
 
 -- a span with this state, the sums m and the advance r, where the slots before a slot have the sums `before`
-unfoldable pub scalingWith : ℕ → Summary → Summary → ℕ → Scaling
-scalingWith state m before r =
+unfoldable pub scaling_with : ℕ → Summary → Summary → ℕ → Scaling
+scaling_with state m before r =
     cond (eqb state 1)
     (record {
       t = r - m.actual;
@@ -29,9 +29,9 @@ scalingWith state m before r =
     unscaled
 
 -- the figures of a span with the sums m
-unfoldable pub spannedWith : Head → List ℕ → List ℕ → ℕ → ℕ → Summary → Spanned
-spannedWith h readings widths first last m =
-    let found = comparedWith h readings widths first last m in
+unfoldable pub spanned_with : Head → List ℕ → List ℕ → ℕ → ℕ → Summary → Spanned
+spanned_with h readings widths first last m =
+    let found = compared_with h readings widths first last m in
     record {
       inside = true;
       first = first;
@@ -45,14 +45,14 @@ spannedWith h readings widths first last m =
 
 -- slot i lies between two boundaries
 pub record Between (h : Head) (i first last : ℕ) : Type 0 where
-  pub from : first * slotsPerDay h ≤ i
-  pub to : i < last * slotsPerDay h
+  pub from : first * slots_per_day h ≤ i
+  pub to : i < last * slots_per_day h
   pub ordered : first < last
   pub within : last ≤ h.days
 
 -- the shares of a slot of this quality
-unfoldable pub sharesWith : Quality → Scaling → ℕ → Shares
-sharesWith q by reached =
-    cond (isS q && not (eqb by.whole 0))
+unfoldable pub shares_with : Quality → Scaling → ℕ → Shares
+shares_with q by reached =
+    cond (is_s q && not (eqb by.whole 0))
     (record { scaled = true; t = by.t; whole = by.whole; passed = by.passed; reached = reached })
-    noShares
+    no_shares

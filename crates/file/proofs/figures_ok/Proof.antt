@@ -5,7 +5,7 @@ use lib.Dec.{eqb}
 use borrow.Author.Rules.{rules}
 use Rattle.base.proofs.Known.{known}
 use borrow.Author.Tests.{eq-eqb, ne_eqb, not-true, not-false}
-use Rattle.file.specs.Reader.{layoutFits}
+use Rattle.file.specs.Reader.{layout_fits}
 use Rattle.file.proofs.figures_ok.Statement.{statement}
 use Rattle.file.proofs.figures_ok.Tie as tie
 
@@ -34,7 +34,7 @@ substituted c = eq-eqb _ _ c.if2.false
 none : (c : tie.Else3) → let s = start (first (second c)) in eqb s.args.found.none s.args.g.none ≡ true
 none c = eq-eqb _ _ c.if3.false
 
-layout : (c : tie.Else4) → let s = start (first (second (third c))) in layoutFits s.args.g.layout s.args.found.agreed ≡ true
+layout : (c : tie.Else4) → let s = start (first (second (third c))) in layout_fits s.args.g.layout s.args.found.agreed ≡ true
 layout c = sym c.before.layout-fits.ensures ∙ not-false _ c.if4.false
 
 -- ---- Needs

@@ -4,8 +4,8 @@ use native.Mathlib.Omega.{arith}
 use borrow.Author.Rules.{rules}
 use Rattle.base.proofs.Known.{known}
 use lib.Seq.{length-take-le}
-use Rattle.file.specs.Reader.{part_of, tablesPart}
-use Rattle.file.proofs.Answers.{long-enough}
+use Rattle.file.specs.Reader.{part_of, tables_part}
+use Rattle.file.proofs.Answers.{long_enough}
 use Rattle.file.proofs.tables.Statement.{statement}
 use Rattle.file.proofs.tables.Tie as tie
 
@@ -20,7 +20,7 @@ start-result2 c = c.before.before.before.before.before
 -- ---- Needs
 
 sub-end : tie.Need-overflow-sub-end
-sub-end c = omega (arith, long-enough (start c).args.file.now _ (sym c.before.before.read.ensures ∙ c.enum_told.given.1))
+sub-end c = omega (arith, long_enough (start c).args.file.now _ (sym c.before.before.read.ensures ∙ c.enum_told.given.1))
 
 slice-aggregate-result : tie.Need-slice-aggregate-result
 slice-aggregate-result c = sym (length-take-le _ (start c.before).args.file.now (search rules))
@@ -29,14 +29,14 @@ slice-aggregate-result-2 : tie.Need-slice-aggregate-result-2
 slice-aggregate-result-2 c = sym (length-take-le _ (start-result2 c).args.file.now (search rules))
 
 returns : tie.Need-returns
-unfolding tablesPart
+unfolding tables_part
 returns c =
     let args = (start c.before).args in
     let read = c.before.before.before.read in
     sym (ap (λ v. part_of v args.file.now) (sym read.ensures ∙ c.before.enum_told.given.1))
 
 returns-2 : tie.Need-returns-2
-unfolding tablesPart
+unfolding tables_part
 returns-2 c =
     let args = (start-result2 c).args in
     let read = c.before.before.before.read in

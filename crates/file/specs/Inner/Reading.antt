@@ -1,51 +1,51 @@
 -- What the functions of the reader know of a file.
 use Rattle.std.specs.Prelude.{◌≡◌, Bool, true, false, cond, ◌&&◌, ◌||◌, List, [], ◌∷◌, ℕ, ◌+◌, ◌*◌, ◌^◌, ◌≤◌, eqb, leb, length}
-use Rattle.base.specs.Numbers.{eightDigits}
+use Rattle.base.specs.Numbers.{eight_digits}
 use Rattle.base.specs.Lists.{sum, all, any, every, count}
 use Rattle.rules.specs.declared.Quality.{Quality}
 use Rattle.rules.specs.declared.Quality.TheVariants.{A, S, F, N}
-use Rattle.rules.specs.Numbers.{mostDays}
+use Rattle.rules.specs.Numbers.{most_days}
 use Rattle.file.specs.declared.Figures.{Figures}
 use Rattle.file.specs.declared.counting.Counted.{Counted}
 use Rattle.file.specs.declared.slots.Kind.{Kind}
 use Rattle.file.specs.declared.slots.Kind.TheVariants.{Substituted, None, Scaled, Unscaled}
 use Rattle.file.specs.declared.slots.SlotRecord.{SlotRecord}
 use Rattle.file.specs.declared.slots.Tally.{Tally}
-use Rattle.file.specs.Layout.{slotWidth, spanTableBytes, trailerWidth}
-use Rattle.file.specs.Reader.{slot_at, headFieldTests, fileSlots, ofQuality, isForm, recordOk, scaled, unscaled, layoutFits}
+use Rattle.file.specs.Layout.{slot_width, span_table_bytes, trailer_width}
+use Rattle.file.specs.Reader.{slot_at, head_field_tests, file_slots, of_quality, is_form, record_ok, scaled, unscaled, layout_fits}
 
 -- (A,0)
 abbrev pub is_plain : SlotRecord → Bool
-is_plain r = isForm A 0 r
+is_plain r = is_form A 0 r
 
 -- (A,0) or (F,5)
-abbrev pub isKindless : SlotRecord → Bool
-isKindless r = is_plain r || isForm F 5 r
+abbrev pub is_kindless : SlotRecord → Bool
+is_kindless r = is_plain r || is_form F 5 r
 
 -- a record is of a kind
-abbrev pub isKind : Kind → SlotRecord → Bool
-isKind Substituted r = ofQuality S r
-isKind None r = ofQuality N r
-isKind Scaled r = scaled r
-isKind Unscaled r = unscaled r
+abbrev pub is_kind : Kind → SlotRecord → Bool
+is_kind Substituted r = of_quality S r
+is_kind None r = of_quality N r
+is_kind Scaled r = scaled r
+is_kind Unscaled r = unscaled r
 
 -- slot i is of a kind
 abbrev pub kind_at : List ℕ → Kind → ℕ → Bool
-kind_at bs kind i = isKind kind (slot_at bs i)
+kind_at bs kind i = is_kind kind (slot_at bs i)
 
 -- the kinds found and the sum with one slot more
-abbrev pub talliedWith : Tally → SlotRecord → Tally
-talliedWith t r = record {
-  none = t.none || isKind None r;
-  scaled = t.scaled || isKind Scaled r;
-  unscaled = t.unscaled || isKind Unscaled r;
-  substituted = t.substituted || isKind Substituted r;
+abbrev pub tallied_with : Tally → SlotRecord → Tally
+tallied_with t r = record {
+  none = t.none || is_kind None r;
+  scaled = t.scaled || is_kind Scaled r;
+  unscaled = t.unscaled || is_kind Unscaled r;
+  substituted = t.substituted || is_kind Substituted r;
   sum = t.sum + r.value;
 }
 
 -- which kinds of slots the k from a have, and their sum
-unfoldable pub talliedIn : List ℕ → ℕ → ℕ → Tally
-talliedIn bs a k = record {
+unfoldable pub tallied_in : List ℕ → ℕ → ℕ → Tally
+tallied_in bs a k = record {
   none = any (kind_at bs None) a k;
   scaled = any (kind_at bs Scaled) a k;
   unscaled = any (kind_at bs Unscaled) a k;
@@ -55,7 +55,7 @@ talliedIn bs a k = record {
 
 -- 1 for a record of a quality
 abbrev pub one : Quality → SlotRecord → ℕ
-one q r = cond (ofQuality q r) 1 0
+one q r = cond (of_quality q r) 1 0
 
 -- (A,1), or a record of no form: not (A,0), nor of another letter of a quality
 pub record IsRest (r : SlotRecord) : Type 0 where
@@ -74,9 +74,9 @@ pub record Met : Type 0 where
   pub sum : ℕ
 
 -- the highest value of an F stands for them all
-abbrev pub metBy : Counted → Met
-metBy c = record {
-  formed = c.formed && leb c.highest eightDigits;
+abbrev pub met_by : Counted → Met
+met_by c = record {
+  formed = c.formed && leb c.highest eight_digits;
   actual = c.actual;
   substituted = c.substituted;
   agreed = c.agreed;
@@ -85,9 +85,9 @@ metBy c = record {
 }
 
 -- with one slot more; F counts with S and by itself
-abbrev pub countedWith : Met → SlotRecord → Met
-countedWith m r = record {
-  formed = m.formed && recordOk r;
+abbrev pub counted_with : Met → SlotRecord → Met
+counted_with m r = record {
+  formed = m.formed && record_ok r;
   actual = m.actual + one A r;
   substituted = m.substituted + (one S r + one F r);
   agreed = m.agreed + one F r;
@@ -96,17 +96,17 @@ countedWith m r = record {
 }
 
 -- how many of the first k slots are of a quality
-abbrev pub countIn : List ℕ → Quality → ℕ → ℕ
-countIn bs q k = count (λ i. ofQuality q (slot_at bs i)) 0 k
+abbrev pub count_in : List ℕ → Quality → ℕ → ℕ
+count_in bs q k = count (λ i. of_quality q (slot_at bs i)) 0 k
 
 -- what the first k slots have
-unfoldable pub countedIn : List ℕ → ℕ → Met
-countedIn bs k = record {
-  formed = all (λ i. recordOk (slot_at bs i)) 0 k;
-  actual = countIn bs A k;
-  substituted = countIn bs S k + countIn bs F k;
-  agreed = countIn bs F k;
-  none = countIn bs N k;
+unfoldable pub counted_in : List ℕ → ℕ → Met
+counted_in bs k = record {
+  formed = all (λ i. record_ok (slot_at bs i)) 0 k;
+  actual = count_in bs A k;
+  substituted = count_in bs S k + count_in bs F k;
+  agreed = count_in bs F k;
+  none = count_in bs N k;
   sum = sum (λ i. (slot_at bs i).value) 0 k;
 }
 
@@ -119,23 +119,23 @@ pub record Within (k : ℕ) (m : Met) : Type 0 where
   pub sum : m.sum ≤ 2 ^ 32 * k
 
 -- the figures are those of the slots
-abbrev pub countTests : Met → Figures → List Bool
-countTests m g =
+abbrev pub count_tests : Met → Figures → List Bool
+count_tests m g =
     eqb m.actual g.actual
     ∷ eqb m.substituted g.substituted
     ∷ eqb m.none g.none
-    ∷ layoutFits g.layout m.agreed
+    ∷ layout_fits g.layout m.agreed
     ∷ eqb m.sum g.sum
     ∷ []
 
 -- a file that is not refused with 8
 pub record Ready (bs : List ℕ) (g : Figures) : Type 0 where
-  pub head : every (headFieldTests g.first g.days g.interval) ≡ true
-  pub long : length bs ≡ slotWidth * fileSlots g + spanTableBytes g + trailerWidth
+  pub head : every (head_field_tests g.first g.days g.interval) ≡ true
+  pub long : length bs ≡ slot_width * file_slots g + span_table_bytes g + trailer_width
 
 -- a slot table of so many days of n slots
 pub record Tabled (bs : List ℕ) (n days : ℕ) : Type 0 where
-  pub long : slotWidth * (n * days) ≤ length bs
+  pub long : slot_width * (n * days) ≤ length bs
   pub some : 1 ≤ n
   pub day : n ≤ 288
-  pub few : days ≤ mostDays
+  pub few : days ≤ most_days

@@ -3,7 +3,7 @@ use mathlib.Core.Path.{ap, ◌∙◌, ◌≡◌, refl}
 use Rattle.base.specs.declared.Performed.{Performed}
 use Rattle.base.specs.declared.Performed.TheVariants.{Done, Refused}
 use Rattle.base.specs.Refusals.{code_of}
-use Rattle.book.specs.Answers.{answerCode, openedMeant}
+use Rattle.book.specs.Answers.{answer_code, opened_meant}
 use Rattle.base.proofs.Known.{known}
 use Rattle.host.proofs.sawmauve_open.Statement.{statement}
 use Rattle.host.proofs.sawmauve_open.Tie as tie
@@ -17,7 +17,7 @@ abbrev after_open : tie.After-code-of → tie.After-open
 after_open c =
     c.before.before.before.before.before.before.before.before.before.before.before.before.before.before.before.before.before.before.before.before.before
 
-code-meant : (p : Performed) → code_of p ≡ answerCode (openedMeant p)
+code-meant : (p : Performed) → code_of p ≡ answer_code (opened_meant p)
 code-meant Done = refl
 code-meant (Refused n) = refl
 
@@ -26,7 +26,7 @@ returns c =
     let o = after_open c in
     let told = o.«open».ensures in
     rw (← (after-head-of o).head_of.ensures)
-    (c.code_of_lem.ensures ∙ code-meant o.«open».result ∙ ap answerCode told.0, told.1)
+    (c.code_of_lem.ensures ∙ code-meant o.«open».result ∙ ap answer_code told.0, told.1)
 
 pub sawmauve-open-spec : {M : Type 1} → statement M
 sawmauve-open-spec =

@@ -1,6 +1,6 @@
 -- `sawmauve_register`: the answer of a register read as its code, and the lists as the read leaves them.
 use mathlib.Core.Path.{ap, ◌∙◌}
-use Rattle.book.specs.Answers.{answerCode}
+use Rattle.book.specs.Answers.{answer_code}
 use Rattle.base.proofs.Known.{known}
 use Rattle.host.proofs.sawmauve_register.Statement.{statement}
 use Rattle.host.proofs.sawmauve_register.Tie as tie
@@ -19,7 +19,7 @@ returns : tie.Need-returns
 returns c =
     let o = after-register c in
     let h = simp (after-head-of o).head_of.ensures at o.register.ensures in
-    (c.filed-code.ensures ∙ ap answerCode h.0, h.1)
+    (c.filed-code.ensures ∙ ap answer_code h.0, h.1)
 
 pub sawmauve-register-spec : {M : Type 1} → statement M
 sawmauve-register-spec =

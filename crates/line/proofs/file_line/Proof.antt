@@ -1,7 +1,7 @@
 -- `line::file_line`: the line of an accepted file, or the reader's refusal.
 use mathlib.Core.Path.{refl, sym, ◌∙◌}
-use Rattle.file.proofs.Answers.{first-lt}
-use Rattle.line.specs.Line.{lineAnswer, lineAfter}
+use Rattle.file.proofs.Answers.{first_lt}
+use Rattle.line.specs.Line.{line_answer, line_after}
 use Rattle.base.proofs.Known.{known}
 use Rattle.line.proofs.file_line.Statement.{statement}
 use Rattle.line.proofs.file_line.Tie as tie
@@ -21,17 +21,17 @@ after-verdict c = c.before.before.before.before
 
 fit-line-requires : tie.Need-fit-line-requires
 fit-line-requires c κs =
-    first-lt (start c.before.before).args.bytes.now _ (sym (after_read c).read.ensures ∙ c.before.before.verdict.given.1)
+    first_lt (start c.before.before).args.bytes.now _ (sym (after_read c).read.ensures ∙ c.before.before.verdict.given.1)
 
 returns : tie.Need-returns
-unfolding lineAnswer lineAfter
+unfolding line_answer line_after
 returns c =
     let made = c.before.before in
     let known = after-verdict c.before in
     rw (sym known.before.before.read.ensures ∙ known.verdict.given.1) made.fit_line.ensures
 
 returns-2 : tie.Need-returns-2
-unfolding lineAnswer lineAfter
+unfolding line_answer line_after
 returns-2 c = rw (sym c.before.before.before.read.ensures ∙ c.before.verdict2.given.1) (refl, refl)
 
 pub file-line-spec : {M : Type 1} → statement M

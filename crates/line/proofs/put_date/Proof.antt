@@ -1,7 +1,7 @@
 -- `line::put_date` meets its contract.
 use borrow.Author.Rules.{rules}
 use Rattle.base.proofs.Known.{known}
-use Rattle.line.specs.Line.{dateText}
+use Rattle.line.specs.Line.{date_text}
 use Rattle.line.proofs.Putting.{then}
 use Rattle.line.proofs.put_date.Statement.{statement}
 use Rattle.line.proofs.put_date.Tie as tie
@@ -23,7 +23,7 @@ after-put-text2 c = c.before.before.before.before.before.before
 -- ---- Needs
 
 returns : tie.Need-returns
-unfolding dateText
+unfolding date_text
 returns c =
     let at-put-text2 = after-put-text2 c.before in
     let at-put-digits2 = after-put-digits2 at-put-text2 in

@@ -2,7 +2,7 @@
 use mathlib.Core.Path.{ap}
 use borrow.Author.Rules.{rules}
 use Rattle.base.proofs.Known.{known}
-use Rattle.line.specs.Line.{dateText}
+use Rattle.line.specs.Line.{date_text}
 use Rattle.line.proofs.Putting.{then, same}
 use Rattle.line.proofs.put_head.Statement.{statement}
 use Rattle.line.proofs.put_head.Tie as tie
@@ -24,7 +24,7 @@ returns c =
     let put-date = (after-put-date at-put-field).put-date in
     let put-field = at-put-field.put-field in
     let put-field2 = c.before.before.put-field2 in
-    then (then (same (ap dateText date-of.ensures) put-date.ensures) put-field.ensures) put-field2.ensures
+    then (then (same (ap date_text date-of.ensures) put-date.ensures) put-field.ensures) put-field2.ensures
 
 pub put-head-spec : {M : Type 1} → statement M
 put-head-spec =

@@ -1,6 +1,6 @@
 -- `line::put_line`: first day, D, L, the counts and the sum one after another.
 use Rattle.base.proofs.Known.{known}
-use Rattle.line.specs.Line.{figuresText}
+use Rattle.line.specs.Line.{figures_text}
 use Rattle.line.proofs.Putting.{then}
 use Rattle.line.proofs.put_line.Statement.{statement}
 use Rattle.line.proofs.put_line.Tie as tie
@@ -16,7 +16,7 @@ after-put-counts c = c.before.before.before.before.before
 -- ---- Needs
 
 returns : tie.Need-returns
-unfolding figuresText
+unfolding figures_text
 returns c =
     let field_put = c.before.before in
     let counts-put = after-put-counts c.before in

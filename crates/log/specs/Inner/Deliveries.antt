@@ -2,14 +2,14 @@
 use Rattle.std.specs.Prelude.{true, List, [], ◌∷◌, ◌++◌, ◌≡◌, ℕ, ◌+◌, ◌*◌, ◌-◌, ◌≤◌, ◌<◌, length, take, drop}
 use Rattle.book.specs.Arguments.Call.{delivery}
 use Rattle.log.specs.declared.deliveries.Delivery.{Delivery}
-use Rattle.log.specs.Numbers.{areDigits, value_of}
-use Rattle.log.specs.Line.{deliveryWord}
+use Rattle.log.specs.Numbers.{are_digits, value_of}
+use Rattle.log.specs.Line.{delivery_word}
 use Rattle.log.specs.Log.Item.{call}
 use Rattle.log.specs.Inner.Lines.{ItemAt}
 
 -- the keyword with its space
 abbrev pub keyword : List ℕ
-keyword = deliveryWord ++ (32 ∷ [])
+keyword = delivery_word ++ (32 ∷ [])
 
 -- four bytes, and the number that they are with the lowest first
 pub record Joined (a b c d r : ℕ) : Type 0 where
@@ -24,7 +24,7 @@ pub record DigitsAt (bytes : List ℕ) (from value end : ℕ) : Type 0 where
   pub begun : from ≤ end
   pub near : end ≤ from + 9
   pub inside : end ≤ length bytes
-  pub digits : areDigits (take (end - from) (drop from bytes)) ≡ true
+  pub digits : are_digits (take (end - from) (drop from bytes)) ≡ true
   pub valued : value ≡ value_of (take (end - from) (drop from bytes))
   pub low : value ≤ 999_999_999
 
@@ -32,7 +32,7 @@ pub record DigitsAt (bytes : List ℕ) (from value end : ℕ) : Type 0 where
 pub record FieldAt (bytes : List ℕ) (from separator value next : ℕ) : Type 0 where
   pub word : List ℕ
   pub some : length word ≡ 0 → ⊥
-  pub digits : areDigits word ≡ true
+  pub digits : are_digits word ≡ true
   pub valued : value ≡ value_of word
   pub low : value ≤ 999_999_999
   pub text : drop from bytes ≡ word ++ (separator ∷ drop next bytes)

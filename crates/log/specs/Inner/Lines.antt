@@ -3,7 +3,7 @@ use Rattle.std.specs.Prelude.{List, ◌∷◌, ◌≡◌, ℕ, ◌-◌, ◌≤�
 use Rattle.log.specs.declared.lines.Cut.{Cut}
 use Rattle.log.specs.declared.limits.Limits.{Limits}
 use Rattle.log.specs.declared.line.LogLine.{LogLine}
-use Rattle.log.specs.Log.{lines, Item, itemIn, items}
+use Rattle.log.specs.Log.{lines, Item, item_in, items}
 
 -- the line that begins at a place, and those after it
 pub record LineAt (bytes : List ℕ) (at : ℕ) (r : Cut) : Type 0 where
@@ -22,4 +22,4 @@ pub record ItemAt (bytes : List ℕ) (at : ℕ) (x : Item) (next : ℕ) : Type 0
 -- it is this line, with some table beside it
 pub record FoundAt (bytes : List ℕ) (at : ℕ) (line : LogLine) (next : ℕ) : Type 0 where
   pub limits : Limits
-  pub item : ItemAt bytes at (itemIn line limits) next
+  pub item : ItemAt bytes at (item_in line limits) next

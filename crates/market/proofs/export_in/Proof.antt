@@ -5,9 +5,9 @@ use borrow.Author.Tests.{not-true, not-false}
 use lib.Dec.{leb}
 use lib.ListN.{length}
 use Rattle.market.specs.Fields.{texts}
-use Rattle.market.specs.Export.{contentOf, body_of, export_of}
+use Rattle.market.specs.Export.{content_of, body_of, export_of}
 use Rattle.line.proofs.Putting.{then}
-use Rattle.market.proofs.Answers.{time-long, room_for, refused-7, exported}
+use Rattle.market.proofs.Answers.{time_long, room_for, refused_7, exported}
 use Rattle.base.proofs.Known.{known}
 use Rattle.market.proofs.export_in.Statement.{statement}
 use Rattle.market.proofs.export_in.Tie as tie
@@ -33,7 +33,7 @@ body-length-requires c κs =
     let begun = start c in
     let a = begun.args in (
       begun.pre.0,
-      time-long
+      time_long
           (texts a.identifier.now a.from.now a.to.now a.configuration.now a.register.now a.suffix.now
           a.stream.now
           a.serial.now a.next-read.now a.reason.now a.created.now) a.codes begun.pre.2,
@@ -45,18 +45,18 @@ returns c =
     let a = begun.args in
     let t = (texts a.identifier.now a.from.now a.to.now a.configuration.now a.register.now a.suffix.now
     a.stream.now a.serial.now a.next-read.now a.reason.now a.created.now) in
-    let n = length (body_of t (contentOf a.codes a.file.now)) in
+    let n = length (body_of t (content_of a.codes a.file.now)) in
     let no = sym (room_for n (length a.out.now) c.before.is-room.ensures.1)
     ∙ ap (λ x. leb (x + 5) (length a.out.now)) (sym c.before.before.body-length.ensures) ∙ sym c.before.is-room.ensures.0
     ∙ not-true _ c.if1.true in
-    refused-7 a.file.now a.g begun.pre.0 t a.codes a.out.now begun.pre.1 begun.pre.2 no
+    refused_7 a.file.now a.g begun.pre.0 t a.codes a.out.now begun.pre.1 begun.pre.2 no
 
 put-body-requires : tie.Need-put-body-requires
 put-body-requires c κs =
     let begun = start-passed1 c.before in
     let a = begun.args in (
       begun.pre.0,
-      time-long
+      time_long
           (texts a.identifier.now a.from.now a.to.now a.configuration.now a.register.now a.suffix.now
           a.stream.now
           a.serial.now a.next-read.now a.reason.now a.created.now) a.codes begun.pre.2,
@@ -71,7 +71,7 @@ returns-2 c =
     let t = (texts a.identifier.now a.from.now a.to.now a.configuration.now a.register.now a.suffix.now
     a.stream.now a.serial.now a.next-read.now a.reason.now a.created.now) in
     let added = then at-put-body.put-body.ensures c.before.before.put-text.ensures in
-    let n = length (body_of t (contentOf a.codes a.file.now)) in
+    let n = length (body_of t (content_of a.codes a.file.now)) in
     let yes = sym (room_for n (length a.out.now) added.fits)
     ∙ ap (λ x. leb (x + 5) (length a.out.now)) (sym (after-is-room c.before).before.body-length.ensures)
     ∙ sym (after-is-room c.before).is-room.ensures.0 ∙ not-false _ at-put-body.before.before.if1.left in

@@ -2,7 +2,7 @@
 use mathlib.Core.Path.{sym, ◌∙◌}
 use borrow.Author.Tests.{not-true, not-false}
 use Rattle.market.specs.Fields.{texts}
-use Rattle.market.specs.Export.{suppliedOk}
+use Rattle.market.specs.Export.{supplied_ok}
 use Rattle.market.proofs.Answers.{refused-14, refused-15}
 use Rattle.base.proofs.Known.{known}
 use Rattle.market.proofs.export_of.Statement.{statement}
@@ -26,7 +26,7 @@ returns c = let a = (start c.before).args in
     ∙ not-true _ c.if1.true)
 
 returns-2 : tie.Need-returns-2
-unfolding suppliedOk
+unfolding supplied_ok
 returns-2 c =
     let begun = start c.before.before.before in
     let a = begun.args in
@@ -37,7 +37,7 @@ returns-2 c =
     ∙ not-true _ c.if2.true)
 
 export-in-requires : tie.Need-export-in-requires
-unfolding suppliedOk
+unfolding supplied_ok
 export-in-requires c κs = (
   (start (after-is-meter c.before)).requires,
   sym (after-is-meter c.before).is-meter.ensures ∙ not-false _ c.before.before.before.if1.false,

@@ -1,7 +1,7 @@
 -- `nem12` meets its contract.
 use mathlib.Core.Path.{sym, ◌∙◌}
 use Rattle.market.specs.Fields.{texts}
-use Rattle.market.proofs.Answers.{refused-by-reader}
+use Rattle.market.proofs.Answers.{refused_by_reader}
 use Rattle.base.proofs.Known.{known}
 use Rattle.market.proofs.nem12.Statement.{statement}
 use Rattle.market.proofs.nem12.Tie as tie
@@ -21,7 +21,7 @@ export-of-requires c κs = sym (after_read c).read.ensures ∙ c.before.before.g
 
 returns-2 : tie.Need-returns-2
 returns-2 c = let a = (start c.before.before.before).args in
-    refused-by-reader a.file.now _ (sym c.before.before.before.read.ensures ∙ c.before.number.given.1)
+    refused_by_reader a.file.now _ (sym c.before.before.before.read.ensures ∙ c.before.number.given.1)
     (texts a.identifier.now a.from.now a.to.now a.configuration.now a.register.now a.suffix.now a.stream.now
     a.serial.now a.next-read.now a.reason.now a.created.now) a.codes a.out.now
 

@@ -1,6 +1,6 @@
 -- `check`: the opening is found, or the log is none.
 use mathlib.Core.Path.{sym, ap, ◌∙◌}
-use Rattle.play.specs.Playing.{checkedOf, checked}
+use Rattle.play.specs.Playing.{checked_of, checked}
 use Rattle.base.proofs.Known.{known}
 use Rattle.play.proofs.check.Statement.{statement}
 use Rattle.play.proofs.check.Tie as tie
@@ -18,7 +18,7 @@ following-requires c κs = (rw c.before.opening.given.1 at c.before.before.befor
 returns : tie.Need-returns
 unfolding checked
 returns c =
-    c.following.ensures ∙ ap (checkedOf _) (sym (simp c.before.before.opening.given.1 at
+    c.following.ensures ∙ ap (checked_of _) (sym (simp c.before.before.opening.given.1 at
     (after-find-opening c).find-opening.ensures).1)
 
 returns-2 : tie.Need-returns-2

@@ -4,7 +4,7 @@ use mathlib.Core.Path.{◌≡◌, sym, ap, ◌∙◌}
 use borrow.Author.Tests.{not-true, not-false}
 use native.Mathlib.Omega.{arith}
 use Prim.Native.Nat.{ℕ}
-use Rattle.play.proofs.Ending.{found-head, found-lines, few-answers, not_opened, opened-fits, played, no-log, each}
+use Rattle.play.proofs.Ending.{found_head, found_lines, few-answers, not_opened, opened-fits, played, no_log, each}
 use Rattle.base.proofs.Known.{known}
 use Rattle.play.proofs.play.Statement.{statement}
 use Rattle.play.proofs.play.Tie as tie
@@ -80,11 +80,11 @@ fill-all-requires c κs =
     let at-versions = after-versions at-holidays in
     let past1 = passed1 at-versions.before.before.before in
     let at-check = after_check past1.before in (
-      found-head _ at-check.check.ensures _ _ _ past1.before.before.found.given.1,
+      found_head _ at-check.check.ensures _ _ _ past1.before.before.found.given.1,
       opened-fits _ at-check.check.ensures _ _ _ past1.before.before.found.given.1 _
           at-versions.before.before.before.«open».ensures.0 (sym past2.before.is-done.ensures ∙ not-false _ past2.if2.left)
           at-versions.before.before.before.«open».ensures.1,
-      past1.if1.left ∙ found-lines _ at-check.check.ensures _ _ _ past1.before.before.found.given.1,
+      past1.if1.left ∙ found_lines _ at-check.check.ensures _ _ _ past1.before.before.found.given.1,
     )
 
 same-length-11 : tie.Need-same-length-11
@@ -179,13 +179,13 @@ returns-3 c =
     (sym (ap AsChecked past1.before.before.found.given.1) ∙ m.answer, m.lists, m.told)
 
 returns-4 : tie.Need-returns-4
-returns-4 c = each _ _ _ (no-log _ _ _ c.before.before.check.ensures (λ h e. let z : ◌≡◌ {A = ℕ} 0 1 = cc in omega arith))
+returns-4 c = each _ _ _ (no_log _ _ _ c.before.before.check.ensures (λ h e. let z : ◌≡◌ {A = ℕ} 0 1 = cc in omega arith))
 
 returns-5 : tie.Need-returns-5
-returns-5 c = each _ _ _ (no-log _ _ _ c.before.before.check.ensures (λ h e. let z : ◌≡◌ {A = ℕ} 0 1 = cc in omega arith))
+returns-5 c = each _ _ _ (no_log _ _ _ c.before.before.check.ensures (λ h e. let z : ◌≡◌ {A = ℕ} 0 1 = cc in omega arith))
 
 returns-6 : tie.Need-returns-6
-returns-6 c = each _ _ _ (no-log _ _ _ c.before.before.check.ensures (λ h e. let z : ◌≡◌ {A = ℕ} 0 1 = cc in omega arith))
+returns-6 c = each _ _ _ (no_log _ _ _ c.before.before.check.ensures (λ h e. let z : ◌≡◌ {A = ℕ} 0 1 = cc in omega arith))
 
 pub play-spec : {M : Type 1} → statement M
 play-spec =

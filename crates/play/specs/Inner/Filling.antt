@@ -3,9 +3,9 @@ use Rattle.std.specs.Prelude.{Bool, true, false}
 use Rattle.book.specs.Answers.{Answer}
 use Rattle.book.specs.Answers.Answer.{done, stored, late, repeat, refused}
 
-abbrev pub isDone : Answer → Bool
-isDone done = true
-isDone stored = false
-isDone late = false
-isDone repeat = false
-isDone (refused n) = false
+abbrev pub is_done : Answer → Bool
+is_done done = true
+is_done stored = false
+is_done late = false
+is_done repeat = false
+is_done (refused n) = false

@@ -3,10 +3,10 @@ use Rattle.base.proofs.Known.{known}
 use mathlib.Core.Bool.{true}
 use mathlib.Core.Path.{◌≡◌, sym, ◌∙◌}
 use borrow.Author.Tests.{not-true, not-false}
-use Rattle.rules.specs.Opening.{headOk}
-use Rattle.book.specs.Cells.{Book, bookFits}
-use Rattle.book.specs.Lent.{lentBook}
-use Rattle.publishing.proofs.Publishing.{refused-1, refused-2}
+use Rattle.rules.specs.Opening.{head_ok}
+use Rattle.book.specs.Cells.{Book, book_fits}
+use Rattle.book.specs.Lent.{lent_book}
+use Rattle.publishing.proofs.Publishing.{refused_1, refused_2}
 use Rattle.publishing.proofs.publish.Statement.{statement}
 use Rattle.publishing.proofs.publish.Tie as tie
 
@@ -17,7 +17,7 @@ entry-taken1 c = c.before.before.before.before.before.before.before.before.befor
 
 abbrev lent : tie.Start → Book
 lent c =
-    lentBook c.args.values c.args.versions c.args.statuses c.args.holidays c.args.readings c.args.read-versions
+    lent_book c.args.values c.args.versions c.args.statuses c.args.holidays c.args.readings c.args.read-versions
     c.args.agreed c.args.agreed-versions c.args.counts c.args.widths
 
 -- ---- The tests that were passed
@@ -28,10 +28,10 @@ from1 c = c.before.before.before.before.before.before.before.before.before.befor
 abbrev from2 : tie.Else2 → tie.Start
 from2 c = from1 c.before.before
 
-head_passed : (c : tie.Else1) → headOk (from1 c).args.head ≡ true
+head_passed : (c : tie.Else1) → head_ok (from1 c).args.head ≡ true
 head_passed c = sym c.before.head_ok.ensures ∙ not-false _ c.if1.false
 
-lists-passed : (c : tie.Else2) → bookFits (from2 c).args.head (lent (from2 c)) ≡ true
+lists-passed : (c : tie.Else2) → book_fits (from2 c).args.head (lent (from2 c)) ≡ true
 lists-passed c = sym c.before.lists-fit.ensures ∙ not-false _ c.if2.false
 
 -- ---- The needs
@@ -39,7 +39,7 @@ lists-passed c = sym c.before.lists-fit.ensures ∙ not-false _ c.if2.false
 returns : tie.Need-returns
 returns c =
     let start = entry-taken1 c in
-    refused-1 start.args.head (lent start) start.args.out.now (sym c.before.head_ok.ensures ∙ not-true _ c.if1.true)
+    refused_1 start.args.head (lent start) start.args.out.now (sym c.before.head_ok.ensures ∙ not-true _ c.if1.true)
 
 lists-fit-requires : tie.Need-lists-fit-requires
 lists-fit-requires c κs = head_passed c
@@ -47,7 +47,7 @@ lists-fit-requires c κs = head_passed c
 returns-2 : tie.Need-returns-2
 returns-2 c =
     let start = from1 c.before.before in
-    refused-2 start.args.head (lent start) start.args.out.now (head_passed c.before.before)
+    refused_2 start.args.head (lent start) start.args.out.now (head_passed c.before.before)
     (sym c.before.lists-fit.ensures ∙ not-true _ c.if2.true)
 
 put-fitted-requires : tie.Need-put-fitted-requires

@@ -1,17 +1,17 @@
 -- `put_file`: the trailer behind both tables ends the file.
-use Rattle.base.proofs.Lists.{length-upTo}
-use Rattle.publishing.proofs.Buffers.{file-put}
+use Rattle.base.proofs.Lists.{length_up_to}
+use Rattle.publishing.proofs.Buffers.{file_put}
 use mathlib.Core.Path.{◌≡◌}
 use Prim.Native.Nat.{◌+◌, ◌*◌, ◌≤◌}
 use native.Mathlib.Omega.{arith}
 use lib.ListN.{length}
-use Rattle.rules.specs.Opening.{slotCount}
-use Rattle.rules.specs.Spans.{outcomeAt, outcomes, spans}
-use Rattle.rules.specs.Lent.{slots, agreedLists, cells}
-use Rattle.rules.proofs.Bounds.{bounded, count-high}
-use Rattle.rules.proofs.Neighbours.{spans-few}
-use Rattle.publishing.specs.Publishing.{fileLength}
-use Rattle.publishing.proofs.Totals.{filled-low, figures-found}
+use Rattle.rules.specs.Opening.{slot_count}
+use Rattle.rules.specs.Spans.{outcome_at, outcomes, spans}
+use Rattle.rules.specs.Lent.{slots, agreed_lists, cells}
+use Rattle.rules.proofs.Bounds.{bounded, count_high}
+use Rattle.rules.proofs.Neighbours.{spans_few}
+use Rattle.publishing.specs.Publishing.{file_length}
+use Rattle.publishing.proofs.Totals.{filled_low, figures_found}
 use Rattle.base.proofs.Known.{known}
 use Rattle.publishing.proofs.put_file.Statement.{statement}
 use Rattle.publishing.proofs.put_file.Tie as tie
@@ -39,7 +39,7 @@ mul-table : tie.Need-overflow-mul-table
 mul-table c =
     let begun = start c.before in
     let w = bounded begun.args.head begun.pre.0.whole.lent.fitted.head in
-    omega (arith, c.slot-count.ensures, count-high begun.args.head w)
+    omega (arith, c.slot-count.ensures, count_high begun.args.head w)
 
 put-tables-requires : tie.Need-put-tables-requires
 put-tables-requires c κs = ((start c.before.before).requires.0, rw c.before.slot-count.ensures)
@@ -53,8 +53,8 @@ cast-t20 c =
     let a = begun.args in
     let w = bounded a.head begun.pre.0.whole.lent.fitted.head in
     let b = cells (slots a.values.now a.versions.now a.statuses.now) a.holidays.now a.readings.now
-    a.read-versions.now (agreedLists a.agreed.now a.agreed-versions.now) a.widths.now in
-    omega (arith, begun.pre.1, spans-few a.head b, w.days-high)
+    a.read-versions.now (agreed_lists a.agreed.now a.agreed-versions.now) a.widths.now in
+    omega (arith, begun.pre.1, spans_few a.head b, w.days_high)
 
 add-t21 : tie.Need-overflow-add-t21
 add-t21 c =
@@ -62,10 +62,10 @@ add-t21 c =
     let a = begun.args in
     let w = bounded a.head begun.pre.0.whole.lent.fitted.head in
     let b = cells (slots a.values.now a.versions.now a.statuses.now) a.holidays.now a.readings.now
-    a.read-versions.now (agreedLists a.agreed.now a.agreed-versions.now) a.widths.now in
+    a.read-versions.now (agreed_lists a.agreed.now a.agreed-versions.now) a.widths.now in
     omega (
       arith,
-      filled-low a.head b (after-put-tables c.before).put-tables.result (after-put-tables c.before).put-tables.ensures.0 w,
+      filled_low a.head b (after-put-tables c.before).put-tables.result (after-put-tables c.before).put-tables.ensures.0 w,
     )
 
 mul-put-trailer : tie.Need-overflow-mul-put-trailer
@@ -74,8 +74,8 @@ mul-put-trailer c =
     let a = begun.args in
     let w = bounded a.head begun.pre.0.whole.lent.fitted.head in
     let b = cells (slots a.values.now a.versions.now a.statuses.now) a.holidays.now a.readings.now
-    a.read-versions.now (agreedLists a.agreed.now a.agreed-versions.now) a.widths.now in
-    omega (arith, begun.pre.1, spans-few a.head b, w.days-high)
+    a.read-versions.now (agreed_lists a.agreed.now a.agreed-versions.now) a.widths.now in
+    omega (arith, begun.pre.1, spans_few a.head b, w.days_high)
 
 add-put-trailer : tie.Need-overflow-add-put-trailer
 add-put-trailer c =
@@ -83,14 +83,14 @@ add-put-trailer c =
     let a = begun.args in
     let w = bounded a.head begun.pre.0.whole.lent.fitted.head in
     let b = cells (slots a.values.now a.versions.now a.statuses.now) a.holidays.now a.readings.now
-    a.read-versions.now (agreedLists a.agreed.now a.agreed-versions.now) a.widths.now in
+    a.read-versions.now (agreed_lists a.agreed.now a.agreed-versions.now) a.widths.now in
     omega (
       arith,
       begun.pre.1,
-      spans-few a.head b,
-      w.days-high,
+      spans_few a.head b,
+      w.days_high,
       (after-put-tables c.before.before).before.before.slot-count.ensures,
-      count-high a.head w,
+      count_high a.head w,
     )
 
 put-trailer-requires : tie.Need-put-trailer-requires
@@ -99,7 +99,7 @@ put-trailer-requires c κs =
     omega (arith, begun.pre.0.room, begun.pre.1, (after-put-tables c.before.before).before.before.slot-count.ensures)
 
 returns : tie.Need-returns
-unfolding fileLength outcomes
+unfolding file_length outcomes
 returns c =
     let at-first-day = after-first-day c.before in
     let at-put-tables = after-put-tables at-first-day in
@@ -107,15 +107,15 @@ returns c =
     let a = begun.args in
     let w = bounded a.head begun.pre.0.whole.lent.fitted.head in
     let b = cells (slots a.values.now a.versions.now a.statuses.now) a.holidays.now a.readings.now
-    a.read-versions.now (agreedLists a.agreed.now a.agreed-versions.now) a.widths.now in
-    let f = figures-found a.head b at-put-tables.put-tables.result at-put-tables.put-tables.ensures.0
+    a.read-versions.now (agreed_lists a.agreed.now a.agreed-versions.now) a.widths.now in
+    let f = figures_found a.head b at-put-tables.put-tables.result at-put-tables.put-tables.ensures.0
     at-first-day.first-day.result a.spans at-first-day.first-day.ensures begun.pre.1 in
-    let l : fileLength a.head b ≤ length a.out.now =
-    omega (arith, begun.pre.0.room, length-upTo (outcomeAt a.head b) 0 (slotCount a.head)) in
+    let l : file_length a.head b ≤ length a.out.now =
+    omega (arith, begun.pre.0.room, length_up_to (outcome_at a.head b) 0 (slot_count a.head)) in
     let p : 6 * at-put-tables.before.before.slot-count.result + 14 * a.spans
-    ≡ 6 * slotCount a.head + 14 * length (spans a.head b) =
+    ≡ 6 * slot_count a.head + 14 * length (spans a.head b) =
     simp (at-put-tables.before.before.slot-count.ensures, begun.pre.1) in
-    file-put a.head b w a.out.now _ _ _ _ l at-put-tables.put-tables.ensures.1 p f c.before.before.put-trailer.ensures
+    file_put a.head b w a.out.now _ _ _ _ l at-put-tables.put-tables.ensures.1 p f c.before.before.put-trailer.ensures
 
 pub put-file-spec : {M : Type 1} → statement M
 put-file-spec =

@@ -6,18 +6,18 @@ use Rattle.rules.specs.declared.pass.Pass.{Pass}
 use Rattle.rules.specs.declared.stretch.Begins.{Begins}
 use Rattle.rules.specs.declared.stretch.Begins.TheVariants.{Span, Nothing}
 use Rattle.rules.specs.Opening.{Cells}
-use Rattle.rules.specs.Inner.Walks.{walkAt}
-use Rattle.rules.specs.Inner.Stretches.{carriedAt, beginsAt}
+use Rattle.rules.specs.Inner.Walks.{walk_at}
+use Rattle.rules.specs.Inner.Stretches.{carried_at, begins_at}
 
 -- a pass before slot i
-unfoldable pub passAt : Head → Cells → ℕ → Pass
-passAt h b i = record { walk = walkAt h b.slots b.agreed.versions i; stretch = carriedAt h b i }
+unfoldable pub pass_at : Head → Cells → ℕ → Pass
+pass_at h b i = record { walk = walk_at h b.slots b.agreed.versions i; stretch = carried_at h b i }
 
 -- the spans that begin before slot i
 abbrev pub list_of : Begins → List declared.Span
 list_of Nothing = []
 list_of (Span s) = s ∷ []
 
-unfoldable pub begunBefore : Head → Cells → ℕ → List declared.Span
-begunBefore h b zero = []
-begunBefore h b (suc i) = begunBefore h b i ++ list_of (beginsAt h b i)
+unfoldable pub begun_before : Head → Cells → ℕ → List declared.Span
+begun_before h b zero = []
+begun_before h b (suc i) = begun_before h b i ++ list_of (begins_at h b i)

@@ -1,7 +1,7 @@
 -- What one scan of a span's slots finds, and the scaling that follows from it.
 use Rattle.std.specs.Prelude.{cond, ◌||◌, List, ℕ, ◌+◌, ◌-◌, ◌≤◌, ◌<◌, eqb, get_or}
 use Rattle.base.specs.Lists.{sum, any}
-use Rattle.base.specs.Numbers.{dialModulus}
+use Rattle.base.specs.Numbers.{dial_modulus}
 use Rattle.rules.specs.declared.Head.{Head}
 use Rattle.rules.specs.declared.Outcome.{Outcome}
 use Rattle.rules.specs.declared.spans.Summary.{Summary}
@@ -9,29 +9,29 @@ use Rattle.rules.specs.declared.spans.Compared.{Compared}
 use Rattle.rules.specs.declared.spans.Scaling.{Scaling}
 use Rattle.rules.specs.declared.spans.Scaled.{Scaled}
 use Rattle.rules.specs.Opening.{Slots, Agreed}
-use Rattle.rules.specs.Filling.{filledAt, shape_at}
-use Rattle.rules.specs.Spans.{isS, isN, actualIn, advance, range_of, leastIn, stateBy, share}
+use Rattle.rules.specs.Filling.{filled_at, shape_at}
+use Rattle.rules.specs.Spans.{is_s, is_n, actual_in, advance, range_of, least_in, state_by, share}
 
 -- 1 for an S slot, and its shape
-abbrev pub oneIn : Outcome → ℕ
-oneIn o = cond (isS o.quality) 1 0
+abbrev pub one_in : Outcome → ℕ
+one_in o = cond (is_s o.quality) 1 0
 
-abbrev pub shapeIn : Outcome → ℕ → ℕ
-shapeIn o shape = cond (isS o.quality) shape 0
+abbrev pub shape_in : Outcome → ℕ → ℕ
+shape_in o shape = cond (is_s o.quality) shape 0
 
 -- k slots from slot a
-unfoldable pub summaryOf : Head → Slots → Agreed → List ℕ → ℕ → ℕ → Summary
-summaryOf h s agreed holidays a k = record {
-  actual = sum (λ i. actualIn (filledAt h s agreed holidays i)) a k;
+unfoldable pub summary_of : Head → Slots → Agreed → List ℕ → ℕ → ℕ → Summary
+summary_of h s agreed holidays a k = record {
+  actual = sum (λ i. actual_in (filled_at h s agreed holidays i)) a k;
   shapes = sum (shape_at h s agreed holidays) a k;
-  count = sum (λ i. oneIn (filledAt h s agreed holidays i)) a k;
-  hole = any (λ i. isN (filledAt h s agreed holidays i).quality) a k;
-  filled = any (λ i. isS (filledAt h s agreed holidays i).quality) a k;
+  count = sum (λ i. one_in (filled_at h s agreed holidays i)) a k;
+  hole = any (λ i. is_n (filled_at h s agreed holidays i).quality) a k;
+  filled = any (λ i. is_s (filled_at h s agreed holidays i).quality) a k;
 }
 
 -- one A or F slot more, with this value
-abbrev pub actualAdded : Summary → ℕ → Summary
-actualAdded m value = record {
+abbrev pub actual_added : Summary → ℕ → Summary
+actual_added m value = record {
   actual = m.actual + value;
   shapes = m.shapes;
   count = m.count;
@@ -40,25 +40,25 @@ actualAdded m value = record {
 }
 
 -- one slot more, with this shape
-unfoldable pub addedTo : Summary → Outcome → ℕ → Summary
-addedTo m o shape = record {
-  actual = m.actual + actualIn o;
-  shapes = m.shapes + shapeIn o shape;
-  count = m.count + oneIn o;
-  hole = m.hole || isN o.quality;
-  filled = m.filled || isS o.quality;
+unfoldable pub added_to : Summary → Outcome → ℕ → Summary
+added_to m o shape = record {
+  actual = m.actual + actual_in o;
+  shapes = m.shapes + shape_in o shape;
+  count = m.count + one_in o;
+  hole = m.hole || is_n o.quality;
+  filled = m.filled || is_s o.quality;
 }
 
 -- where the advance of the span between two boundaries lies, R and the state, with the sums m
-unfoldable pub comparedWith : Head → List ℕ → List ℕ → ℕ → ℕ → Summary → Compared
-comparedWith h readings widths first last m =
+unfoldable pub compared_with : Head → List ℕ → List ℕ → ℕ → ℕ → Summary → Compared
+compared_with h readings widths first last m =
     let range = range_of (advance (get_or readings first 0) (get_or readings last 0)) (get_or widths first 0) (get_or widths last 0) in
-    let r = leastIn range m.actual in
-    record { range = range; advance = r; state = stateBy m.hole m.filled range r m.actual h.tolerance }
+    let r = least_in range m.actual in
+    record { range = range; advance = r; state = state_by m.hole m.filled range r m.actual h.tolerance }
 
 -- T, E and a P of 0 where the advance is r
-unfoldable pub scalingOf : Summary → ℕ → Scaling
-scalingOf m r = record {
+unfoldable pub scaling_of : Summary → ℕ → Scaling
+scaling_of m r = record {
   t = r - m.actual;
   whole = cond (eqb m.shapes 0) m.count m.shapes;
   extra = cond (eqb m.shapes 0) 1 0;
@@ -66,8 +66,8 @@ scalingOf m r = record {
 }
 
 -- an S slot with this shape
-unfoldable pub scaledBy : ℕ → Scaling → Scaled
-scaledBy shape by =
+unfoldable pub scaled_by : ℕ → Scaling → Scaled
+scaled_by shape by =
     let c = by.passed + (shape + by.extra) in
     record {
       value = share by.t c by.whole - share by.t by.passed by.whole;
@@ -76,7 +76,7 @@ scaledBy shape by =
 
 -- an S slot with this shape can be scaled without a wrap
 pub record Scales (shape : ℕ) (by : Scaling) : Type 0 where
-  pub t-low : by.t < dialModulus
+  pub t_low : by.t < dial_modulus
   pub room : by.passed + (shape + by.extra) ≤ by.whole
-  pub whole-high : by.whole ≤ 115_200_000_000
-  pub whole-low : 0 < by.whole
+  pub whole_high : by.whole ≤ 115_200_000_000
+  pub whole_low : 0 < by.whole

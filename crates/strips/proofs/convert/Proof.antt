@@ -1,8 +1,8 @@
 -- `convert`: 1, then 22, then what is laid.
 use native.Mathlib.Omega.{arith}
 use Rattle.base.proofs.Known.{known}
-use Rattle.rules.proofs.Bounds.{interval-bounds}
-use Rattle.strips.proofs.Answers.{passes, fails, refuses-interval, refuses-lengths, accepts, sized}
+use Rattle.rules.proofs.Bounds.{interval_bounds}
+use Rattle.strips.proofs.Answers.{passes, fails, refuses_interval, refuses_lengths, accepts, sized}
 use Rattle.strips.proofs.convert.Statement.{statement}
 use Rattle.strips.proofs.convert.Tie as tie
 
@@ -25,21 +25,21 @@ passed2 c = c.before.before.before
 returns : tie.Need-returns
 returns c =
     let a = (start c.before).args in
-    refuses-interval a.interval a.given.now a.out.now _ (fails c.before.is-interval.ensures c.if1.true)
+    refuses_interval a.interval a.given.now a.out.now _ (fails c.before.is-interval.ensures c.if1.true)
 
 div-n : tie.Need-nonzero-div-n
-div-n c = omega (arith, interval-bounds _ (passes c.before.is-interval.ensures c.if1.false))
+div-n c = omega (arith, interval_bounds _ (passes c.before.is-interval.ensures c.if1.false))
 
 cast-n : tie.Need-overflow-cast-n
-cast-n c = omega (arith, interval-bounds _ (passes c.before.is-interval.ensures c.if1.false))
+cast-n c = omega (arith, interval_bounds _ (passes c.before.is-interval.ensures c.if1.false))
 
 fit-requires : tie.Need-fit-requires
-fit-requires c κs = omega (arith, interval-bounds _ (passes c.before.is-interval.ensures c.if1.false))
+fit-requires c κs = omega (arith, interval_bounds _ (passes c.before.is-interval.ensures c.if1.false))
 
 returns-2 : tie.Need-returns-2
 returns-2 c =
     let a = (start c.before.before.before).args in
-    refuses-lengths a.interval a.given.now a.out.now _
+    refuses_lengths a.interval a.given.now a.out.now _
     (passes c.before.before.before.is-interval.ensures c.before.before.if1.false)
     (fails c.before.fit.ensures c.if2.true)
 

@@ -2,9 +2,9 @@
 use mathlib.Core.Path.{◌∙◌}
 use borrow.Author.Rules.{rules}
 use Rattle.base.proofs.Known.{known}
-use Rattle.strips.specs.Strips.{differenceAt}
-use Rattle.strips.specs.Inner.Laying.{storedIn}
-use Rattle.strips.proofs.Numbers.{table-value}
+use Rattle.strips.specs.Strips.{difference_at}
+use Rattle.strips.specs.Inner.Laying.{stored_in}
+use Rattle.strips.proofs.Numbers.{table_value}
 use Rattle.strips.proofs.lay_slot.Statement.{statement}
 use Rattle.strips.proofs.lay_slot.Tie as tie
 
@@ -19,12 +19,12 @@ after-day-earlier c = c.before.before.before.before.before
 -- ---- Needs
 
 returns : tie.Need-returns
-unfolding storedIn differenceAt
+unfolding stored_in difference_at
 returns c =
     let at-day-earlier = after-day-earlier c.before in
     let a = (start at-day-earlier).args in
     c.before.before.put.ensures
-    ∙ (simp (at-day-earlier.before.value.ensures.0 ∙ table-value a.table.now a.i, at-day-earlier.day-earlier.ensures.0))
+    ∙ (simp (at-day-earlier.before.value.ensures.0 ∙ table_value a.table.now a.i, at-day-earlier.day-earlier.ensures.0))
 
 pub lay-slot-spec : {M : Type 1} → statement M
 lay-slot-spec =

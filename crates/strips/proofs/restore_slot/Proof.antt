@@ -2,7 +2,7 @@
 use mathlib.Core.Path.{◌∙◌}
 use borrow.Author.Rules.{rules}
 use Rattle.base.proofs.Known.{known}
-use Rattle.strips.specs.Inner.Laying.{restoredIn}
+use Rattle.strips.specs.Inner.Laying.{restored_in}
 use Rattle.strips.proofs.restore_slot.Statement.{statement}
 use Rattle.strips.proofs.restore_slot.Tie as tie
 
@@ -14,7 +14,7 @@ after-day-earlier c = c.before.before.before.before.before
 -- ---- Needs
 
 returns : tie.Need-returns
-unfolding restoredIn
+unfolding restored_in
 returns c =
     c.before.before.put.ensures
     ∙ (simp ((after-day-earlier c.before).before.before.value.ensures.0, (after-day-earlier c.before).day-earlier.ensures.0))

@@ -8,15 +8,15 @@ use borrow.Author.Rules.{rules}
 use Rattle.base.proofs.Known.{known}
 use lib.ListN.{length}
 use Rattle.strips.specs.Strips.{slots_of}
-use Rattle.strips.specs.Inner.Laying.{slotIn}
-use Rattle.strips.proofs.Passes.{laidTo, laid_none, length-laid, laid_next, laid-all}
+use Rattle.strips.specs.Inner.Laying.{slot_in}
+use Rattle.strips.proofs.Passes.{laid_to, laid_none, length_laid, laid_next, laid_all}
 use Rattle.strips.proofs.write.Statement.{statement}
 use Rattle.strips.proofs.write.Tie as tie
 
 record Held (way : Way) (n : ℕ) (given out₀ out : List ℕ) (i : ℕ) : Type 0 where
   inside : i ≤ slots_of given
   long : length out ≡ length out₀
-  known : out ≡ laidTo way n given out₀ i
+  known : out ≡ laid_to way n given out₀ i
 
 abbrev invariant-loop : tie.invariant-loop
 invariant-loop way n given out₀ count i₀ out i = Held way n given out₀ out i
@@ -49,16 +49,16 @@ loop-again c =
     let l = turned.before.loop in
     let d = a.out.now in
     let cells = c.before.before.write-slot.ensures
-    ∙ ap (λ (x : List ℕ). slotIn a.way a.n a.given.now x l.i) l.inv.known
+    ∙ ap (λ (x : List ℕ). slot_in a.way a.n a.given.now x l.i) l.inv.known
     ∙ laid_next a.n a.given.now d (start turned.before).pre a.way l.i turned.loop-test.taken in
-    record { inside = search rules; long = ap length cells ∙ length-laid a.way _ _ d _; known = cells }
+    record { inside = search rules; long = ap length cells ∙ length_laid a.way _ _ d _; known = cells }
 
 returns : tie.Need-returns invariant-loop decreases-loop
 returns c =
     let a = (start c.before).args in
     let i = c.before.loop.i in
     let all : i ≡ slots_of a.given.now = omega arith in
-    c.before.loop.invariant.known ∙ laid-all a.n a.given.now a.out.now (start c.before).pre a.way i all
+    c.before.loop.invariant.known ∙ laid_all a.n a.given.now a.out.now (start c.before).pre a.way i all
 
 pub write_spec : {M : Type 1} → statement M
 write_spec =

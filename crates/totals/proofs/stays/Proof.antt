@@ -1,7 +1,7 @@
 -- `stays`: the reader's refusal, or what is answered of an accepted file.
 use mathlib.Core.Path.{refl, sym, ◌∙◌}
 use Rattle.base.proofs.Known.{known}
-use Rattle.totals.specs.Stays.{staysAnswer, staysAfter}
+use Rattle.totals.specs.Stays.{stays_answer, stays_after}
 use Rattle.totals.proofs.stays.Statement.{statement}
 use Rattle.totals.proofs.stays.Tie as tie
 
@@ -16,7 +16,7 @@ stays-in-requires : tie.Need-stays-in-requires
 stays-in-requires c κs = sym (after_read c).read.ensures ∙ c.before.before.g.given.1
 
 returns-2 : tie.Need-returns-2
-unfolding staysAnswer staysAfter
+unfolding stays_answer stays_after
 returns-2 c = rw (sym c.before.before.before.read.ensures ∙ c.before.number.given.1) (refl, refl)
 
 pub stays-spec : {M : Type 1} → statement M

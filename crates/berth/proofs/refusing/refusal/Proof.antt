@@ -1,9 +1,9 @@
 -- `refusing::refusal`: 1 and 2 go before the others.
 use mathlib.Core.Path.{sym, ◌∙◌}
 use borrow.Author.Tests.{not-true, not-false}
-use Rattle.book.specs.Cells.{slotsFit, daysFit, readsFit, agreedFits, cellsFit, countsFit, bookFits}
+use Rattle.book.specs.Cells.{slots_fit, days_fit, reads_fit, agreed_fits, cells_fit, counts_fit, book_fits}
 use Rattle.base.proofs.Known.{known}
-use Rattle.berth.proofs.Written.{file-size}
+use Rattle.berth.proofs.Written.{file_size_lem}
 use Rattle.berth.proofs.refusing.refusal.Statement.{statement}
 use Rattle.berth.proofs.refusing.refusal.Tie as tie
 
@@ -21,21 +21,21 @@ book-fits-requires : tie.Need-book-fits-requires
 book-fits-requires c κs = sym c.before.head_ok.ensures ∙ not-false _ c.if1.false
 
 returns-2 : tie.Need-returns-2
-unfolding cellsFit slotsFit daysFit readsFit agreedFits countsFit bookFits
+unfolding cells_fit slots_fit days_fit reads_fit agreed_fits counts_fit book_fits
 returns-2 c =
     rw (
       sym c.before.before.before.head_ok.ensures ∙ not-false _ c.before.before.if1.false,
-      sym c.before.book-fits.ensures ∙ not-true _ c.if2.true,
+      sym c.before.book_fits_lem.ensures ∙ not-true _ c.if2.true,
     )
 
 refusal-past-lengths-requires : tie.Need-refusal-past-lengths-requires
 refusal-past-lengths-requires c κs = sym c.before.before.before.head_ok.ensures ∙ not-false _ c.before.before.if1.false
 
 returns-3 : tie.Need-returns-3
-unfolding cellsFit slotsFit daysFit readsFit agreedFits countsFit bookFits
+unfolding cells_fit slots_fit days_fit reads_fit agreed_fits counts_fit book_fits
 returns-3 c =
     let good = sym (after-head-ok c).head_ok.ensures ∙ not-false _ c.before.before.before.if1.false in
-    rw (good, sym c.before.before.book-fits.ensures ∙ not-false _ c.before.if2.false, file-size)
+    rw (good, sym c.before.before.book_fits_lem.ensures ∙ not-false _ c.before.if2.false, file_size_lem)
     c.refusal-past-lengths.ensures
 
 pub refusal-spec : {M : Type 1} → statement M

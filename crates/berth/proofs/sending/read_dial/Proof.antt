@@ -1,10 +1,10 @@
 -- `sending::read_dial`: the second read is given the lists as the first left them.
 use mathlib.Core.Path.{ap, ◌∙◌}
-use Rattle.book.specs.Lent.{lentReads}
+use Rattle.book.specs.Lent.{lent_reads}
 use Prim.Native.Nat.{◌%◌}
 use mathlib.Core.Path.{ap, ◌∙◌}
 use Rattle.book.specs.Cells.{Reads}
-use Rattle.book.specs.Filling.{registerAfter}
+use Rattle.book.specs.Filling.{register_after}
 use borrow.Author.Rules.{rules}
 use Rattle.base.proofs.Known.{known}
 use Rattle.berth.proofs.sending.read_dial.Statement.{statement}
@@ -29,8 +29,8 @@ returns c =
     let a = (after-register at-register2).register.ensures.1 in
     let b = at-register2.register2.ensures.1 in
     let e = (start (after-register at-register2)).args in
-    let old = lentReads e.readings e.read-versions e.widths in
-    let then : Reads → Reads = λ r. registerAfter e.head r e.head.days 1 (e.total % 100_000_000) 0 in
+    let old = lent_reads e.readings e.read-versions e.widths in
+    let then : Reads → Reads = λ r. register_after e.head r e.head.days 1 (e.total % 100_000_000) 0 in
     b ∙ ap then a
 
 pub read-dial-spec : {M : Type 1} → statement M

@@ -1,7 +1,7 @@
 -- `sending::send_all`: before each slot the berth, the lists and the true total are those of the steps so far.
 use mathlib.Core.List.{List}
 use Rattle.rules.specs.declared.Head.{Head}
-use Rattle.rules.specs.Lent.{slots as slotLists}
+use Rattle.rules.specs.Lent.{slots as slot_lists}
 use Rattle.berth.specs.declared.generator.Berth.{Berth}
 use borrow.Author.Rules.{rules}
 use Rattle.base.proofs.Known.{known}
@@ -9,14 +9,14 @@ use mathlib.Core.Path.{◌≡◌, refl}
 use Prim.Native.Nat.{ℕ, ◌-◌}
 use native.Mathlib.Omega.{arith}
 use lib.ListN.{length}
-use Rattle.berth.proofs.Sends.{slots-high, Under, send-first, total-high, send-next, send-last}
+use Rattle.berth.proofs.Sends.{slots_high, Under, send_first, total-high, send-next, send-last}
 use Rattle.berth.proofs.sending.send_all.Statement.{statement}
 use Rattle.berth.proofs.sending.send_all.Tie as tie
 
 record Held (head : Head) (seed loss : ℕ) (values₀ versions₀ statuses₀ counts₀ values versions statuses counts : List ℕ)
     (berth : Berth) (total slot : ℕ) : Type 0 where
-  under : Under head seed loss (record { slots = slotLists values₀ versions₀ statuses₀; counts = counts₀ })
-      (record { slots = slotLists values versions statuses; counts = counts }) berth total slot
+  under : Under head seed loss (record { slots = slot_lists values₀ versions₀ statuses₀; counts = counts₀ })
+      (record { slots = slot_lists values versions statuses; counts = counts }) berth total slot
   long-values : length values ≡ length values₀
   long-versions : length versions ≡ length versions₀
   long-statuses : length statuses ≡ length statuses₀
@@ -60,7 +60,7 @@ slot-count-requires : tie.Need-slot-count-requires invariant-loop decreases-loop
 slot-count-requires c κs = (start c).requires
 
 cast-slots : tie.Need-overflow-cast-slots invariant-loop decreases-loop
-cast-slots c = record { fits = omega (arith, c.slot-count.ensures, slots-high _ (start c.before).pre) }
+cast-slots c = record { fits = omega (arith, c.slot-count.ensures, slots_high _ (start c.before).pre) }
 
 most-of-requires : tie.Need-most-of-requires invariant-loop decreases-loop
 most-of-requires c κs = (start c.before).pre
@@ -71,7 +71,7 @@ new-requires c κs = tt
 loop-holds : tie.Need-loop-init invariant-loop decreases-loop
 loop-holds c =
     record {
-      under = send-first _ _ _ _ _ c.new.ensures;
+      under = send_first _ _ _ _ _ c.new.ensures;
       long-values = refl;
       long-versions = refl;
       long-statuses = refl;
@@ -100,7 +100,7 @@ add-slot c =
         arith,
         (after-slot-count c).slot-count.ensures,
         (after-step (after-send c)).before.loop-test.taken,
-        slots-high _ (start (after-slot-count c).before).pre,
+        slots_high _ (start (after-slot-count c).before).pre,
       );
     }
 

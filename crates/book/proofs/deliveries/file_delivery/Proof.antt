@@ -5,9 +5,9 @@ use mathlib.Core.Path.{◌≡◌, refl, sym, ◌∙◌}
 use Prim.Native.Nat.{◌/◌, ◌<◌}
 use native.Mathlib.Omega.{arith}
 use lib.ListN.{length, get_or}
-use Rattle.rules.specs.Opening.{slotsPerDay}
-use Rattle.rules.proofs.Bounds.{bounded, day-below}
-use Rattle.book.specs.Filling.{isFull, againstDelivery}
+use Rattle.rules.specs.Opening.{slots_per_day}
+use Rattle.rules.proofs.Bounds.{bounded, day_below}
+use Rattle.book.specs.Filling.{is_full, against_delivery}
 use borrow.Author.Rules.{rules}
 use Rattle.base.proofs.Known.{known}
 use Rattle.book.proofs.deliveries.file_delivery.Statement.{statement}
@@ -36,7 +36,7 @@ day-inside c =
       arith,
       c.day-of.ensures,
       s.pre.counts,
-      day-below s.args.head (bounded _ s.pre.fitted.head) s.args.slot s.pre.inside,
+      day_below s.args.head (bounded _ s.pre.fitted.head) s.args.slot s.pre.inside,
     )
 
 mul-count : tie.Need-overflow-mul-count
@@ -46,12 +46,12 @@ slice-read-count : tie.Need-slice-read-count
 slice-read-count c = day-inside c.before.before
 
 returns : tie.Need-returns
-unfolding againstDelivery
+unfolding against_delivery
 returns c =
     let at-day-of = after-day-of c.before in
     let begun = start at-day-of in
-    let full : isFull begun.args.head (get_or begun.args.versions.now begun.args.slot 0)
-    (get_or begun.args.counts.now (begun.args.slot / slotsPerDay begun.args.head) 0) ≡ true =
+    let full : is_full begun.args.head (get_or begun.args.versions.now begun.args.slot 0)
+    (get_or begun.args.counts.now (begun.args.slot / slots_per_day begun.args.head) 0) ≡ true =
     rw at-day-of.day-of.ensures at (sym c.before.is-full.ensures ∙ c.if1.true) in
     rw full (refl, refl, refl)
 
@@ -66,30 +66,30 @@ slice-write-counts : tie.Need-slice-write-counts
 slice-write-counts c = day-inside (after-day-of (passed1 c.before.before).before)
 
 returns-2 : tie.Need-returns-2
-unfolding againstDelivery
+unfolding against_delivery
 returns-2 c =
     let begun = start-is-stored c.before.before in
     let past1 = passed1 c.before.before in
-    let full : isFull begun.args.head (get_or begun.args.versions.now begun.args.slot 0)
-    (get_or begun.args.counts.now (begun.args.slot / slotsPerDay begun.args.head) 0) ≡ false =
+    let full : is_full begun.args.head (get_or begun.args.versions.now begun.args.slot 0)
+    (get_or begun.args.counts.now (begun.args.slot / slots_per_day begun.args.head) 0) ≡ false =
     simp (after-day-of past1.before).day-of.ensures at (sym past1.before.is-full.ensures ∙ past1.if1.left) in
     rw (
       full,
-      sym c.before.before.before.against-slot.ensures,
+      sym c.before.before.before.against_slot_lem.ensures,
       sym c.before.before.is-stored.ensures ∙ c.before.if2.true,
       c.raised.ensures,
       (after-day-of past1.before).day-of.ensures,
     ) (refl, refl, refl)
 
 returns-3 : tie.Need-returns-3
-unfolding againstDelivery
+unfolding against_delivery
 returns-3 c =
     let begun = start-is-stored c.before in
     let past1 = passed1 c.before in
-    let full : isFull begun.args.head (get_or begun.args.versions.now begun.args.slot 0)
-    (get_or begun.args.counts.now (begun.args.slot / slotsPerDay begun.args.head) 0) ≡ false =
+    let full : is_full begun.args.head (get_or begun.args.versions.now begun.args.slot 0)
+    (get_or begun.args.counts.now (begun.args.slot / slots_per_day begun.args.head) 0) ≡ false =
     simp (after-day-of past1.before).day-of.ensures at (sym past1.before.is-full.ensures ∙ past1.if1.left) in
-    rw (full, sym c.before.before.against-slot.ensures, sym c.before.is-stored.ensures ∙ c.if2.false) (refl, refl, refl)
+    rw (full, sym c.before.before.against_slot_lem.ensures, sym c.before.is-stored.ensures ∙ c.if2.false) (refl, refl, refl)
 
 pub file-delivery-spec : {M : Type 1} → statement M
 file-delivery-spec =

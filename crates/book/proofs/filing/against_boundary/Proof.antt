@@ -1,8 +1,8 @@
 -- `filing::against_boundary`: 11, else the version rule with the content compared by `is_same`.
 use mathlib.Core.Bool.{true, false}
 use mathlib.Core.Path.{◌≡◌, sym, ◌∙◌}
-use Rattle.book.specs.Cells.{readFault}
-use Rattle.book.specs.Filling.{againstBoundary}
+use Rattle.book.specs.Cells.{read_fault}
+use Rattle.book.specs.Filling.{against_boundary}
 use Rattle.base.proofs.Known.{known}
 use Rattle.book.proofs.filing.against_boundary.Statement.{statement}
 use Rattle.book.proofs.filing.against_boundary.Tie as tie
@@ -15,17 +15,17 @@ start c = c.before.before.before.before
 -- ---- Needs
 
 returns : tie.Need-returns
-unfolding againstBoundary
+unfolding against_boundary
 returns c =
     let a = c.before.before.args in
-    let fault : readFault a.old-version a.old-reading a.old-width ≡ true = sym c.before.read-fault.ensures ∙ c.if1.true in
+    let fault : read_fault a.old-version a.old-reading a.old-width ≡ true = sym c.before.read-fault.ensures ∙ c.if1.true in
     rw fault
 
 returns-2 : tie.Need-returns-2
-unfolding againstBoundary
+unfolding against_boundary
 returns-2 c =
     let a = (start c).args in
-    let clean : readFault a.old-version a.old-reading a.old-width ≡ false = sym c.before.before.before.read-fault.ensures
+    let clean : read_fault a.old-version a.old-reading a.old-width ≡ false = sym c.before.before.before.read-fault.ensures
     ∙ c.before.before.if1.false in
     rw (clean, sym c.before.is-same-read.ensures) c.by-version.ensures
 

@@ -1,8 +1,8 @@
 -- `filing::against_slot`: 11, else the version rule with the content compared by `is_same`.
 use mathlib.Core.Bool.{true, false}
 use mathlib.Core.Path.{◌≡◌, sym, ◌∙◌}
-use Rattle.book.specs.Cells.{slotFault}
-use Rattle.book.specs.Filling.{againstSlot}
+use Rattle.book.specs.Cells.{slot_fault}
+use Rattle.book.specs.Filling.{against_slot}
 use Rattle.base.proofs.Known.{known}
 use Rattle.book.proofs.filing.against_slot.Statement.{statement}
 use Rattle.book.proofs.filing.against_slot.Tie as tie
@@ -15,17 +15,17 @@ start c = c.before.before.before.before
 -- ---- Needs
 
 returns : tie.Need-returns
-unfolding againstSlot
+unfolding against_slot
 returns c =
     let a = c.before.before.args in
-    let fault : slotFault a.old-version a.old_value a.old-status ≡ true = sym c.before.slot-fault.ensures ∙ c.if1.true in
+    let fault : slot_fault a.old-version a.old_value a.old-status ≡ true = sym c.before.slot-fault.ensures ∙ c.if1.true in
     rw fault
 
 returns-2 : tie.Need-returns-2
-unfolding againstSlot
+unfolding against_slot
 returns-2 c =
     let a = (start c).args in
-    let clean : slotFault a.old-version a.old_value a.old-status ≡ false = sym c.before.before.before.slot-fault.ensures
+    let clean : slot_fault a.old-version a.old_value a.old-status ≡ false = sym c.before.before.before.slot-fault.ensures
     ∙ c.before.before.if1.false in
     rw (clean, sym c.before.is_same.ensures) c.by-version.ensures
 

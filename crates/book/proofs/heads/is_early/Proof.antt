@@ -7,16 +7,16 @@ use lib.Dec.{leb}
 use Rattle.base.proofs.Known.{known}
 use borrow.Author.Tests.{le-leb, leb-true, not-false}
 use Rattle.base.proofs.Logic.{and_parts}
-use Rattle.calendar.specs.Calendar.{isDate}
-use Rattle.calendar.proofs.Dates.{early-day}
+use Rattle.calendar.specs.Calendar.{is_date}
+use Rattle.calendar.proofs.Dates.{early_day}
 use Rattle.rules.specs.declared.Head.{Head}
-use Rattle.rules.specs.Opening.{firstDay, intervalOk, headOk}
+use Rattle.rules.specs.Opening.{first_day, interval_ok, head_ok}
 use Rattle.book.proofs.heads.is_early.Statement.{statement}
 use Rattle.book.proofs.heads.is_early.Tie as tie
 
-ends : (h : Head) → h.year < 2098 → isDate h.year h.month h.day ≡ true → h.days ≤ 400 → firstDay h + h.days ≤ 36_525
-unfolding firstDay
-ends h y d l = omega (arith, early-day _ _ _ d y)
+ends : (h : Head) → h.year < 2098 → is_date h.year h.month h.day ≡ true → h.days ≤ 400 → first_day h + h.days ≤ 36_525
+unfolding first_day
+ends h y d l = omega (arith, early_day _ _ _ d y)
 
 -- the tests of days, limit and tolerance, as the code joins them
 module _ (low high least most near : Bool) (e : (((low && high) && (least && most)) && near) ≡ true) where
@@ -29,10 +29,10 @@ module _ (low high least most near : Bool) (e : (((low && high) && (least && mos
       let (m, n) = and_parts least most four.1 in
       (l, h, m, n, (and_parts ((low && high) && (least && most)) near e).1)
 
-early : (h : Head) → h.year < 2098 → isDate h.year h.month h.day ≡ true → intervalOk h.interval ≡ true
+early : (h : Head) → h.year < 2098 → is_date h.year h.month h.day ≡ true → interval_ok h.interval ≡ true
     → (((leb 1 h.days && leb h.days 400) && (leb 1 h.limit && leb h.limit 1_000_000)) && leb h.tolerance 1_000_000) ≡ true
-    → headOk h ≡ true
-unfolding headOk
+    → head_ok h ≡ true
+unfolding head_ok
 early h y date interval e =
     let (low, high, least, most, near) =
     all-five (leb 1 h.days) (leb h.days 400) (leb 1 h.limit) (leb h.limit 1_000_000) (leb h.tolerance 1_000_000) e in
@@ -62,7 +62,7 @@ returns-4 c =
     let past = tested c in
     let dated = past.before.before in
     early (start dated).args.head dated.before.before.if1.left
-    (sym dated.before.is-date.ensures ∙ not-false _ dated.if2.left)
+    (sym dated.before.is_date_lem.ensures ∙ not-false _ dated.if2.left)
     (sym past.before.is-interval.ensures ∙ not-false _ past.if3.left)
 
 pub is-early-spec : {M : Type 1} → statement M

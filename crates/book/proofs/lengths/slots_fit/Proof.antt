@@ -2,21 +2,21 @@
 use mathlib.Core.Path.{sym}
 use mathlib.Core.Bool.{and-true}
 use borrow.Author.Tests.{eq-eqb, ne_eqb}
-use Rattle.book.specs.Cells.{allLong}
+use Rattle.book.specs.Cells.{all_long}
 use Rattle.base.proofs.Known.{known}
 use Rattle.book.proofs.lengths.slots_fit.Statement.{statement}
 use Rattle.book.proofs.lengths.slots_fit.Tie as tie
 
 returns : tie.Need-returns
-unfolding allLong
+unfolding all_long
 returns c = simp (sym c.before.slot-count.ensures, ne_eqb _ _ c.if1.true)
 
 returns-2 : tie.Need-returns-2
-unfolding allLong
+unfolding all_long
 returns-2 c = simp (sym c.before.before.slot-count.ensures, eq-eqb _ _ c.before.if1.false, ne_eqb _ _ c.if2.true)
 
 returns-3 : tie.Need-returns-3
-unfolding allLong
+unfolding all_long
 returns-3 c = simp (sym c.before.before.slot-count.ensures, eq-eqb _ _ c.before.if1.false, eq-eqb _ _ c.if2.false, and-true)
 
 pub slots-fit-spec : {M : Type 1} → statement M

@@ -6,10 +6,10 @@ use native.Mathlib.Omega.{arith}
 use lib.ListN.{length}
 use borrow.Author.Tests.{le-leb, lt-leb, lt-ltb, le-ltb, eq-eqb, ne_eqb}
 use Rattle.base.proofs.Known.{known}
-use Rattle.book.specs.Answers.{Answer, receivedMeant}
-use Rattle.book.specs.Lent.{lentReads}
-use Rattle.book.specs.Inner.Numbers.{readAnswer, readAfter}
-use Rattle.book.proofs.OneNumber.{read-sound}
+use Rattle.book.specs.Answers.{Answer, received_meant}
+use Rattle.book.specs.Lent.{lent_reads}
+use Rattle.book.specs.Inner.Numbers.{read_answer, read_after}
+use Rattle.book.proofs.OneNumber.{read_sound}
 use Rattle.book.proofs.registers.file_register.Statement.{statement}
 use Rattle.book.proofs.registers.file_register.Tie as tie
 
@@ -29,7 +29,7 @@ passed4 c = c.before.before.before.before
 
 abbrev whole : tie.Start → Answer
 whole c =
-    readAnswer (lentReads c.args.readings c.args.versions c.args.widths) c.args.boundary c.args.version
+    read_answer (lent_reads c.args.readings c.args.versions c.args.widths) c.args.boundary c.args.version
     c.args.reading c.args.width
 
 -- the boundary lies in the list
@@ -37,23 +37,23 @@ inside : (c : tie.Else1) → (start c.before).args.boundary < length (start c.be
 inside c = omega (arith, c.if1.false)
 
 returns : tie.Need-returns
-unfolding readAnswer readAfter
+unfolding read_answer read_after
 returns c =
     let beyond : length (start c.before).args.readings.now ≤ (start c.before).args.boundary = omega (arith, c.if1.true) in
     rw (le-leb _ _ beyond) (refl, refl)
 
 returns-2 : tie.Need-returns-2
-unfolding readAnswer readAfter
+unfolding read_answer read_after
 returns-2 c = rw (lt-leb _ _ (inside c.before), eq-eqb _ _ c.if2.true) (refl, refl)
 
 returns-3 : tie.Need-returns-3
-unfolding readAnswer readAfter
+unfolding read_answer read_after
 returns-3 c =
     let large : 99_999_999 < (start c.before.before.before).args.reading = omega (arith, c.if3.true) in
     rw (lt-leb _ _ (inside c.before.before), ne_eqb _ _ c.before.if2.false, lt-ltb _ _ large) (refl, refl)
 
 returns-4 : tie.Need-returns-4
-unfolding readAnswer readAfter
+unfolding read_answer read_after
 returns-4 c =
     let small : (start-taken4 c).args.reading ≤ 99_999_999 = omega (arith, c.before.if3.false) in
     let wide : 9999 < (start-taken4 c).args.width = omega (arith, c.if4.true) in
@@ -82,20 +82,20 @@ slice-write-widths : tie.Need-slice-write-widths
 slice-write-widths c = omega (arith, inside (passed1 (passed4 c.before.before)))
 
 -- what `against_boundary` found is the answer
-found : (c : tie.After-against-boundary) → whole (start (passed1 (passed4 c)).before) ≡ receivedMeant c.against-boundary.result
+found : (c : tie.After-against-boundary) → whole (start (passed1 (passed4 c)).before) ≡ received_meant c.against_boundary_lem.result
 found c =
     let past4 = passed4 c in
     let past1 = passed1 past4 in
     let small : (start past1.before).args.reading ≤ 99_999_999 = omega (arith, past4.before.if3.left) in
     let narrow : (start past1.before).args.width ≤ 9999 = omega (arith, past4.if4.left) in
-    read-sound _ _ _ _ _ (inside past1) past4.before.before.if2.left small narrow ∙ sym c.against-boundary.ensures
+    read_sound _ _ _ _ _ (inside past1) past4.before.before.if2.left small narrow ∙ sym c.against_boundary_lem.ensures
 
 returns-5 : tie.Need-returns-5
-unfolding readAfter
+unfolding read_after
 returns-5 c = rw (found c.before.before, sym c.before.is-stored.ensures ∙ c.if5.true) (refl, refl)
 
 returns-6 : tie.Need-returns-6
-unfolding readAfter
+unfolding read_after
 returns-6 c = rw (found c.before.before, sym c.before.is-stored.ensures ∙ c.if5.false) (refl, refl)
 
 pub file-register-spec : {M : Type 1} → statement M

@@ -6,20 +6,20 @@ use native.Mathlib.Omega.{arith}
 use Rattle.base.proofs.Known.{known}
 use lib.ListN.{length}
 use Rattle.base.specs.Lists.{any}
-use Rattle.base.proofs.Sums.{any-empty}
+use Rattle.base.proofs.Sums.{any_empty}
 use Rattle.rules.specs.Opening.{Agreed}
-use Rattle.rules.specs.Lent.{agreedLists}
-use Rattle.book.specs.Cells.{agreedFaultAt}
-use Rattle.book.proofs.Searches.{searched-on}
+use Rattle.rules.specs.Lent.{agreed_lists}
+use Rattle.book.specs.Cells.{agreed_fault_at}
+use Rattle.book.proofs.Searches.{searched_on}
 use Rattle.book.proofs.sound.bad_agreed.Statement.{statement}
 use Rattle.book.proofs.sound.bad_agreed.Tie as tie
 
 record Held (a : Agreed) (bad : Bool) (i : ℕ) : Type 0 where
   inside : i ≤ length a.values
-  known : bad ≡ any (agreedFaultAt a) 0 i
+  known : bad ≡ any (agreed_fault_at a) 0 i
 
 abbrev invariant-loop : tie.invariant-loop
-invariant-loop values versions bad₀ i₀ bad i = Held (agreedLists values versions) bad i
+invariant-loop values versions bad₀ i₀ bad i = Held (agreed_lists values versions) bad i
 
 abbrev decreases-loop : tie.decreases-loop
 decreases-loop values versions bad₀ i₀ bad i = length values - i
@@ -36,19 +36,19 @@ abbrev turn : tie.After-agreed-fault invariant-loop decreases-loop → tie.At-lo
 turn c = c.before.before.before.before
 
 abbrev lent : At-loop → Agreed
-lent c = let a = (start c).args in agreedLists a.values.now a.versions.now
+lent c = let a = (start c).args in agreed_lists a.values.now a.versions.now
 
 -- ---- Needs
 
 loop-holds : tie.Need-loop-init invariant-loop decreases-loop
-loop-holds c = record { inside = zero-le; known = sym (any-empty _ _) }
+loop-holds c = record { inside = zero-le; known = sym (any_empty _ _) }
 
 loop-again : tie.Need-loop-preserved invariant-loop decreases-loop
 loop-again c =
     let at = turn c in
     record {
       inside = omega arith;
-      known = searched-on (agreedFaultAt (lent at)) at.loop.i at.loop.bad c.agreed-fault.result at.loop.inv.known
+      known = searched_on (agreed_fault_at (lent at)) at.loop.i at.loop.bad c.agreed-fault.result at.loop.inv.known
           c.agreed-fault.ensures;
     }
 
@@ -56,7 +56,7 @@ returns : tie.Need-returns invariant-loop decreases-loop
 returns c =
     let at = c.before in
     let e : at.loop.i ≡ length (lent at).values = omega arith in
-    at.loop.invariant.known ∙ ap (any (agreedFaultAt (lent at)) 0) e
+    at.loop.invariant.known ∙ ap (any (agreed_fault_at (lent at)) 0) e
 
 pub bad-agreed-spec : {M : Type 1} → statement M
 bad-agreed-spec =

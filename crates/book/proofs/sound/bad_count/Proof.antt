@@ -6,15 +6,15 @@ use native.Mathlib.Omega.{arith}
 use Rattle.base.proofs.Known.{known}
 use borrow.Author.Tests.{eq-eqb, ne_eqb}
 use lib.ListN.{length}
-use Rattle.rules.proofs.Bounds.{Bounded, bounded, count-high}
-use Rattle.book.specs.Cells.{deliveredIn, countFaultAt}
-use Rattle.book.proofs.Counting.{day-within}
-use Rattle.book.proofs.Passed.{Passed, none_yet, one_more, at-fault, all-passed}
+use Rattle.rules.proofs.Bounds.{Bounded, bounded, count_high}
+use Rattle.book.specs.Cells.{delivered_in, count_fault_at}
+use Rattle.book.proofs.Counting.{day_within}
+use Rattle.book.proofs.Passed.{Passed, none_yet, one_more, at_fault, all_passed}
 use Rattle.book.proofs.sound.bad_count.Statement.{statement}
 use Rattle.book.proofs.sound.bad_count.Tie as tie
 
 abbrev invariant-loop : tie.invariant-loop
-invariant-loop head versions counts day₀ day = Passed (countFaultAt head versions counts) (length counts) day
+invariant-loop head versions counts day₀ day = Passed (count_fault_at head versions counts) (length counts) day
 
 abbrev decreases-loop : tie.decreases-loop
 decreases-loop head versions counts day₀ day = length counts - day
@@ -43,8 +43,8 @@ within : (c : In-loop) → c.before.loop.day < (start c.before).args.head.days
 within c = omega (arith, c.loop-test.true, (start c.before).pre)
 
 found : (c : tie.After-delivered invariant-loop decreases-loop) → let at = (counted c).before in
-    deliveredIn (start at).args.head (start at).args.versions.now at.loop.day ≡ c.delivered.result
-unfolding deliveredIn
+    delivered_in (start at).args.head (start at).args.versions.now at.loop.day ≡ c.delivered.result
+unfolding delivered_in
 found c = sym (rw c.before.before.slots-per-day.ensures at c.delivered.ensures)
 
 -- ---- Needs
@@ -63,7 +63,7 @@ mul-delivered c =
     let at = (turn c).before in
     let h = (start at).args.head in
     let d = at.loop.day in
-    omega (arith, ap (λ (n : ℕ). d * n) c.before.slots-per-day.ensures, day-within h d (within (turn c)), count-high h (bounds at))
+    omega (arith, ap (λ (n : ℕ). d * n) c.before.slots-per-day.ensures, day_within h d (within (turn c)), count_high h (bounds at))
 
 delivered-requires : tie.Need-delivered-requires invariant-loop decreases-loop
 delivered-requires c κs =
@@ -71,28 +71,28 @@ delivered-requires c κs =
     let h = (start at).args.head in
     let d = at.loop.day in
     let n = c.before.slots-per-day.ensures in
-    omega (arith, ap (λ (n : ℕ). d * n) n, n, day-within h d (within (turn c)), (start at).pre.1, (bounds at).day-high)
+    omega (arith, ap (λ (n : ℕ). d * n) n, n, day_within h d (within (turn c)), (start at).pre.1, (bounds at).day_high)
 
 returns : tie.Need-returns invariant-loop decreases-loop
 returns c =
     let at = (counted c.before).before in
     let a = (start at).args in
     let d = at.loop.day in
-    let fault : countFaultAt a.head a.versions.now a.counts.now d ≡ true =
+    let fault : count_fault_at a.head a.versions.now a.counts.now d ≡ true =
     rw (found c.before, ne_eqb _ _ c.if1.true) in
-    at-fault _ _ _ (counted c.before).loop-test.true fault
+    at_fault _ _ _ (counted c.before).loop-test.true fault
 
 loop-again : tie.Need-loop-preserved invariant-loop decreases-loop
 loop-again c =
     let at = (counted c.before).before in
     let a = (start at).args in
     let d = at.loop.day in
-    let right : countFaultAt a.head a.versions.now a.counts.now d ≡ false =
+    let right : count_fault_at a.head a.versions.now a.counts.now d ≡ false =
     rw (found c.before, eq-eqb _ _ c.if1.false) in
     one_more _ _ _ at.loop.inv (counted c.before).loop-test.true right
 
 returns-2 : tie.Need-returns-2 invariant-loop decreases-loop
-returns-2 c = all-passed _ _ _ c.before.loop.invariant c.loop-test.false
+returns-2 c = all_passed _ _ _ c.before.loop.invariant c.loop-test.false
 
 pub bad-count-spec : {M : Type 1} → statement M
 bad-count-spec =

@@ -4,13 +4,13 @@ use mathlib.Core.Path.{sym, ◌∙◌}
 use Prim.Native.Nat.{◌-◌}
 use native.Mathlib.Omega.{arith}
 use lib.ListN.{length}
-use Rattle.book.specs.Cells.{dayFaultAt}
-use Rattle.book.proofs.Passed.{Passed, none_yet, one_more, at-fault, all-passed}
+use Rattle.book.specs.Cells.{day_fault_at}
+use Rattle.book.proofs.Passed.{Passed, none_yet, one_more, at_fault, all_passed}
 use Rattle.book.proofs.sound.bad_day.Statement.{statement}
 use Rattle.book.proofs.sound.bad_day.Tie as tie
 
 abbrev invariant-loop : tie.invariant-loop
-invariant-loop holidays i₀ i = Passed (dayFaultAt holidays) (length holidays) i
+invariant-loop holidays i₀ i = Passed (day_fault_at holidays) (length holidays) i
 
 abbrev decreases-loop : tie.decreases-loop
 decreases-loop holidays i₀ i = length holidays - i
@@ -27,7 +27,7 @@ loop-holds c = none_yet _ _
 
 returns : tie.Need-returns invariant-loop decreases-loop
 returns c =
-    at-fault _ _ _ c.before.before.before.loop-test.true (sym c.before.day-fault.ensures ∙ c.if1.true)
+    at_fault _ _ _ c.before.before.before.loop-test.true (sym c.before.day-fault.ensures ∙ c.if1.true)
 
 loop-again : tie.Need-loop-preserved invariant-loop decreases-loop
 loop-again c =
@@ -36,7 +36,7 @@ loop-again c =
 
 returns-2 : tie.Need-returns-2 invariant-loop decreases-loop
 returns-2 c =
-    all-passed _ _ _ c.before.loop.invariant c.loop-test.false
+    all_passed _ _ _ c.before.loop.invariant c.loop-test.false
 
 pub bad-day-spec : {M : Type 1} → statement M
 bad-day-spec =

@@ -5,14 +5,14 @@ use mathlib.Core.Path.{sym, ◌∙◌}
 use Prim.Native.Nat.{◌-◌}
 use native.Mathlib.Omega.{arith}
 use lib.ListN.{length}
-use Rattle.book.specs.Cells.{readFaultAt}
-use Rattle.book.specs.Lent.{readLists}
-use Rattle.book.proofs.Passed.{Passed, none_yet, one_more, at-fault, all-passed}
+use Rattle.book.specs.Cells.{read_fault_at}
+use Rattle.book.specs.Lent.{read_lists}
+use Rattle.book.proofs.Passed.{Passed, none_yet, one_more, at_fault, all_passed}
 use Rattle.book.proofs.sound.bad_read.Statement.{statement}
 use Rattle.book.proofs.sound.bad_read.Tie as tie
 
 abbrev invariant-loop : tie.invariant-loop
-invariant-loop readings versions widths i₀ i = Passed (readFaultAt (readLists readings versions widths)) (length readings) i
+invariant-loop readings versions widths i₀ i = Passed (read_fault_at (read_lists readings versions widths)) (length readings) i
 
 abbrev decreases-loop : tie.decreases-loop
 decreases-loop readings versions widths i₀ i = length readings - i
@@ -30,7 +30,7 @@ loop-holds c = none_yet _ _
 returns : tie.Need-returns invariant-loop decreases-loop
 returns c =
     let turned = turn c.before in
-    at-fault _ _ _ turned.loop-test.taken (sym c.before.read-fault.ensures ∙ c.if1.true)
+    at_fault _ _ _ turned.loop-test.taken (sym c.before.read-fault.ensures ∙ c.if1.true)
 
 loop-again : tie.Need-loop-preserved invariant-loop decreases-loop
 loop-again c =
@@ -39,7 +39,7 @@ loop-again c =
 
 returns-2 : tie.Need-returns-2 invariant-loop decreases-loop
 returns-2 c =
-    all-passed _ _ _ c.before.loop.invariant c.loop-test.false
+    all_passed _ _ _ c.before.loop.invariant c.loop-test.false
 
 pub bad-read-spec : {M : Type 1} → statement M
 bad-read-spec =

@@ -6,17 +6,17 @@ use native.Mathlib.Omega.{arith}
 use Rattle.base.proofs.Known.{known}
 use lib.ListN.{length}
 use Rattle.base.specs.Lists.{any}
-use Rattle.base.proofs.Sums.{any-empty}
+use Rattle.base.proofs.Sums.{any_empty}
 use Rattle.rules.specs.Opening.{Slots}
 use Rattle.rules.specs.Lent.{slots}
-use Rattle.book.specs.Cells.{slotFaultAt}
-use Rattle.book.proofs.Searches.{searched-on}
+use Rattle.book.specs.Cells.{slot_fault_at}
+use Rattle.book.proofs.Searches.{searched_on}
 use Rattle.book.proofs.sound.bad_slot.Statement.{statement}
 use Rattle.book.proofs.sound.bad_slot.Tie as tie
 
 record Held (s : Slots) (bad : Bool) (i : ℕ) : Type 0 where
   inside : i ≤ length s.values
-  known : bad ≡ any (slotFaultAt s) 0 i
+  known : bad ≡ any (slot_fault_at s) 0 i
 
 abbrev invariant-loop : tie.invariant-loop
 invariant-loop values versions statuses bad₀ i₀ bad i = Held (slots values versions statuses) bad i
@@ -41,14 +41,14 @@ lent c = let a = (start c).args in slots a.values.now a.versions.now a.statuses.
 -- ---- Needs
 
 loop-holds : tie.Need-loop-init invariant-loop decreases-loop
-loop-holds c = record { inside = zero-le; known = sym (any-empty _ _) }
+loop-holds c = record { inside = zero-le; known = sym (any_empty _ _) }
 
 loop-again : tie.Need-loop-preserved invariant-loop decreases-loop
 loop-again c =
     let at = turn c in
     record {
       inside = omega arith;
-      known = searched-on (slotFaultAt (lent at)) at.loop.i at.loop.bad c.slot-fault.result at.loop.inv.known
+      known = searched_on (slot_fault_at (lent at)) at.loop.i at.loop.bad c.slot-fault.result at.loop.inv.known
           c.slot-fault.ensures;
     }
 
@@ -56,7 +56,7 @@ returns : tie.Need-returns invariant-loop decreases-loop
 returns c =
     let at = c.before in
     let e : at.loop.i ≡ length (lent at).values = omega arith in
-    at.loop.invariant.known ∙ ap (any (slotFaultAt (lent at)) 0) e
+    at.loop.invariant.known ∙ ap (any (slot_fault_at (lent at)) 0) e
 
 pub bad-slot-spec : {M : Type 1} → statement M
 bad-slot-spec =

@@ -5,7 +5,7 @@ use mathlib.Core.Path.{◌≡◌, sym, ap, ◌∙◌}
 use Prim.Native.Nat.{ℕ, ◌-◌, ◌≤◌, zero-le}
 use native.Mathlib.Omega.{arith}
 use borrow.Author.Rules.{rules}
-use Rattle.book.proofs.Counting.{among, among_none, among-more, among_same}
+use Rattle.book.proofs.Counting.{among, among_none, among_more, among_same}
 use Rattle.book.proofs.sound.delivered.Statement.{statement}
 use Rattle.book.proofs.sound.delivered.Tie as tie
 
@@ -32,7 +32,7 @@ loop-again c =
     (λ w. record {
       inside = omega arith;
       most = omega arith;
-      known = omega (arith, among-more a.versions.now a.first at.loop.k w.0.taken, held.known);
+      known = omega (arith, among_more a.versions.now a.first at.loop.k w.0.taken, held.known);
     })
     (λ w. record {
       inside = omega arith;

@@ -1,20 +1,20 @@
--- `versions::by_version` is `byVersion`, one test a return.
+-- `versions::by_version` is `by_version`, one test a return.
 use Prim.Native.Nat.{◌<◌, ◌≤◌}
 use native.Mathlib.Omega.{arith}
 use borrow.Author.Tests.{lt-ltb, le-ltb}
-use Rattle.book.specs.Answers.{byVersion}
+use Rattle.book.specs.Answers.{by_version}
 use Rattle.book.proofs.versions.by_version.Statement.{statement}
 use Rattle.book.proofs.versions.by_version.Tie as tie
 
 returns : tie.Need-returns
-unfolding byVersion
+unfolding by_version
 returns c =
     let a = c.before.args in
     let higher : a.before < a.version = omega (arith, c.if1.true) in
     rw (lt-ltb _ _ higher)
 
 returns-2 : tie.Need-returns-2
-unfolding byVersion
+unfolding by_version
 returns-2 c =
     let a = c.before.before.args in
     let none-higher : a.version ≤ a.before = omega (arith, c.before.if1.false) in
@@ -22,11 +22,11 @@ returns-2 c =
     rw (le-ltb _ _ none-higher, lt-ltb _ _ lower)
 
 returns-3 : tie.Need-returns-3
-unfolding byVersion
+unfolding by_version
 returns-3 c = simp (le-ltb _ _ c.before.before.if1.false, le-ltb _ _ c.before.if2.false, c.if3.true)
 
 returns-4 : tie.Need-returns-4
-unfolding byVersion
+unfolding by_version
 returns-4 c = simp (le-ltb _ _ c.before.before.if1.false, le-ltb _ _ c.before.if2.false, c.if3.false)
 
 pub by-version-spec : {M : Type 1} → statement M

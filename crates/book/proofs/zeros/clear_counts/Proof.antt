@@ -4,7 +4,7 @@ use Rattle.base.proofs.Known.{known}
 use mathlib.Core.Path.{refl}
 use Prim.Native.Nat.{◌-◌, zero-le}
 use lib.ListN.{length}
-use Rattle.book.proofs.Cleared.{Cleared, cleared-next, cleared-all}
+use Rattle.book.proofs.Cleared.{Cleared, cleared_next, cleared_all}
 use Rattle.book.proofs.zeros.clear_counts.Statement.{statement}
 use Rattle.book.proofs.zeros.clear_counts.Tie as tie
 
@@ -18,10 +18,10 @@ loop-holds : tie.Need-loop-init invariant-loop decreases-loop
 loop-holds c = record { cells = refl; size = refl; within = zero-le }
 
 loop-again : tie.Need-loop-preserved invariant-loop decreases-loop
-loop-again c = cleared-next _ _ _ c.before.loop.invariant c.loop-test.true
+loop-again c = cleared_next _ _ _ c.before.loop.invariant c.loop-test.true
 
 returns : tie.Need-returns invariant-loop decreases-loop
-returns c = cleared-all _ _ _ c.before.loop.invariant c.loop-test.false
+returns c = cleared_all _ _ _ c.before.loop.invariant c.loop-test.false
 
 pub clear-counts-spec : {M : Type 1} → statement M
 clear-counts-spec =

@@ -7,21 +7,21 @@ use Prim.Native.Nat.{ℕ, ◌≤◌, ◌<◌, ◌-◌}
 use mathlib.Core.Bool.{Bool, false}
 use mathlib.Core.Path.{◌≡◌, ap, ◌∙◌}
 use native.Mathlib.Omega.{arith}
-use Rattle.rules.specs.Opening.{slotCount}
-use Rattle.rules.specs.Tests.{goodAt}
+use Rattle.rules.specs.Opening.{slot_count}
+use Rattle.rules.specs.Tests.{good_at}
 use Rattle.rules.specs.Lent.{slots}
-use Rattle.rules.specs.Inner.Walks.{zeroBefore, lineBefore}
-use Rattle.rules.proofs.Outages.{zero-applies}
-use Rattle.explain.proofs.Passing.{none_before, zero-next, line-next, walk-are}
+use Rattle.rules.specs.Inner.Walks.{zero_before, line_before}
+use Rattle.rules.proofs.Outages.{zero_applies}
+use Rattle.explain.proofs.Passing.{none_before, zero-next, line-next, walk_are}
 use Rattle.explain.proofs.back.fills_before.Statement.{statement}
 use Rattle.explain.proofs.back.fills_before.Tie as tie
 
 record Held (head : Head) (values versions statuses agreed-versions : List ℕ) (at k : ℕ) (outage : Bool) (line : StraightLine) : Type 0
   where
     inside : k ≤ at
-    zeroed : outage ≡ zeroBefore versions statuses (slotCount head) k
-    drawn : line ≡ lineBefore head (slots values versions statuses) agreed-versions k
-    none : (j : ℕ) → k ≤ j → j < at → goodAt head (slots values versions statuses) j ≡ false
+    zeroed : outage ≡ zero_before versions statuses (slot_count head) k
+    drawn : line ≡ line_before head (slots values versions statuses) agreed-versions k
+    none : (j : ℕ) → k ≤ j → j < at → good_at head (slots values versions statuses) j ≡ false
 
 abbrev invariant-loop : tie.invariant-loop
 invariant-loop head values versions statuses agreed-versions at k₀ outage₀ line₀ k outage line =
@@ -46,7 +46,7 @@ since-good-requires c κs = ((start c).pre.0, omega (arith, (start c).pre.2))
 loop-holds : tie.Need-loop-init invariant-loop decreases-loop
 loop-holds c = let a = (start c.before.before).args in
     let s = slots a.values.now a.versions.now a.statuses.now in
-    let n = none_before a.head s a.agreed-versions.now (slotCount a.head) _ c.before.since-good.ensures.good in
+    let n = none_before a.head s a.agreed-versions.now (slot_count a.head) _ c.before.since-good.ensures.good in
     record {
       inside = c.before.since-good.ensures.low;
       zeroed = n.0;
@@ -68,7 +68,7 @@ line-on-requires c κs =
       begun.pre.1,
       omega (arith, begun.pre.2),
       c.before.before.loop.invariant.none _ (omega arith) c.before.loop-test.true,
-      c.outage-zero.ensures ∙ zero-applies a.head s _ begun.pre.0.versions _,
+      c.outage-zero.ensures ∙ zero_applies a.head s _ begun.pre.0.versions _,
       c.before.before.loop.invariant.drawn,
     )
 
@@ -81,8 +81,8 @@ loop-again c =
       inside = omega arith;
       zeroed =
           (rw begun.pre.0.versions at c.before.outage-zero.ensures)
-          ∙ zero-next a.head s a.agreed-versions.now (slotCount a.head) _;
-      drawn = c.line_on.ensures ∙ line-next a.head s a.agreed-versions.now (slotCount a.head) _;
+          ∙ zero-next a.head s a.agreed-versions.now (slot_count a.head) _;
+      drawn = c.line_on.ensures ∙ line-next a.head s a.agreed-versions.now (slot_count a.head) _;
       none = λ j l m. c.before.before.before.loop.invariant.none j (omega arith) m;
     }
 
@@ -90,9 +90,9 @@ returns : tie.Need-returns invariant-loop decreases-loop
 returns c = let a = (start-at-loop c.before).args in
     let s = slots a.values.now a.versions.now a.statuses.now in
     let e : c.before.loop.k ≡ a.at = omega (arith, c.before.loop.invariant.inside, c.loop-test.false) in
-    walk-are a.head s a.agreed-versions.now a.at _ _
-    (c.before.loop.invariant.zeroed ∙ ap (zeroBefore s.versions s.statuses (slotCount a.head)) e)
-    (c.before.loop.invariant.drawn ∙ ap (lineBefore a.head s a.agreed-versions.now) e)
+    walk_are a.head s a.agreed-versions.now a.at _ _
+    (c.before.loop.invariant.zeroed ∙ ap (zero_before s.versions s.statuses (slot_count a.head)) e)
+    (c.before.loop.invariant.drawn ∙ ap (line_before a.head s a.agreed-versions.now) e)
 
 pub fills-before-spec : {M : Type 1} → statement M
 fills-before-spec =

@@ -5,15 +5,15 @@ use Prim.Native.Nat.{ℕ, ◌≤◌, ◌<◌}
 use mathlib.Core.Bool.{false}
 use mathlib.Core.Path.{◌≡◌, sym, ◌∙◌}
 use native.Mathlib.Omega.{arith}
-use Rattle.rules.specs.Tests.{goodAt}
+use Rattle.rules.specs.Tests.{good_at}
 use Rattle.rules.specs.Lent.{slots}
-use Rattle.explain.proofs.Passing.{since-on}
+use Rattle.explain.proofs.Passing.{since_on}
 use Rattle.explain.proofs.back.since_good.Statement.{statement}
 use Rattle.explain.proofs.back.since_good.Tie as tie
 
 record Held (head : Head) (values versions statuses : List ℕ) (at from : ℕ) : Type 0 where
   inside : from ≤ at
-  none : (k : ℕ) → from ≤ k → k < at → goodAt head (slots values versions statuses) k ≡ false
+  none : (k : ℕ) → from ≤ k → k < at → good_at head (slots values versions statuses) k ≡ false
 
 abbrev invariant-loop : tie.invariant-loop
 invariant-loop head values versions statuses at from₀ from = Held head values versions statuses at from
@@ -46,7 +46,7 @@ loop-again : tie.Need-loop-preserved invariant-loop decreases-loop
 loop-again c =
     record {
       inside = omega arith;
-      none = since-on _ _ _ _ c.before.before.before.loop.invariant.none (sym c.before.is-good.ensures ∙ c.if1.false);
+      none = since_on _ _ _ _ c.before.before.before.loop.invariant.none (sym c.before.is-good.ensures ∙ c.if1.false);
     }
 
 returns-2 : tie.Need-returns-2 invariant-loop decreases-loop

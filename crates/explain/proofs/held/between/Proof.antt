@@ -4,13 +4,13 @@ use mathlib.Core.Path.{◌≡◌, ◌∙◌}
 use Prim.Native.Nat.{◌-◌, ◌*◌, ◌≤◌}
 use native.Mathlib.Nat.{mul-le-mul}
 use native.Mathlib.Omega.{arith}
-use Rattle.rules.specs.Opening.{slotsPerDay}
-use Rattle.rules.specs.Spans.{start, slotsIn}
-use Rattle.rules.specs.Lent.{slots, agreedLists, cells}
-use Rattle.rules.specs.Inner.Summaries.{summaryOf}
+use Rattle.rules.specs.Opening.{slots_per_day}
+use Rattle.rules.specs.Spans.{start, slots_in}
+use Rattle.rules.specs.Lent.{slots, agreed_lists, cells}
+use Rattle.rules.specs.Inner.Summaries.{summary_of}
 use Rattle.rules.proofs.Bounds.{bounded}
-use Rattle.rules.proofs.Places.{slots-within}
-use Rattle.explain.proofs.Holding.{between-inside, spanned-found, held-scaling, spanned-advance}
+use Rattle.rules.proofs.Places.{slots_within}
+use Rattle.explain.proofs.Holding.{between_inside, spanned-found, held-scaling, spanned_advance}
 use borrow.Author.Rules.{rules}
 use Rattle.base.proofs.Known.{known}
 use Rattle.explain.proofs.held.between.Statement.{statement}
@@ -31,8 +31,8 @@ mul-start c =
     let begun = entry c in
     let w = bounded begun.args.head begun.pre.0.fitted.head in
     let x = begun.pre.4 in
-    let p : begun.args.first ≤ 400 = omega (arith, w.days-high, x.ordered, x.within) in
-    let q : c.slots-per-day.result ≤ 288 = omega (arith, c.slots-per-day.ensures, w.day-high) in
+    let p : begun.args.first ≤ 400 = omega (arith, w.days_high, x.ordered, x.within) in
+    let q : c.slots-per-day.result ≤ 288 = omega (arith, c.slots-per-day.ensures, w.day_high) in
     omega (arith, mul-le-mul p q)
 
 mul-sums : tie.Need-overflow-mul-sums
@@ -40,8 +40,8 @@ mul-sums c =
     let begun = entry c in
     let w = bounded begun.args.head begun.pre.0.fitted.head in
     let x = begun.pre.4 in
-    let p : begun.args.last - begun.args.first ≤ 400 = omega (arith, w.days-high, x.ordered, x.within) in
-    let q : c.slots-per-day.result ≤ 288 = omega (arith, c.slots-per-day.ensures, w.day-high) in
+    let p : begun.args.last - begun.args.first ≤ 400 = omega (arith, w.days_high, x.ordered, x.within) in
+    let q : c.slots-per-day.result ≤ 288 = omega (arith, c.slots-per-day.ensures, w.day_high) in
     omega (arith, mul-le-mul p q)
 
 sums-requires : tie.Need-sums-requires
@@ -49,12 +49,12 @@ sums-requires c κs =
     let begun = entry c in
     let a = begun.args in
     let x = begun.pre.4 in
-    let i = between-inside a.head a.slot a.first a.last x in
+    let i = between_inside a.head a.slot a.first a.last x in
     rw c.slots-per-day.ensures (
       begun.pre.0,
       begun.pre.2,
       omega (arith, i, x.from),
-      slots-within a.head a.first a.last (omega (arith, x.ordered)) x.within,
+      slots_within a.head a.first a.last (omega (arith, x.ordered)) x.within,
     )
 
 sub-sums-2 : tie.Need-overflow-sub-sums-2
@@ -65,7 +65,7 @@ sums-requires-2 c κs =
     let begun = entry c.before in
     let a = begun.args in
     let x = begun.pre.4 in
-    let i = between-inside a.head a.slot a.first a.last x in
+    let i = between_inside a.head a.slot a.first a.last x in
     rw c.before.slots-per-day.ensures (begun.pre.0, begun.pre.2, omega (arith, i, x.from), omega (arith, i, x.from))
 
 spanned-requires : tie.Need-spanned-requires
@@ -73,26 +73,26 @@ spanned-requires c κs =
     let begun = entry c.before.before in
     let w = bounded begun.args.head begun.pre.0.fitted.head in
     let x = begun.pre.4 in
-    (begun.pre.1, begun.pre.3, omega (arith, x.ordered, x.within), x.within, w.days-high)
+    (begun.pre.1, begun.pre.3, omega (arith, x.ordered, x.within), x.within, w.days_high)
 
 scaling-with-requires : tie.Need-scaling-with-requires
 scaling-with-requires c κs = let a = (entry c.before.before.before).args in
-    spanned-advance a.head a.readings.now a.widths.now a.first a.last c.before.before.sums.result
+    spanned_advance a.head a.readings.now a.widths.now a.first a.last c.before.before.sums.result
     c.spanned.result c.spanned.ensures
 
 returns : tie.Need-returns
-unfolding start slotsIn
+unfolding start slots_in
 returns c = let a = (entry (after-slots-per-day c)).args in
     let n = (after-slots-per-day c).slots-per-day.ensures in
     let b = cells (slots a.values.now a.versions.now a.statuses.now) a.holidays.now a.readings.now []
-    (agreedLists a.agreed.now a.agreed-versions.now) a.widths.now in
+    (agreed_lists a.agreed.now a.agreed-versions.now) a.widths.now in
     let m : c.before.before.before.sums.result
-    ≡ summaryOf a.head b.slots b.agreed b.holidays (a.first * slotsPerDay a.head)
-    ((a.last - a.first) * slotsPerDay a.head) =
+    ≡ summary_of a.head b.slots b.agreed b.holidays (a.first * slots_per_day a.head)
+    ((a.last - a.first) * slots_per_day a.head) =
     rw n at c.before.before.before.sums.ensures in
     let q : c.before.before.sums2.result
-    ≡ summaryOf a.head b.slots b.agreed b.holidays (a.first * slotsPerDay a.head)
-    (a.slot - a.first * slotsPerDay a.head) =
+    ≡ summary_of a.head b.slots b.agreed b.holidays (a.first * slots_per_day a.head)
+    (a.slot - a.first * slots_per_day a.head) =
     rw n at c.before.before.sums2.ensures in (
       c.before.spanned.ensures ∙ spanned-found a.head b a.first a.last c.before.before.before.sums.result m,
       c.scaling-with.ensures

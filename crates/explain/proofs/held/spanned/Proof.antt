@@ -1,12 +1,12 @@
 -- `held::spanned` has the figures of the comparison.
-use Rattle.explain.specs.Inner.Holding.{spannedWith}
+use Rattle.explain.specs.Inner.Holding.{spanned_with}
 use borrow.Author.Rules.{rules}
 use Rattle.base.proofs.Known.{known}
 use Rattle.explain.proofs.held.spanned.Statement.{statement}
 use Rattle.explain.proofs.held.spanned.Tie as tie
 
 returns : tie.Need-returns
-unfolding spannedWith
+unfolding spanned_with
 returns c = rw c.before.compare.ensures
 
 pub spanned-spec : {M : Type 1} → statement M

@@ -1,6 +1,6 @@
 -- `held::sums`: the pass before the first slot, and the sums from it.
 use Rattle.rules.specs.Lent.{slots}
-use Rattle.explain.proofs.Passing.{walk-place, walk-known}
+use Rattle.explain.proofs.Passing.{walk_place, walk_known}
 use Rattle.base.proofs.Known.{known}
 use Rattle.explain.proofs.held.sums.Statement.{statement}
 use Rattle.explain.proofs.held.sums.Tie as tie
@@ -17,17 +17,17 @@ summarise-requires c κs =
     let begun = start c in
     let a = begun.args in
     let s = slots a.values.now a.versions.now a.statuses.now in
-    let p = walk-place a.head s a.agreed-versions.now c.fills-before.result a.start c.fills-before.ensures in (
+    let p = walk_place a.head s a.agreed-versions.now c.fills-before.result a.start c.fills-before.ensures in (
       begun.pre.0,
       begun.pre.1,
       rw p begun.pre.3,
-      walk-known a.head s a.agreed-versions.now c.fills-before.result a.start c.fills-before.ensures,
+      walk_known a.head s a.agreed-versions.now c.fills-before.result a.start c.fills-before.ensures,
     )
 
 returns : tie.Need-returns
 returns c = let a = (start c.before).args in
     let s = slots a.values.now a.versions.now a.statuses.now in
-    let p = walk-place a.head s a.agreed-versions.now c.before.fills-before.result a.start
+    let p = walk_place a.head s a.agreed-versions.now c.before.fills-before.result a.start
     c.before.fills-before.ensures in
     rw p at c.summarise.ensures
 

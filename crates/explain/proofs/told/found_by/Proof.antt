@@ -1,17 +1,17 @@
 -- `told::found_by` looks at the rule.
 use mathlib.Core.Path.{sym, ◌∙◌}
 use borrow.Author.Tests.{not-true, not-false}
-use Rattle.explain.specs.Explain.{foundOf}
+use Rattle.explain.specs.Explain.{found_of}
 use Rattle.base.proofs.Known.{known}
 use Rattle.explain.proofs.told.found_by.Statement.{statement}
 use Rattle.explain.proofs.told.found_by.Tie as tie
 
 returns : tie.Need-returns
-unfolding foundOf
+unfolding found_of
 returns c = rw (sym c.before.before.is-same-day.ensures ∙ not-true _ c.before.if1.true) c.None-found.ensures
 
 returns-2 : tie.Need-returns-2
-unfolding foundOf
+unfolding found_of
 returns-2 c =
     let found = c.find-references.ensures in
     rw (sym c.before.before.is-same-day.ensures ∙ not-false _ c.before.if1.false)

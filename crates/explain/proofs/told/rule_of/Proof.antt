@@ -1,7 +1,7 @@
 -- `told::rule_of` tests as the specification does, one after the other.
 use mathlib.Core.Path.{sym, ◌∙◌}
 use borrow.Author.Tests.{eq-eqb, ne_eqb}
-use Rattle.explain.specs.Inner.Telling.{ruleOf}
+use Rattle.explain.specs.Inner.Telling.{rule_of}
 use Rattle.base.proofs.Known.{known}
 use Rattle.explain.proofs.told.rule_of.Statement.{statement}
 use Rattle.explain.proofs.told.rule_of.Tie as tie
@@ -20,19 +20,19 @@ passed3 c = c.before.before.before
 -- ---- Needs
 
 returns : tie.Need-returns
-unfolding ruleOf
+unfolding rule_of
 returns c = rw (eq-eqb _ _ c.if1.true)
 
 returns-2 : tie.Need-returns-2
-unfolding ruleOf
+unfolding rule_of
 returns-2 c = rw (ne_eqb _ _ c.before.before.if1.false, eq-eqb _ _ c.if2.true)
 
 returns-3 : tie.Need-returns-3
-unfolding ruleOf
+unfolding rule_of
 returns-3 c = rw (ne_eqb _ _ (passed1 c.before).if1.false, ne_eqb _ _ c.before.before.if2.false, eq-eqb _ _ c.if3.true)
 
 returns-4 : tie.Need-returns-4
-unfolding ruleOf
+unfolding rule_of
 returns-4 c =
     rw (
       ne_eqb _ _ (passed2 c).before.before.if1.false,
@@ -42,7 +42,7 @@ returns-4 c =
     )
 
 returns-5 : tie.Need-returns-5
-unfolding ruleOf
+unfolding rule_of
 returns-5 c =
     let past3 = passed3 c.before in
     rw (
@@ -54,7 +54,7 @@ returns-5 c =
     )
 
 returns-6 : tie.Need-returns-6
-unfolding ruleOf
+unfolding rule_of
 returns-6 c =
     let past3 = passed3 c.before in
     rw (

@@ -1,5 +1,5 @@
 -- `told::tell_with` puts the parts together.
-use Rattle.explain.specs.Inner.Telling.{toldWith}
+use Rattle.explain.specs.Inner.Telling.{told_with}
 use Rattle.base.proofs.Known.{known}
 use Rattle.explain.proofs.told.tell_with.Statement.{statement}
 use Rattle.explain.proofs.told.tell_with.Tie as tie
@@ -15,7 +15,7 @@ after-fit c = c.before.before.before.before.before
 -- ---- Needs
 
 returns : tie.Need-returns
-unfolding toldWith
+unfolding told_with
 returns c =
     let at-fit = after-fit c in
     simp (

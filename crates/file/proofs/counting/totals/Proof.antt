@@ -5,15 +5,15 @@ use Prim.Native.Nat.{ℕ, ◌≤◌, ◌<◌, ◌-◌, ◌^◌}
 use native.Mathlib.Omega.{arith}
 use borrow.Author.Rules.{rules}
 use Rattle.file.specs.declared.counting.Counted.{Counted}
-use Rattle.file.specs.Inner.Reading.{Within, metBy, countedWith, countedIn}
-use Rattle.file.proofs.Counts.{within_more, within-with, counted-empty, counted-on}
+use Rattle.file.specs.Inner.Reading.{Within, met_by, counted_with, counted_in}
+use Rattle.file.proofs.Counts.{within_more, within_with, counted_empty, counted_on}
 use Rattle.file.proofs.counting.totals.Statement.{statement}
 use Rattle.file.proofs.counting.totals.Tie as tie
 
 record Held (file : List ℕ) (k : ℕ) (found : Counted) (i : ℕ) : Type 0 where
   inside : i ≤ k
-  low : Within i (metBy found)
-  known : metBy found ≡ countedIn file i
+  low : Within i (met_by found)
+  known : met_by found ≡ counted_in file i
 
 abbrev invariant-loop : tie.invariant-loop
 invariant-loop file k found₀ i₀ found i = Held file k found i
@@ -35,13 +35,13 @@ loop-holds : tie.Need-loop-init invariant-loop decreases-loop
 loop-holds c = record {
   inside = search rules;
   low = record { actual = omega arith; substituted = omega arith; agreed = omega arith; none = omega arith; sum = omega arith };
-  known = counted-empty c.before.args.file.now;
+  known = counted_empty c.before.args.file.now;
 }
 
 with-slot-requires : tie.Need-with-slot-requires invariant-loop decreases-loop
 with-slot-requires c κs =
     let at = turn c in
-    within_more at.loop.i 115_200 (metBy at.loop.found) at.loop.inv.low
+    within_more at.loop.i 115_200 (met_by at.loop.found) at.loop.inv.low
     (omega (arith, c.before.loop-test.true, (start at).pre.1))
 
 loop-again : tie.Need-loop-preserved invariant-loop decreases-loop
@@ -50,18 +50,18 @@ loop-again c =
     let at = turn slot in
     let held = at.loop.inv in
     let e = c.with-slot.ensures in
-    let low : slot.slot-at.result.value < 2 ^ 32 = search rules in
+    let low : slot.slot_at_lem.result.value < 2 ^ 32 = search rules in
     record {
       inside = omega (arith, slot.before.loop-test.true);
-      low = rw e (within-with at.loop.i (metBy at.loop.found) slot.slot-at.result held.low low);
-      known = e ∙ ap₂ countedWith held.known slot.slot-at.ensures ∙ counted-on (start at).args.file.now at.loop.i;
+      low = rw e (within_with at.loop.i (met_by at.loop.found) slot.slot_at_lem.result held.low low);
+      known = e ∙ ap₂ counted_with held.known slot.slot_at_lem.ensures ∙ counted_on (start at).args.file.now at.loop.i;
     }
 
 returns : tie.Need-returns invariant-loop decreases-loop
 returns c =
     let at = c.before in
     let done : at.loop.i ≡ (start at).args.k = omega (arith, c.loop-test.false, at.loop.invariant.inside) in
-    at.loop.invariant.known ∙ ap (countedIn (start at).args.file.now) done
+    at.loop.invariant.known ∙ ap (counted_in (start at).args.file.now) done
 
 pub totals-spec : {M : Type 1} → statement M
 totals-spec =

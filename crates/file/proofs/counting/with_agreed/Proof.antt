@@ -1,7 +1,7 @@
 -- `file::counting::with_agreed`: F counts with S and by itself, and the highest value stands for them all.
 use borrow.Author.Rules.{rules}
 use Rattle.base.proofs.Known.{known}
-use Rattle.file.proofs.Counts.{met-agreed}
+use Rattle.file.proofs.Counts.{met_agreed}
 use Rattle.file.proofs.counting.with_agreed.Statement.{statement}
 use Rattle.file.proofs.counting.with_agreed.Tie as tie
 
@@ -16,7 +16,7 @@ returns c =
     let high = highest c in
     let s = start high in
     let tested = high.before.both in
-    met-agreed s.args.found s.args.slot s.pre.1 tested.result tested.ensures high.higher.result
+    met_agreed s.args.found s.args.slot s.pre.1 tested.result tested.ensures high.higher.result
     high.higher.ensures
 
 pub with-agreed-spec : {M : Type 1} → statement M

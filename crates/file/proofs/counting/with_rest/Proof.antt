@@ -3,7 +3,7 @@ use mathlib.Core.Bool.{Bool, ◌&&◌}
 use mathlib.Core.Path.{ap, ◌∙◌}
 use borrow.Author.Rules.{rules}
 use Rattle.base.proofs.Known.{known}
-use Rattle.file.proofs.Counts.{met-rest}
+use Rattle.file.proofs.Counts.{met_rest}
 use Rattle.file.proofs.counting.with_rest.Statement.{statement}
 use Rattle.file.proofs.counting.with_rest.Tie as tie
 
@@ -21,7 +21,7 @@ returns c =
     let tested = after_both c in
     let s = start tested in
     let same = tested.both.ensures ∙ ap (λ (b : Bool). s.args.found.formed && b) tested.before.is_zero.ensures in
-    met-rest s.args.found s.args.slot s.pre.1 tested.both.result same one.one.result one.one.ensures.0
+    met_rest s.args.found s.args.slot s.pre.1 tested.both.result same one.one.result one.one.ensures.0
 
 pub with-rest-spec : {M : Type 1} → statement M
 with-rest-spec =

@@ -3,7 +3,7 @@ use mathlib.Core.Bool.{Bool, ◌&&◌}
 use mathlib.Core.Path.{ap, ◌∙◌}
 use borrow.Author.Rules.{rules}
 use Rattle.base.proofs.Known.{known}
-use Rattle.file.proofs.Counts.{met-substituted}
+use Rattle.file.proofs.Counts.{met_substituted}
 use Rattle.file.proofs.counting.with_substituted.Statement.{statement}
 use Rattle.file.proofs.counting.with_substituted.Tie as tie
 
@@ -20,7 +20,7 @@ returns c =
     let tested = c.before.before.before in
     let s = start tested in
     let same = tested.both.ensures ∙ ap (λ (b : Bool). s.args.found.formed && b) (after-is-filling c).is-filling.ensures in
-    met-substituted s.args.found s.args.slot s.pre.1 tested.both.result same
+    met_substituted s.args.found s.args.slot s.pre.1 tested.both.result same
 
 pub with-substituted-spec : {M : Type 1} → statement M
 with-substituted-spec =

@@ -8,7 +8,7 @@ use borrow.Author.Rules.{rules}
 use Rattle.base.proofs.Known.{known}
 use lib.Dec.{lit<}
 use Rattle.file.specs.Reader.{num}
-use Rattle.file.proofs.Numbers.{num-down, pow-down, seven}
+use Rattle.file.proofs.Numbers.{num_down, pow_down, seven}
 use Rattle.file.proofs.fields.number.Statement.{statement}
 use Rattle.file.proofs.fields.number.Tie as tie
 
@@ -52,8 +52,8 @@ loop-again c =
     let l = c.before.before.before.loop in
     record {
       inside = search rules;
-      known = rw (c.wide.ensures.0, l.invariant.known) (num-down a.s.now a.width a.at l.j (search rules) (search rules));
-      small = pow-down a.width l.j l.n c.wide.result (search rules) (search rules) l.invariant.small c.wide.ensures.1;
+      known = rw (c.wide.ensures.0, l.invariant.known) (num_down a.s.now a.width a.at l.j (search rules) (search rules));
+      small = pow_down a.width l.j l.n c.wide.result (search rules) (search rules) l.invariant.small c.wide.ensures.1;
     }
 
 returns : tie.Need-returns invariant-loop decreases-loop

@@ -8,7 +8,7 @@ use borrow.Author.Rules.{rules}
 use lib.ListN.{length-set, length, drop}
 use lib.Seq.{paste, paste-zero}
 use Rattle.file.specs.Layout.{bytes}
-use Rattle.file.proofs.Numbers.{length-bytes}
+use Rattle.file.proofs.Numbers.{length_bytes}
 use Rattle.file.proofs.Written.{paste_more, bytes_next, paste_all}
 use Rattle.file.proofs.fields.put.Statement.{statement}
 use Rattle.file.proofs.fields.put.Tie as tie
@@ -54,7 +54,7 @@ same_length c = c.before.loop.invariant.long
 returns : tie.Need-returns invariant-loop decreases-loop
 returns c =
     let a = c.before.before.args in
-    let done : c.before.loop.j ≡ length (bytes a.width a.n) = omega (arith, length-bytes a.width a.n) in
+    let done : c.before.loop.j ≡ length (bytes a.width a.n) = omega (arith, length_bytes a.width a.n) in
     c.before.loop.invariant.pasted ∙ ap (paste a.buf.now a.at (bytes a.width a.n)) done
     ∙ paste_all a.buf.now a.at (bytes a.width a.n)
 

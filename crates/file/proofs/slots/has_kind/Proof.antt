@@ -8,8 +8,8 @@ use native.Mathlib.Omega.{arith}
 use borrow.Author.Rules.{rules}
 use Rattle.base.proofs.Known.{known}
 use Rattle.base.specs.Lists.{any}
-use Rattle.base.proofs.Sums.{any-empty, any-on, any_some}
-use Rattle.file.specs.Inner.Reading.{kind_at, isKind}
+use Rattle.base.proofs.Sums.{any_empty, any_on, any_some}
+use Rattle.file.specs.Inner.Reading.{kind_at, is_kind}
 use Rattle.file.proofs.slots.has_kind.Statement.{statement}
 use Rattle.file.proofs.slots.has_kind.Tie as tie
 
@@ -31,13 +31,13 @@ at-loop c = c.before.before.before
 -- ---- Needs
 
 loop-holds : tie.Need-loop-init invariant-loop decreases-loop
-loop-holds c = record { inside = search rules; none = any-empty _ _ }
+loop-holds c = record { inside = search rules; none = any_empty _ _ }
 
 returns : tie.Need-returns invariant-loop decreases-loop
 returns c =
     let args = (at-loop c.before).before.before.args in
     let loop = (at-loop c.before).loop in
-    let is-kind = ap (isKind args.kind) (sym c.before.before.slot-at.ensures) ∙ sym c.before.is-kind.ensures in
+    let is-kind = ap (is_kind args.kind) (sym c.before.before.slot_at_lem.ensures) ∙ sym c.before.is-kind.ensures in
     sym (any_some (kind_at args.file.now args.kind) args.a args.k (args.a + loop.i) (omega arith) (omega arith)
     (is-kind ∙ c.if1.true))
 
@@ -45,10 +45,10 @@ loop-again : tie.Need-loop-preserved invariant-loop decreases-loop
 loop-again c =
     let args = (at-loop c.before).before.before.args in
     let loop = (at-loop c.before).loop in
-    let is-kind = ap (isKind args.kind) (sym c.before.before.slot-at.ensures) ∙ sym c.before.is-kind.ensures in
+    let is-kind = ap (is_kind args.kind) (sym c.before.before.slot_at_lem.ensures) ∙ sym c.before.is-kind.ensures in
     record {
       inside = search rules;
-      none = any-on (kind_at args.file.now args.kind) args.a loop.i loop.inv.none (is-kind ∙ c.if1.false);
+      none = any_on (kind_at args.file.now args.kind) args.a loop.i loop.inv.none (is-kind ∙ c.if1.false);
     }
 
 returns-2 : tie.Need-returns-2 invariant-loop decreases-loop

@@ -1,12 +1,12 @@
 -- `file::slots::slot_at` meets its contract.
 use borrow.Author.Rules.{rules}
 use Rattle.base.proofs.Known.{known}
-use Rattle.file.proofs.Offsets.{slot-at}
+use Rattle.file.proofs.Offsets.{slot_at_lem}
 use Rattle.file.proofs.slots.slot_at.Statement.{statement}
 use Rattle.file.proofs.slots.slot_at.Tie as tie
 
 returns : tie.Need-returns
-returns c = rw (slot-at _ _, c.before.before.number.ensures.0)
+returns c = rw (slot_at_lem _ _, c.before.before.number.ensures.0)
 
 pub slot-at-spec : {M : Type 1} → statement M
 slot-at-spec =

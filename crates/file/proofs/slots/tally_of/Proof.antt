@@ -5,15 +5,15 @@ use Prim.Native.Nat.{ℕ, ◌≤◌, ◌-◌, ◌*◌, ◌^◌}
 use native.Mathlib.Omega.{arith}
 use borrow.Author.Rules.{rules}
 use Rattle.file.specs.declared.slots.Tally.{Tally}
-use Rattle.file.specs.Inner.Reading.{talliedWith, talliedIn}
-use Rattle.file.proofs.Tallies.{tallied-none, tallied-on}
+use Rattle.file.specs.Inner.Reading.{tallied_with, tallied_in}
+use Rattle.file.proofs.Tallies.{tallied_none, tallied_on}
 use Rattle.file.proofs.slots.tally_of.Statement.{statement}
 use Rattle.file.proofs.slots.tally_of.Tie as tie
 
 record Held (file : List ℕ) (a k : ℕ) (found : Tally) (i : ℕ) : Type 0 where
   inside : i ≤ k
   low : found.sum ≤ 2 ^ 32 * i
-  tallied : found ≡ talliedIn file a i
+  tallied : found ≡ tallied_in file a i
 
 abbrev invariant-loop : tie.invariant-loop
 invariant-loop file a k found₀ i₀ found i = Held file a k found i
@@ -22,7 +22,7 @@ abbrev decreases-loop : tie.decreases-loop
 decreases-loop file a k found₀ i₀ found i = k - i
 
 loop-holds : tie.Need-loop-init invariant-loop decreases-loop
-loop-holds c = record { inside = search rules; low = omega arith; tallied = tallied-none _ _ }
+loop-holds c = record { inside = search rules; low = omega arith; tallied = tallied_none _ _ }
 
 loop-again : tie.Need-loop-preserved invariant-loop decreases-loop
 loop-again c =
@@ -31,14 +31,14 @@ loop-again c =
     record {
       inside = omega (arith, c.before.before.loop-test.true);
       low = rw e (omega (arith, held.low));
-      tallied = e ∙ ap₂ talliedWith held.tallied c.before.slot-at.ensures ∙ tallied-on _ _ c.before.before.before.loop.i;
+      tallied = e ∙ ap₂ tallied_with held.tallied c.before.slot_at_lem.ensures ∙ tallied_on _ _ c.before.before.before.loop.i;
     }
 
 returns : tie.Need-returns invariant-loop decreases-loop
 returns c =
     let held = c.before.loop.invariant in
     let done : c.before.loop.i ≡ c.before.before.before.args.k = omega (arith, c.loop-test.false, held.inside) in
-    held.tallied ∙ ap (talliedIn c.before.before.before.args.file.now c.before.before.before.args.a) done
+    held.tallied ∙ ap (tallied_in c.before.before.before.args.file.now c.before.before.before.args.a) done
 
 pub tally-of-spec : {M : Type 1} → statement M
 tally-of-spec =

@@ -3,7 +3,7 @@ use Prim.Native.Nat.{◌+◌}
 use mathlib.Core.Path.{sym, ◌∙◌}
 use borrow.Author.Rules.{rules}
 use Rattle.base.proofs.Known.{known}
-use Rattle.file.proofs.Tallies.{tallied-kindless}
+use Rattle.file.proofs.Tallies.{tallied_kindless}
 use Rattle.file.proofs.slots.tally_with.Statement.{statement}
 use Rattle.file.proofs.slots.tally_with.Tie as tie
 
@@ -18,7 +18,7 @@ before c = c.before.before.before
 returns : tie.Need-returns
 returns c =
     let args = (before c.before).args in
-    tallied-kindless args.slot (sym c.before.is-kindless.ensures ∙ c.if1.true) args.found
+    tallied_kindless args.slot (sym c.before.is-kindless.ensures ∙ c.if1.true) args.found
 
 returns-2 : tie.Need-returns-2
 returns-2 c = λ k. let args = (before (after-is-kindless c)).args in record {

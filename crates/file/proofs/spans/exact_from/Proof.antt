@@ -1,7 +1,7 @@
 -- `file::spans::exact_from` meets its contract.
 use borrow.Author.Rules.{rules}
 use Rattle.base.proofs.Known.{known}
-use Rattle.file.proofs.Offsets.{exact-at}
+use Rattle.file.proofs.Offsets.{exact_at}
 use Rattle.file.proofs.spans.exact_from.Statement.{statement}
 use Rattle.file.proofs.spans.exact_from.Tie as tie
 
@@ -15,7 +15,7 @@ after-number c = c.before.before.before.before
 returns : tie.Need-returns
 returns c =
     simp (
-      exact-at,
+      exact_at,
       (after-number c).number.ensures.0,
       c.before.before.before.number2.ensures.0,
       c.before.before.number3.ensures.0,

@@ -1,10 +1,10 @@
--- `file::spans::outside_ok` meets its contract.
+-- `file::spans::outside_ok_lem` meets its contract.
 use Prim.Native.Nat.{ℕ, ◌-◌, ◌<◌}
 use native.Mathlib.Omega.{arith}
 use borrow.Author.Rules.{rules}
 use Rattle.base.proofs.Known.{known}
-use Rattle.file.specs.Reader.{tablesAt}
-use Rattle.file.proofs.Outside.{no-spans, edge-fails, edge-passes}
+use Rattle.file.specs.Reader.{tables_at}
+use Rattle.file.proofs.Outside.{no_spans, edge_fails, edge_passes}
 use Rattle.file.proofs.Inside.{inside, Inside}
 use Rattle.file.proofs.spans.outside_ok.Statement.{statement}
 use Rattle.file.proofs.spans.outside_ok.Tie as tie
@@ -35,7 +35,7 @@ returns c =
     let args = (start c).args in
     let pre = (start c).requires in
     let slot-count = c.before.before.before.slot-count in
-    rw (c.has-kind.ensures, slot-count.ensures.0) (no-spans (tablesAt args.file.now args.g) pre.1 c.before.if1.true)
+    rw (c.has-kind.ensures, slot-count.ensures.0) (no_spans (tables_at args.file.now args.g) pre.1 c.before.if1.true)
 
 mul-start : tie.Need-overflow-mul-start
 mul-start c =
@@ -58,7 +58,7 @@ returns-2 c =
     let if1 = (after-per-day c.before).before.if1 in
     let per-day = (after-per-day c.before).per-day in
     let span-at = c.before.before.before.span-at in
-    edge-fails (tablesAt args.file.now args.g) pre.1 (args.g.spans - 1)
+    edge_fails (tables_at args.file.now args.g) pre.1 (args.g.spans - 1)
     (omega (arith, if1.left)) (rw (c.before.has-kind2.ensures, span-at.ensures, per-day.ensures.0) at
     c.if2.true)
 
@@ -110,7 +110,7 @@ returns-3 c =
     let if2 = c.before.before.before.if2 in
     let span-at2 = c.before.before.span-at2 in
     simp (c.has-kind3.ensures, span-at2.ensures, per-day.ensures.0, slot-count.ensures.0)
-    (edge-passes (tablesAt args.file.now args.g) pre.1 (args.g.spans - 1)
+    (edge_passes (tables_at args.file.now args.g) pre.1 (args.g.spans - 1)
     (omega (arith, if1.left)) (simp (has-kind2.ensures, span-at.ensures, per-day.ensures.0) at if2.false))
 
 pub outside-ok-spec : {M : Type 1} → statement M

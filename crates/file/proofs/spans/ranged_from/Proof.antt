@@ -1,7 +1,7 @@
 -- `file::spans::ranged_from` meets its contract.
 use borrow.Author.Rules.{rules}
 use Rattle.base.proofs.Known.{known}
-use Rattle.file.proofs.Offsets.{ranged-at}
+use Rattle.file.proofs.Offsets.{ranged_at}
 use Rattle.file.proofs.spans.ranged_from.Statement.{statement}
 use Rattle.file.proofs.spans.ranged_from.Tie as tie
 
@@ -15,7 +15,7 @@ after-number2 c = c.before.before.before.before
 returns : tie.Need-returns
 returns c =
     simp (
-      ranged-at,
+      ranged_at,
       (after-number2 c).before.number.ensures.0,
       (after-number2 c).number2.ensures.0,
       c.before.before.before.number3.ensures.0,

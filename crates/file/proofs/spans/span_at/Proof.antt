@@ -5,7 +5,7 @@ use native.Mathlib.Omega.{arith}
 use borrow.Author.Tests.{eq-eqb, ne_eqb}
 use borrow.Author.Rules.{rules}
 use Rattle.base.proofs.Known.{known}
-use Rattle.file.proofs.SpanRecords.{record-in}
+use Rattle.file.proofs.SpanRecords.{record_in}
 use Rattle.file.proofs.spans.span_at.Statement.{statement}
 use Rattle.file.proofs.spans.span_at.Tie as tie
 
@@ -20,7 +20,7 @@ ranged-from-requires : tie.Need-ranged-from-requires
 ranged-from-requires c κs =
     let begun = start c.before in
     let a = begun.args in
-    let room = record-in a.file.now a.g begun.pre.0 true (eq-eqb a.g.layout 3 c.if1.true) a.j begun.pre.1 in
+    let room = record_in a.file.now a.g begun.pre.0 true (eq-eqb a.g.layout 3 c.if1.true) a.j begun.pre.1 in
     omega (arith, room, c.before.before.slot-count.ensures.0)
 
 returns : tie.Need-returns
@@ -35,7 +35,7 @@ exact-from-requires : tie.Need-exact-from-requires
 exact-from-requires c κs =
     let begun = start c.before in
     let a = begun.args in
-    let room = record-in a.file.now a.g begun.pre.0 false (ne_eqb a.g.layout 3 c.if1.false) a.j begun.pre.1 in
+    let room = record_in a.file.now a.g begun.pre.0 false (ne_eqb a.g.layout 3 c.if1.false) a.j begun.pre.1 in
     omega (arith, room, c.before.before.slot-count.ensures.0)
 
 returns-2 : tie.Need-returns-2

@@ -2,7 +2,7 @@
 use mathlib.Core.Path.{sym, ◌∙◌}
 use Rattle.base.proofs.Known.{known}
 use borrow.Author.Tests.{lt-ltb, le-ltb, le-leb, lt-leb, not-true, not-false}
-use Rattle.file.specs.Reader.{spanOk}
+use Rattle.file.specs.Reader.{span_ok}
 use Rattle.file.proofs.spans.span_ok.Statement.{statement}
 use Rattle.file.proofs.spans.span_ok.Tie as tie
 
@@ -17,11 +17,11 @@ passed1-follows c = c.before.before.before.before
 -- ---- Needs
 
 returns : tie.Need-returns
-unfolding spanOk
+unfolding span_ok
 returns c = simp (le-ltb _ _ (rw c.before.before.span-at.ensures at c.if1.true))
 
 returns-2 : tie.Need-returns-2
-unfolding spanOk
+unfolding span_ok
 returns-2 c =
     simp (
       lt-ltb _ _ (rw (passed1 c).before.before.span-at.ensures at c.before.before.before.if1.false),
@@ -29,7 +29,7 @@ returns-2 c =
     )
 
 returns-3 : tie.Need-returns-3
-unfolding spanOk
+unfolding span_ok
 returns-3 c =
     let past1 = passed1-follows c.before in
     simp (
@@ -39,7 +39,7 @@ returns-3 c =
     )
 
 returns-4 : tie.Need-returns-4
-unfolding spanOk
+unfolding span_ok
 returns-4 c =
     let past1 = passed1-follows c.before.before in
     simp (

@@ -8,14 +8,14 @@ use borrow.Author.Rules.{rules}
 use Rattle.base.proofs.Known.{known}
 use borrow.Author.Tests.{not-true, not-false}
 use Rattle.base.specs.Lists.{all}
-use Rattle.base.proofs.Sums.{all_more, all-fails, all_done}
-use Rattle.file.specs.Reader.{tablesAt, spanOk}
+use Rattle.base.proofs.Sums.{all_more, all_fails, all_done}
+use Rattle.file.specs.Reader.{tables_at, span_ok}
 use Rattle.file.proofs.spans.spans_ok.Statement.{statement}
 use Rattle.file.proofs.spans.spans_ok.Tie as tie
 
 record Held (file : List ℕ) (g : Figures) (j : ℕ) : Type 0 where
   inside : j ≤ g.spans
-  known : all (spanOk (tablesAt file g)) 0 g.spans ≡ all (spanOk (tablesAt file g)) j (g.spans - j)
+  known : all (span_ok (tables_at file g)) 0 g.spans ≡ all (span_ok (tables_at file g)) j (g.spans - j)
 
 abbrev invariant-loop : tie.invariant-loop
 invariant-loop file g m j₀ j = Held file g j
@@ -38,7 +38,7 @@ returns c =
     let args = (start c.before.before.before).args in
     let loop = c.before.before.before.loop in
     let l = loop in
-    sym (l.invariant.known ∙ all-fails _ l.j args.g.spans (search rules)
+    sym (l.invariant.known ∙ all_fails _ l.j args.g.spans (search rules)
     (sym c.before.span-ok.ensures ∙ not-true _ c.if1.true))
 
 loop-again : tie.Need-loop-preserved invariant-loop decreases-loop

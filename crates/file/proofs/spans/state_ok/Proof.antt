@@ -4,9 +4,9 @@ use Prim.Native.Nat.{◌+◌, ◌≤◌}
 use native.Mathlib.Omega.{arith}
 use borrow.Author.Rules.{rules}
 use Rattle.base.proofs.Known.{known}
-use Rattle.file.specs.Reader.{tablesAt, start_of, slots_of, fileSlots, stateOk}
-use Rattle.file.specs.Inner.Reading.{talliedIn}
-use Rattle.file.proofs.States.{rule-same, range_same}
+use Rattle.file.specs.Reader.{tables_at, start_of, slots_of, file_slots, state_ok}
+use Rattle.file.specs.Inner.Reading.{tallied_in}
+use Rattle.file.proofs.States.{rule_same, range_same}
 use Rattle.file.proofs.Inside.{room, Room, ends, ordered}
 use Rattle.file.proofs.spans.state_ok.Statement.{statement}
 use Rattle.file.proofs.spans.state_ok.Tie as tie
@@ -21,9 +21,9 @@ after-per-day c = c.before.before.before.before.before
 
 -- the span's slots are among the file's
 inside : (s : tie.Start) → Room s.args.file.now s.args.g
-    × (start_of (tablesAt s.args.file.now s.args.g) s.args.j + slots_of (tablesAt s.args.file.now s.args.g) s.args.j
-    ≤ fileSlots s.args.g)
-inside s = (room _ _ s.requires.0, ends (tablesAt s.args.file.now s.args.g) s.args.j s.requires.2)
+    × (start_of (tables_at s.args.file.now s.args.g) s.args.j + slots_of (tables_at s.args.file.now s.args.g) s.args.j
+    ≤ file_slots s.args.g)
+inside s = (room _ _ s.requires.0, ends (tables_at s.args.file.now s.args.g) s.args.j s.requires.2)
 
 mul-a : tie.Need-overflow-mul-a
 mul-a c = rw (c.before.before.span-at.ensures, c.before.per-day.ensures.0) (omega (arith, inside (start c.before)))
@@ -32,7 +32,7 @@ sub-k : tie.Need-overflow-sub-k
 sub-k c =
     let begun = start c.before.before in
     rw c.before.before.before.span-at.ensures
-    (omega (arith, ordered (tablesAt begun.args.file.now begun.args.g) begun.args.j begun.pre.2))
+    (omega (arith, ordered (tables_at begun.args.file.now begun.args.g) begun.args.j begun.pre.2))
 
 mul-k : tie.Need-overflow-mul-k
 mul-k c =
@@ -45,12 +45,12 @@ tally-of-requires c κs =
     (omega (arith, inside (start c.before.before)))
 
 returns : tie.Need-returns
-unfolding stateOk talliedIn
+unfolding state_ok tallied_in
 returns c = let s = (after-per-day c).before.span-at.ensures in
     let n = (after-per-day c).per-day.ensures.0 in
     let e = simp (s, n) at c.before.before.tally-of.ensures in
     c.state-rule.ensures
-    ∙ rule-same (ap (λ x. x.state) s)
+    ∙ rule_same (ap (λ x. x.state) s)
     (ap (λ t. t.none) e) (ap (λ t. t.scaled) e) (ap (λ t. t.unscaled) e) (ap (λ t. t.substituted) e)
     (c.before.is_Within.ensures ∙ range_same (ap (λ x. x.lowest) s) (ap (λ t. t.sum) e) (ap (λ x. x.highest) s))
 

@@ -7,14 +7,14 @@ use native.Mathlib.Nat.{sub-zero}
 use borrow.Author.Rules.{rules}
 use borrow.Author.Tests.{not-true, not-false}
 use Rattle.base.specs.Lists.{all}
-use Rattle.base.proofs.Sums.{all_more, all-fails, all_done, all-at}
-use Rattle.file.specs.Reader.{tablesAt, stateOk}
+use Rattle.base.proofs.Sums.{all_more, all_fails, all_done, all_at}
+use Rattle.file.specs.Reader.{tables_at, state_ok}
 use Rattle.file.proofs.spans.states_ok.Statement.{statement}
 use Rattle.file.proofs.spans.states_ok.Tie as tie
 
 record Held (file : List ℕ) (g : Figures) (j : ℕ) : Type 0 where
   inside : j ≤ g.spans
-  known : all (stateOk (tablesAt file g)) 0 g.spans ≡ all (stateOk (tablesAt file g)) j (g.spans - j)
+  known : all (state_ok (tables_at file g)) 0 g.spans ≡ all (state_ok (tables_at file g)) j (g.spans - j)
 
 abbrev invariant-loop : tie.invariant-loop
 invariant-loop file g m j₀ j = Held file g j
@@ -36,14 +36,14 @@ state-ok-requires : tie.Need-state-ok-requires invariant-loop decreases-loop
 state-ok-requires c κs =
     let args = (start c.before).args in
     let pre = (start c.before).pre in
-    (pre.0, search rules, all-at _ args.g.spans pre.1 c.before.loop.j (search rules))
+    (pre.0, search rules, all_at _ args.g.spans pre.1 c.before.loop.j (search rules))
 
 returns : tie.Need-returns invariant-loop decreases-loop
 returns c =
     let args = (start c.before.before.before).args in
     let loop = c.before.before.before.loop in
     let l = loop in
-    sym (l.invariant.known ∙ all-fails _ l.j args.g.spans (search rules)
+    sym (l.invariant.known ∙ all_fails _ l.j args.g.spans (search rules)
     (sym c.before.state-ok.ensures ∙ not-true _ c.if1.true))
 
 loop-again : tie.Need-loop-preserved invariant-loop decreases-loop

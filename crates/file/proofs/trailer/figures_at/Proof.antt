@@ -4,7 +4,7 @@ use native.Mathlib.Omega.{arith}
 use borrow.Author.Rules.{rules}
 use Rattle.base.proofs.Known.{known}
 use lib.ListN.{length}
-use Rattle.file.proofs.Offsets.{figures-at}
+use Rattle.file.proofs.Offsets.{figures_at}
 use Rattle.file.proofs.trailer.figures_at.Statement.{statement}
 use Rattle.file.proofs.trailer.figures_at.Tie as tie
 
@@ -35,7 +35,7 @@ returns c =
     let number4 = (after-number4 c.before).number4 in
     let number5 = c.before.before.before.number5 in
     simp (
-      figures-at,
+      figures_at,
       number.ensures.0,
       number2.ensures.0,
       number3.ensures.0,

@@ -4,8 +4,8 @@ use mathlib.Core.Path.{sym, ◌∙◌}
 use borrow.Author.Tests.{le-leb, not-true, not-false}
 use borrow.Author.Rules.{rules}
 use Rattle.base.proofs.Known.{known}
-use Rattle.base.proofs.Logic.{tests-true, tests-false}
-use Rattle.file.specs.Reader.{trailerOk}
+use Rattle.base.proofs.Logic.{tests_true, tests_false}
+use Rattle.file.specs.Reader.{trailer_ok}
 use Rattle.file.proofs.trailer.trailer_ok.Statement.{statement}
 use Rattle.file.proofs.trailer.trailer_ok.Tie as tie
 
@@ -32,11 +32,11 @@ passed2-slot-count c = passed2-passed3 c.before
 -- ---- Needs
 
 returns : tie.Need-returns
-unfolding trailerOk
+unfolding trailer_ok
 returns c = simp (le-leb _ _ c.before.before.before.requires, sym c.before.head_ok.ensures ∙ not-true _ c.if1.true)
 
 returns-2 : tie.Need-returns-2
-unfolding trailerOk
+unfolding trailer_ok
 returns-2 c =
     let before = start c in
     let head_ok = c.before.before.before.head_ok in
@@ -48,34 +48,34 @@ returns-2 c =
     )
 
 returns-3 : tie.Need-returns-3
-unfolding trailerOk
+unfolding trailer_ok
 returns-3 c =
     let past2 = passed2 c in
     let head = sym past2.before.before.before.head_ok.ensures ∙ not-false _ past2.before.before.if1.left in
     let known = sym past2.before.is-layout.ensures ∙ not-false _ c.before.before.before.if2.false in
-    let back = c.before.span-bytes.ensures.0 in
+    let back = c.before.span_bytes_lem.ensures.0 in
     simp (
       le-leb _ _ (start-span-bytes c.before).pre,
       head,
       known,
-      tests-false c.before.before.number.ensures.0 (rw back at c.if3.true),
+      tests_false c.before.before.number.ensures.0 (rw back at c.if3.true),
     )
 
 slot-count-requires : tie.Need-slot-count-requires
 slot-count-requires c κs = sym (after-head-ok c).head_ok.ensures ∙ not-false _ (passed2-passed3 c).before.before.if1.false
 
 returns-4 : tie.Need-returns-4
-unfolding trailerOk
+unfolding trailer_ok
 returns-4 c =
     let past2 = passed2-slot-count c in
     let head = sym (after-head-ok c.before).head_ok.ensures ∙ not-false _ past2.before.before.if1.left in
     let known = sym past2.before.is-layout.ensures ∙ not-false _ past2.if2.left in
-    let back = c.before.before.span-bytes.ensures.0 in
+    let back = c.before.before.span_bytes_lem.ensures.0 in
     simp (
       le-leb _ _ (start-span-bytes c.before.before).pre,
       head,
       known,
-      tests-true c.before.before.before.number.ensures.0 (rw back at c.before.if3.false),
+      tests_true c.before.before.before.number.ensures.0 (rw back at c.before.if3.false),
       c.slot-count.ensures.0,
       back,
     )

@@ -1,8 +1,8 @@
 -- `file::writer::put_counts` meets its contract.
 use borrow.Author.Rules.{rules}
 use Rattle.base.proofs.Known.{known}
-use Rattle.file.specs.Layout.{spanTableBytes}
-use Rattle.file.proofs.Written.{row-five}
+use Rattle.file.specs.Layout.{span_table_bytes}
+use Rattle.file.proofs.Written.{row_five}
 use Rattle.file.proofs.writer.put_counts.Statement.{statement}
 use Rattle.file.proofs.writer.put_counts.Tie as tie
 
@@ -32,12 +32,12 @@ returns c =
     let at-put2 = after-put2 at-put3 in
     let s = start (after-put at-put2) in
     let a = s.args in
-    row-five a.buf.now _ _ _ _ _ a.at 4 4 4 8 4 a.g.actual a.g.substituted a.g.none a.g.sum (spanTableBytes a.g)
+    row_five a.buf.now _ _ _ _ _ a.at 4 4 4 8 4 a.g.actual a.g.substituted a.g.none a.g.sum (span_table_bytes a.g)
     (after-put at-put2).put.ensures
     at-put2.put2.ensures
     at-put3.put3.ensures
     at-put4.put4.ensures
-    (rw c.before.before.before.span-bytes.ensures.0 at c.before.before.put5.ensures)
+    (rw c.before.before.before.span_bytes_lem.ensures.0 at c.before.before.put5.ensures)
     s.pre
 
 pub put-counts-spec : {M : Type 1} → statement M

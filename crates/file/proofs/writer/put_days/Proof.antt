@@ -5,7 +5,7 @@ use native.Mathlib.Omega.{arith}
 use lib.ListN.{take}
 use borrow.Author.Rules.{rules}
 use Rattle.base.proofs.Known.{known}
-use Rattle.file.specs.Layout.{trailerRow}
+use Rattle.file.specs.Layout.{trailer_row}
 use Rattle.file.proofs.Written.{row_last, row_next}
 use Rattle.file.proofs.writer.put_days.Statement.{statement}
 use Rattle.file.proofs.writer.put_days.Tie as tie
@@ -30,7 +30,7 @@ returns c =
     let put = (after-put at-put2).put in
     let put2 = at-put2.put2 in
     let put3 = c.before.before.put3 in
-    let row = trailerRow a.g in
+    let row = trailer_row a.g in
     let r1 = put.ensures ∙ row_last a.buf.now a.at 2 a.g.first in
     let r2 = row_next a.buf.now _ _ a.at (a.at + 2) 2 a.g.days (take 1 row) r1 put2.ensures (omega arith) (omega arith) in
     row_next a.buf.now _ _ a.at (a.at + 4) 1 a.g.interval (take 2 row) r2 put3.ensures (omega arith) (omega arith)

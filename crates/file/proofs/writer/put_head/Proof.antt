@@ -4,7 +4,7 @@ use native.Mathlib.Omega.{arith}
 use lib.ListN.{take}
 use borrow.Author.Rules.{rules}
 use Rattle.base.proofs.Known.{known}
-use Rattle.file.specs.Layout.{trailerRow}
+use Rattle.file.specs.Layout.{trailer_row}
 use Rattle.file.proofs.Written.{row_next}
 use Rattle.file.proofs.writer.put_head.Statement.{statement}
 use Rattle.file.proofs.writer.put_head.Tie as tie
@@ -26,7 +26,7 @@ returns c =
     let put-days = (after-put-days at-put).put-days in
     let put = at-put.put in
     let put2 = c.before.before.put2 in
-    let row = trailerRow a.g in
+    let row = trailer_row a.g in
     let r4 = row_next a.buf.now _ _ a.at (a.at + 5) 1 a.g.layout (take 3 row) put-days.ensures put.ensures (omega arith)
     (omega arith) in
     row_next a.buf.now _ _ a.at (a.at + 6) 2 a.g.spans (take 4 row) r4 put2.ensures (omega arith) (omega arith)

@@ -5,7 +5,7 @@ use Prim.Native.Nat.{◌+◌}
 use native.Mathlib.Omega.{arith}
 use lib.ListN.{take}
 use borrow.Author.Rules.{rules}
-use Rattle.file.specs.Layout.{spanRow}
+use Rattle.file.specs.Layout.{span_row}
 use Rattle.file.proofs.Written.{row_last, row_next}
 use Rattle.file.proofs.writer.put_range.Statement.{statement}
 use Rattle.file.proofs.writer.put_range.Tie as tie
@@ -31,7 +31,7 @@ returns c =
     let at-put3 = after-put3 c.before in
     let at-put2 = after-put2 at-put3 in
     let a = (start (after-put at-put2)).args in
-    let row = spanRow true a.span in
+    let row = span_row true a.span in
     let r1 = (after-put at-put2).put.ensures ∙ row_last a.buf.now a.at 2 a.span.first in
     let r2 = row_next a.buf.now _ _ a.at (a.at + 2) 2 a.span.last (take 1 row) r1 at-put2.put2.ensures (omega arith)
     (omega arith) in

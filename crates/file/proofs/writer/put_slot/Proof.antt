@@ -6,7 +6,7 @@ use lib.ListN.{take}
 use borrow.Author.Rules.{rules}
 use Rattle.base.proofs.Known.{known}
 use Rattle.file.specs.Inner.Writing.{written}
-use Rattle.file.specs.Layout.{letter, bytes, slotRow}
+use Rattle.file.specs.Layout.{letter, bytes, slot_row}
 use Rattle.file.proofs.Written.{row_last, row_next}
 use Rattle.file.proofs.writer.put_slot.Statement.{statement}
 use Rattle.file.proofs.writer.put_slot.Tie as tie
@@ -34,7 +34,7 @@ returns c =
     let put3 = c.before.before.put3 in
     let a = before.args in
     let fits = before.pre in
-    let row = slotRow a.slot in
+    let row = slot_row a.slot in
     let r1 = put.ensures ∙ row_last a.buf.now a.at 4 a.slot.value in
     let second = put2.ensures ∙ ap (λ (x : ℕ). written put.last.0 (a.at + 4) (bytes 1 x)) letter-of.ensures in
     let r2 = row_next a.buf.now _ _ a.at (a.at + 4) 1 (letter a.slot.quality) (take 1 row) r1 second (omega arith)

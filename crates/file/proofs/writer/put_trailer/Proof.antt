@@ -5,7 +5,7 @@ use native.Mathlib.Omega.{arith}
 use lib.ListN.{take, drop}
 use borrow.Author.Rules.{rules}
 use Rattle.base.proofs.Known.{known}
-use Rattle.file.specs.Layout.{trailerRow}
+use Rattle.file.specs.Layout.{trailer_row}
 use Rattle.file.proofs.Written.{rows}
 use Rattle.file.proofs.writer.put_trailer.Statement.{statement}
 use Rattle.file.proofs.writer.put_trailer.Tie as tie
@@ -23,7 +23,7 @@ returns c =
     let put-head = (after-put-head c.before).put-head in
     let put-counts = c.before.before.put-counts in
     let a = before.args in
-    let row = trailerRow a.g in
+    let row = trailer_row a.g in
     put-counts.ensures ∙ rows a.buf.now put-head.last.0 a.at (a.at + 8) (take 5 row) (drop 5 row) put-head.ensures
     (omega arith) (search rules)
 

@@ -5,7 +5,7 @@ use Prim.Native.Nat.{ℕ}
 use native.Mathlib.Omega.{arith}
 use lib.ListN.{length, set, length-set}
 use borrow.Author.Tests.{eq-eqb, ne_eqb}
-use Rattle.host.specs.Codes.{readAnswer, readAfter}
+use Rattle.host.specs.Codes.{read_answer, read_after}
 use borrow.Author.Rules.{rules}
 use Rattle.base.proofs.Known.{known}
 use Rattle.host.proofs.files.sawmauve_read.Statement.{statement}
@@ -39,7 +39,7 @@ nine (x0 ∷ x1 ∷ x2 ∷ x3 ∷ x4 ∷ x5 ∷ x6 ∷ x7 ∷ x8 ∷ []) l = ref
 nine (x0 ∷ x1 ∷ x2 ∷ x3 ∷ x4 ∷ x5 ∷ x6 ∷ x7 ∷ x8 ∷ y ∷ ys) l = absurd (omega arith)
 
 returns : tie.Need-returns
-unfolding readAnswer readAfter
+unfolding read_answer read_after
 returns c = rw (ne_eqb _ _ c.if1.true) (refl, refl)
 
 slice-write-figures-3 : tie.Need-slice-write-figures-3
@@ -67,7 +67,7 @@ same_length : tie.Need-same-length
 same_length c = simp length-set (omega arith)
 
 returns-2 : tie.Need-returns-2
-unfolding readAnswer readAfter
+unfolding read_answer read_after
 returns-2 c =
     let v = after-verdict c in
     let i = v.before.before.before in
@@ -75,7 +75,7 @@ returns-2 c =
     (refl, nine (start v).args.figures.now i.if1.left)
 
 returns-3 : tie.Need-returns-3
-unfolding readAnswer readAfter
+unfolding read_answer read_after
 returns-3 c =
     let v = c.before in
     rw (

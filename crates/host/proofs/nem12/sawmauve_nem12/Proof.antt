@@ -1,7 +1,7 @@
 -- `sawmauve_nem12`: the answer of the export as its code, and the buffer as it leaves it.
 use mathlib.Core.Path.{ap, ◌∙◌}
 use Rattle.base.proofs.Known.{known}
-use Rattle.host.specs.Market.{exportedCode}
+use Rattle.host.specs.Market.{exported_code}
 use Rattle.host.proofs.nem12.sawmauve_nem12.Statement.{statement}
 use Rattle.host.proofs.nem12.sawmauve_nem12.Tie as tie
 
@@ -16,7 +16,7 @@ returns : tie.Need-returns
 returns c =
     let o = c.before.before.before in
     let h = rw (after-codes-of c).codes-of.ensures at o.nem12.ensures in
-    (c.exported-code.ensures ∙ ap exportedCode h.0, h.1)
+    (c.exported-code.ensures ∙ ap exported_code h.0, h.1)
 
 pub sawmauve-nem12-spec : {M : Type 1} → statement M
 sawmauve-nem12-spec =

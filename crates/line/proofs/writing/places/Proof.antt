@@ -4,7 +4,7 @@ use Prim.Native.Nat.{ℕ, ◌≤◌, ◌-◌, ◌+◌}
 use native.Mathlib.Omega.{arith}
 use borrow.Author.Rules.{rules}
 use Rattle.line.specs.Line.{places}
-use Rattle.line.proofs.Digits.{places-small, places-more, places-last}
+use Rattle.line.proofs.Digits.{places_small, places_more, places_last}
 use Rattle.line.proofs.writing.places.Statement.{statement}
 use Rattle.line.proofs.writing.places.Tie as tie
 
@@ -23,7 +23,7 @@ loop-holds : tie.Need-loop-init invariant-loop decreases-loop
 loop-holds c = record { low = search rules; high = search rules; known = omega arith }
 
 returns : tie.Need-returns invariant-loop decreases-loop
-returns c = let l = c.before.before.loop in omega (arith, l.invariant.known, places-small (20 - l.k) l.rest (search rules))
+returns c = let l = c.before.before.loop in omega (arith, l.invariant.known, places_small (20 - l.k) l.rest (search rules))
 
 loop-again : tie.Need-loop-preserved invariant-loop decreases-loop
 loop-again c =
@@ -31,14 +31,14 @@ loop-again c =
     let l = loop in record {
       low = search rules;
       high = search rules;
-      known = omega (arith, l.invariant.known, places-more l.k l.rest (search rules) (search rules));
+      known = omega (arith, l.invariant.known, places_more l.k l.rest (search rules) (search rules));
     }
 
 returns-2 : tie.Need-returns-2 invariant-loop decreases-loop
 returns-2 c = let l = c.before.loop in
     let done : 20 - l.k ≡ 0 = omega arith in
     let all : places 19 c.before.before.args.n + 1 ≡ l.k + places 0 l.rest = rw done at l.invariant.known in
-    omega (arith, places-last l.rest)
+    omega (arith, places_last l.rest)
 
 pub places-spec : {M : Type 1} → statement M
 places-spec =

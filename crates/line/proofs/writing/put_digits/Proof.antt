@@ -9,7 +9,7 @@ use lib.ListN.{length}
 use Rattle.line.specs.Line.{digits}
 use Rattle.line.proofs.Digits.{length_digits}
 use Rattle.line.specs.Inner.Writing.{capped, stored}
-use Rattle.line.proofs.Putting.{length-stored, digits-less, digits-none}
+use Rattle.line.proofs.Putting.{length_stored, digits_less, digits_none}
 use Rattle.line.proofs.writing.put_digits.Statement.{statement}
 use Rattle.line.proofs.writing.put_digits.Tie as tie
 
@@ -42,14 +42,14 @@ loop-again c =
     record {
       inside = search rules;
       known =
-          digits-less _ looped.loop.out _ looped.before.before.args.at looped.loop.j looped.loop.rest (search rules)
+          digits_less _ looped.loop.out _ looped.before.before.args.at looped.loop.j looped.loop.rest (search rules)
           looped.loop.inv.known c.before.before.put_byte.ensures;
     }
 
 same_length : tie.Need-same-length invariant-loop decreases-loop
 same_length c =
     let l = c.before.before.loop in
-    sym (length-stored l.out (start c).args.at (digits l.j l.rest)) ∙ ap length l.invariant.known ∙ length-stored _ _ _
+    sym (length_stored l.out (start c).args.at (digits l.j l.rest)) ∙ ap length l.invariant.known ∙ length_stored _ _ _
 
 returns : tie.Need-returns invariant-loop decreases-loop
 returns c = let a = (start c).args in
@@ -59,7 +59,7 @@ returns c = let a = (start c).args in
       fits = search rules;
       next = c.ahead.ensures ∙ ap (λ n. capped (a.at + n)) (sym (length_digits a.width a.n));
       has =
-          sym (digits-none l.out a.at l.rest) ∙ ap (λ j. stored l.out a.at (digits j l.rest)) (sym done) ∙ l.invariant.known;
+          sym (digits_none l.out a.at l.rest) ∙ ap (λ j. stored l.out a.at (digits j l.rest)) (sym done) ∙ l.invariant.known;
     }
 
 pub put-digits-spec : {M : Type 1} → statement M

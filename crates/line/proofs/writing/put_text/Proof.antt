@@ -8,7 +8,7 @@ use native.Mathlib.Omega.{arith}
 use lib.ListN.{length, take}
 use lib.Seq.{take-length}
 use Rattle.line.specs.Inner.Writing.{stored}
-use Rattle.line.proofs.Putting.{length-stored, text-none, text-more}
+use Rattle.line.proofs.Putting.{length_stored, text_none, text_more}
 use Rattle.line.proofs.writing.put_text.Statement.{statement}
 use Rattle.line.proofs.writing.put_text.Tie as tie
 
@@ -36,7 +36,7 @@ loop-holds : tie.Need-loop-init invariant-loop decreases-loop
 loop-holds c =
     record {
       inside = search rules;
-      known = text-none c.before.before.args.out.now c.before.before.args.at c.before.before.args.text.now;
+      known = text_none c.before.before.args.out.now c.before.before.args.at c.before.before.args.text.now;
     }
 
 loop-again : tie.Need-loop-preserved invariant-loop decreases-loop
@@ -45,12 +45,12 @@ loop-again c =
     record {
       inside = search rules;
       known =
-          text-more _ looped.loop.out _ looped.before.before.before.args.text.now looped.before.before.before.args.at
+          text_more _ looped.loop.out _ looped.before.before.before.args.text.now looped.before.before.before.args.at
           looped.loop.i (search rules) looped.loop.inv.known c.before.before.put_byte.ensures;
     }
 
 same_length : tie.Need-same-length invariant-loop decreases-loop
-same_length c = ap length c.before.before.loop.invariant.known ∙ length-stored _ _ _
+same_length c = ap length c.before.before.loop.invariant.known ∙ length_stored _ _ _
 
 returns : tie.Need-returns invariant-loop decreases-loop
 returns c = let a = (start c).args in

@@ -4,19 +4,19 @@ use mathlib.Core.Path.{sym, ◌∙◌}
 use borrow.Author.Rules.{rules}
 use Rattle.base.proofs.Known.{known}
 use borrow.Author.Tests.{not-false}
-use Rattle.log.proofs.OnePass.{delivery-of}
+use Rattle.log.proofs.OnePass.{delivery_of_lem}
 use Rattle.log.proofs.deliveries.delivery_at.Statement.{statement}
 use Rattle.log.proofs.deliveries.delivery_at.Tie as tie
 
 returns : tie.Need-returns
-returns c = λ t. absurd (false≢true (sym c.no-delivery.ensures ∙ t))
+returns c = λ t. absurd (false≢true (sym c.no_delivery.ensures ∙ t))
 
 returns-2 : tie.Need-returns-2
 returns-2 c = λ t. absurd (false≢true (sym c.no-delivery2.ensures ∙ t))
 
 returns-3 : tie.Need-returns-3
 returns-3 c = λ t.
-    delivery-of _ _ _ (c.numbers-at.ensures t) (c.before.before.is-delivery.ensures (not-false _ c.before.if2.false))
+    delivery_of_lem _ _ _ (c.numbers-at.ensures t) (c.before.before.is_delivery.ensures (not-false _ c.before.if2.false))
 
 pub delivery-at-spec : {M : Type 1} → statement M
 delivery-at-spec =

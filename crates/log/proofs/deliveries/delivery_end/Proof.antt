@@ -3,7 +3,7 @@ use mathlib.Core.Path.{refl}
 use borrow.Author.Rules.{rules}
 use Rattle.base.proofs.Known.{known}
 use borrow.Author.Tests.{not-false}
-use Rattle.log.proofs.OnePass.{delivery-of}
+use Rattle.log.proofs.OnePass.{delivery_of_lem}
 use Rattle.log.proofs.deliveries.delivery_end.Statement.{statement}
 use Rattle.log.proofs.deliveries.delivery_end.Tie as tie
 
@@ -15,10 +15,10 @@ returns-2 c = λ some. absurd (some refl)
 
 returns-3 : tie.Need-returns-3
 returns-3 c = λ some.
-    let found = c.numbers-end.ensures some in
+    let found = c.numbers_end.ensures some in
     record {
       delivery = found.delivery;
-      line = delivery-of _ _ _ found.numbers (c.before.before.is-delivery.ensures (not-false _ c.before.if2.false));
+      line = delivery_of_lem _ _ _ found.numbers (c.before.before.is_delivery.ensures (not-false _ c.before.if2.false));
       ends = found.ends;
     }
 

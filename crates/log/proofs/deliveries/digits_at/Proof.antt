@@ -4,7 +4,7 @@ use Prim.Native.Nat.{◌+◌, ◌-◌, ◌≤◌}
 use native.Mathlib.Omega.{arith}
 use borrow.Author.Rules.{rules}
 use lib.ListN.{length}
-use Rattle.log.proofs.OnePass.{Few, few-begin, few-eight, few-next}
+use Rattle.log.proofs.OnePass.{Few, few_begin, few_eight, few_next}
 use Rattle.log.proofs.deliveries.digits_at.Statement.{statement}
 use Rattle.log.proofs.deliveries.digits_at.Tie as tie
 
@@ -30,7 +30,7 @@ room : (c : tie.Else2 invariant-loop decreases-loop) → (start (turn c)).args.f
 room c = (start (turn c)).pre
 
 loop-holds : tie.Need-loop-init invariant-loop decreases-loop
-loop-holds c = few-begin c.requires
+loop-holds c = few_begin c.requires
 
 returns : tie.Need-returns invariant-loop decreases-loop
 returns c = c.before.before.before.loop.invariant.digits
@@ -39,13 +39,13 @@ returns-2 : tie.Need-returns-2 invariant-loop decreases-loop
 returns-2 c = (at-loop c).loop.invariant.digits
 
 mul-value : tie.Need-overflow-mul-value invariant-loop decreases-loop
-mul-value c = omega (arith, few-eight (room c) (turn c).before.loop.invariant (turn c).loop-test.true)
+mul-value c = omega (arith, few_eight (room c) (turn c).before.loop.invariant (turn c).loop-test.true)
 
 add-value : tie.Need-overflow-add-value invariant-loop decreases-loop
-add-value c = omega (arith, few-eight (room c) (turn c).before.loop.invariant (turn c).loop-test.true, c.if2.false)
+add-value c = omega (arith, few_eight (room c) (turn c).before.loop.invariant (turn c).loop-test.true, c.if2.false)
 
 loop-again : tie.Need-loop-preserved invariant-loop decreases-loop
-loop-again c = few-next (room c) (turn c).before.loop.invariant (turn c).loop-test.true c.before.if1.false (omega (arith, c.if2.false))
+loop-again c = few_next (room c) (turn c).before.loop.invariant (turn c).loop-test.true c.before.if1.false (omega (arith, c.if2.false))
 
 returns-3 : tie.Need-returns-3 invariant-loop decreases-loop
 returns-3 c =

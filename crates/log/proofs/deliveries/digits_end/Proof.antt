@@ -5,7 +5,7 @@ use native.Mathlib.Omega.{arith}
 use borrow.Author.Rules.{rules}
 use lib.ListN.{length, take, drop}
 use Rattle.log.specs.Numbers.{value_of}
-use Rattle.log.proofs.OnePass.{Few, few-begin, few-next, few-to}
+use Rattle.log.proofs.OnePass.{Few, few_begin, few_next, few_to}
 use Rattle.log.proofs.deliveries.digits_end.Statement.{statement}
 use Rattle.log.proofs.deliveries.digits_end.Tie as tie
 
@@ -31,7 +31,7 @@ room : (c : tie.Else2 invariant-loop decreases-loop) → (start (turn c)).args.f
 room c = (start (turn c)).pre
 
 loop-holds : tie.Need-loop-init invariant-loop decreases-loop
-loop-holds c = few-to (few-begin c.requires)
+loop-holds c = few_to (few_begin c.requires)
 
 returns : tie.Need-returns invariant-loop decreases-loop
 returns c = c.before.before.before.loop.invariant.digits
@@ -41,7 +41,7 @@ returns-2 c = (at-loop c).loop.invariant.digits
 
 loop-again : tie.Need-loop-preserved invariant-loop decreases-loop
 loop-again c =
-    few-to (few-next (room c) (turn c).before.loop.invariant (turn c).loop-test.true c.before.if1.false (omega (arith, c.if2.false)))
+    few_to (few_next (room c) (turn c).before.loop.invariant (turn c).loop-test.true c.before.if1.false (omega (arith, c.if2.false)))
 
 returns-3 : tie.Need-returns-3 invariant-loop decreases-loop
 returns-3 c =

@@ -4,7 +4,7 @@ use mathlib.Core.Path.{sym}
 use borrow.Author.Rules.{rules}
 use Rattle.base.proofs.Known.{known}
 use borrow.Author.Tests.{eqb-true}
-use Rattle.log.proofs.Keyword.{keyword-stands}
+use Rattle.log.proofs.Keyword.{keyword_stands}
 use Rattle.log.proofs.deliveries.is_delivery.Statement.{statement}
 use Rattle.log.proofs.deliveries.is_delivery.Tie as tie
 
@@ -29,7 +29,7 @@ returns-3 c = λ t.
     let back = c.before in
     let deli = front back in
     let begun = start deli in
-    keyword-stands begun.args.bytes.now begun.args.at _ _ begun.pre deli.before.before.four-at.ensures
+    keyword_stands begun.args.bytes.now begun.args.at _ _ begun.pre deli.before.before.four-at.ensures
     (rw (sym deli.if1.left) at deli.before.joined.ensures) back.before.before.four-at2.ensures
     (rw (sym back.if2.false) at back.before.joined2.ensures) (eqb-true _ _ t)
 

@@ -24,12 +24,12 @@ from1 c = c.before.before.before.before
 
 -- the fields that were found
 slot-found : (c : tie.Else1)
-    → FieldAt (from1 c).args.bytes.now (from1 c).args.from 32 c.before.before.field-at.result.value
-    c.before.before.field-at.result.next
-slot-found c = c.before.before.field-at.ensures (not-false _ c.if1.false)
+    → FieldAt (from1 c).args.bytes.now (from1 c).args.from 32 c.before.before.field_at_lem.result.value
+    c.before.before.field_at_lem.result.next
+slot-found c = c.before.before.field_at_lem.ensures (not-false _ c.if1.false)
 
 version-found : (c : tie.Else2)
-    → FieldAt (from1 (from2 c)).args.bytes.now (from2 c).before.before.field-at.result.next 32
+    → FieldAt (from1 (from2 c)).args.bytes.now (from2 c).before.before.field_at_lem.result.next 32
     c.before.before.field-at2.result.value
     c.before.before.field-at2.result.next
 version-found c = c.before.before.field-at2.ensures (not-false _ c.if2.false)
@@ -45,7 +45,7 @@ status-found : (c : tie.Else4)
 status-found c = c.before.before.field-at4.ensures (not-false _ c.if4.false)
 
 returns : tie.Need-returns
-returns c = λ t. absurd (false≢true (sym c.no-delivery.ensures ∙ t))
+returns c = λ t. absurd (false≢true (sym c.no_delivery.ensures ∙ t))
 
 field-at-requires-2 : tie.Need-field-at-requires-2
 field-at-requires-2 c κs = omega (arith, (slot-found c).near, (from1 c).requires)

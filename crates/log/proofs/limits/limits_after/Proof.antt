@@ -6,16 +6,16 @@ use mathlib.Core.Path.{sym, ◌∙◌}
 use Prim.Native.Nat.{ℕ, ◌≤◌, ◌-◌}
 use native.Mathlib.Omega.{arith}
 use lib.ListN.{length}
-use Rattle.log.specs.Inner.Parsing.{piecesAfter}
+use Rattle.log.specs.Inner.Parsing.{pieces_after}
 use Rattle.log.proofs.Splitting.{pieces}
-use Rattle.log.proofs.Fields.{no_words, more-words}
-use Rattle.log.proofs.Tables.{Passed, none_passed, passed-too-many, passed-not, passed-next, passed-all}
+use Rattle.log.proofs.Fields.{no_words, more_words}
+use Rattle.log.proofs.Tables.{Passed, none_passed, passed_too_many, passed_not, passed_next, passed_all}
 use Rattle.log.proofs.limits.limits_after.Statement.{statement}
 use Rattle.log.proofs.limits.limits_after.Tie as tie
 
 record Held (line : List ℕ) (end : ℕ) (values : List ℕ) (count at : ℕ) : Type 0 where
   inside : at ≤ length line
-  passed : Passed (piecesAfter 32 line end) (piecesAfter 32 line at) values count
+  passed : Passed (pieces_after 32 line end) (pieces_after 32 line at) values count
 
 abbrev invariant-loop : tie.invariant-loop
 invariant-loop line end values₀ count₀ at₀ values count at = Held line end values count at
@@ -44,14 +44,14 @@ loop-holds c = record { inside = search rules; passed = none_passed _ }
 
 returns : tie.Need-returns invariant-loop decreases-loop
 returns c =
-    c.none.ensures ∙ passed-too-many _ (start c).args.line.now _ c.before.before.before.loop.at _
+    c.none.ensures ∙ passed_too_many _ (start c).args.line.now _ c.before.before.before.loop.at _
     c.before.before.loop-test.true c.before.before.before.loop.invariant.passed c.before.if1.true
 
 returns-2 : tie.Need-returns-2 invariant-loop decreases-loop
 returns-2 c =
     let at_end_of = after-end-of-none2 c in
-    c.none2.ensures ∙ passed-not _ _ _ _ _ _ at_end_of.before.before.before.loop.inv.passed
-    (more-words (start-number-of c.before.before.before).args.line.now at_end_of.before.before.before.loop.at
+    c.none2.ensures ∙ passed_not _ _ _ _ _ _ at_end_of.before.before.before.loop.inv.passed
+    (more_words (start-number-of c.before.before.before).args.line.now at_end_of.before.before.before.loop.at
     at_end_of.before.before.loop-test.taken
     ∙ pieces 32 _ _ at_end_of.end_of_lem.result at_end_of.end_of_lem.ensures.2) (sym c.before.before.before.number_of_lem.ensures
     ∙ c.before.enum_told.given.1)
@@ -72,8 +72,8 @@ loop-again c =
     record {
       inside = at_end_of.end_of_lem.ensures.1;
       passed =
-          passed-next _ _ _ _ _ _ at_end_of.before.before.before.loop.inv.passed
-          (more-words (start-number-of c.before.before.before).args.line.now at_end_of.before.before.before.loop.at
+          passed_next _ _ _ _ _ _ at_end_of.before.before.before.loop.inv.passed
+          (more_words (start-number-of c.before.before.before).args.line.now at_end_of.before.before.before.loop.at
           at_end_of.before.before.loop-test.taken
           ∙ pieces 32 _ _ at_end_of.end_of_lem.result at_end_of.end_of_lem.ensures.2) at_end_of.before.if1.left _ (sym
           c.before.before.before.number_of_lem.ensures ∙ c.before.value.given.1);
@@ -81,7 +81,7 @@ loop-again c =
 
 returns-3 : tie.Need-returns-3 invariant-loop decreases-loop
 returns-3 c =
-    passed-all _ _ _ _ c.before.loop.invariant.passed
+    passed_all _ _ _ _ c.before.loop.invariant.passed
     (no_words c.before.before.before.args.line.now c.before.loop.at c.loop-test.false)
 
 pub limits-after-spec : {M : Type 1} → statement M

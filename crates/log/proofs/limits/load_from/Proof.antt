@@ -4,7 +4,7 @@ use native.Mathlib.Omega.{arith}
 use Prim.Native.Nat.{◌≤◌}
 use lib.ListN.{length}
 use lib.Seq.{length-take-le, take_all}
-use Rattle.rules.specs.Limits.{loadAnswer}
+use Rattle.rules.specs.Limits.{load_answer}
 use borrow.Author.Rules.{rules}
 use Rattle.base.proofs.Known.{known}
 use Rattle.log.proofs.limits.load_from.Statement.{statement}
@@ -22,7 +22,7 @@ returns c =
     let begun = start c in
     let room : length begun.args.limits.values ≡ 24 = search rules in
     let long : length begun.args.limits.values ≤ begun.args.limits.count = omega (arith, room, c.before.before.if1.true) in
-    c.load.ensures ∙ ap (λ x. loadAnswer x begun.args.kind)
+    c.load.ensures ∙ ap (λ x. load_answer x begun.args.kind)
     (sym (take_all begun.args.limits.count begun.args.limits.values long))
 
 array-share-prefix-values : tie.Need-array-share-prefix-values

@@ -2,7 +2,7 @@
 use mathlib.Core.Path.{sym, ◌∙◌}
 use lib.Seq.{length-take-le}
 use Rattle.log.proofs.Splitting.{pieces}
-use Rattle.log.proofs.Calls.{first_word, call-open, call-delivery, call-holiday, call-register, call-agreed, call_none}
+use Rattle.log.proofs.Calls.{first_word, call_open, call-delivery, call-holiday, call-register, call-agreed, call_none}
 use Rattle.base.proofs.Known.{known}
 use Rattle.log.proofs.line.call_of.Statement.{statement}
 use Rattle.log.proofs.line.call_of.Tie as tie
@@ -57,7 +57,7 @@ returns : tie.Need-returns
 returns c =
     let at_end_of = after-end-of c.before.before in
     c.Open-after.ensures
-    ∙ call-open _ _ _ (first_word _ at_end_of.end_of_lem.result _
+    ∙ call_open _ _ _ (first_word _ at_end_of.end_of_lem.result _
     (pieces 32 _ _ at_end_of.end_of_lem.result at_end_of.end_of_lem.ensures.2)) (sym c.before.before.is_same.ensures
     ∙ c.before.if1.true)
 

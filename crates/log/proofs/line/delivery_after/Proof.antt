@@ -1,7 +1,7 @@
 -- `log::line::delivery_after` meets its contract.
 use mathlib.Core.Path.{sym, ◌∙◌}
 use borrow.Author.Tests.{not-true, not-false}
-use Rattle.log.proofs.Calls.{no-delivery, is-delivery}
+use Rattle.log.proofs.Calls.{no_delivery, is_delivery}
 use Rattle.base.proofs.Known.{known}
 use Rattle.log.proofs.line.delivery_after.Statement.{statement}
 use Rattle.log.proofs.line.delivery_after.Tie as tie
@@ -14,13 +14,13 @@ passed1 c = c.before.before.before.before
 -- ---- Needs
 
 returns : tie.Need-returns
-returns c = no-delivery _ (sym c.before.values-after.ensures.0 ∙ not-true _ c.if1.true)
+returns c = no_delivery _ (sym c.before.values-after.ensures.0 ∙ not-true _ c.if1.true)
 
 returns-2 : tie.Need-returns-2
 returns-2 c =
     let e = (passed1 c).before in
     let good = not-false _ (passed1 c).if1.false in
-    is-delivery _ e.values-after.result.values (sym e.values-after.ensures.0 ∙ good) (e.values-after.ensures.1 good)
+    is_delivery _ e.values-after.result.values (sym e.values-after.ensures.0 ∙ good) (e.values-after.ensures.1 good)
 
 pub delivery-after-spec : {M : Type 1} → statement M
 delivery-after-spec =

@@ -2,7 +2,7 @@
 use mathlib.Core.Path.{sym, ◌∙◌}
 use native.Mathlib.Omega.{arith}
 use lib.Seq.{length-take-le}
-use Rattle.log.proofs.Calls.{line-empty, line-comment, line-long, line-call}
+use Rattle.log.proofs.Calls.{line_empty, line-comment, line-long, line-call}
 use borrow.Author.Rules.{rules}
 use Rattle.base.proofs.Known.{known}
 use Rattle.log.proofs.line.entry_of.Statement.{statement}
@@ -29,7 +29,7 @@ passed1-bare3 c = c.before.before.before.before
 
 returns : tie.Need-returns
 returns c =
-    c.bare.ensures ∙ line-empty (start c).args.bytes.now _ c.before.before.without-cr.ensures.0
+    c.bare.ensures ∙ line_empty (start c).args.bytes.now _ c.before.before.without-cr.ensures.0
     c.before.before.without-cr.ensures.1 c.before.if1.true
 
 returns-2 : tie.Need-returns-2

@@ -1,17 +1,17 @@
 -- `log::line::holiday_after` meets its contract.
 use mathlib.Core.Path.{sym, ◌∙◌}
 use borrow.Author.Tests.{not-true, not-false}
-use Rattle.log.proofs.Calls.{no-holiday, is-holiday}
+use Rattle.log.proofs.Calls.{no_holiday, is_holiday}
 use Rattle.base.proofs.Known.{known}
 use Rattle.log.proofs.line.holiday_after.Statement.{statement}
 use Rattle.log.proofs.line.holiday_after.Tie as tie
 
 returns : tie.Need-returns
-returns c = no-holiday _ (sym c.before.values-after.ensures.0 ∙ not-true _ c.if1.true)
+returns c = no_holiday _ (sym c.before.values-after.ensures.0 ∙ not-true _ c.if1.true)
 
 returns-2 : tie.Need-returns-2
 returns-2 c =
-    is-holiday _ c.before.before.values-after.result.values
+    is_holiday _ c.before.before.values-after.result.values
     (sym c.before.before.values-after.ensures.0 ∙ not-false _ c.before.if1.false)
     (c.before.before.values-after.ensures.1 (not-false _ c.before.if1.false))
 

@@ -2,8 +2,8 @@
 use mathlib.Core.Path.{sym, ◌∙◌}
 use borrow.Author.Tests.{not-true, not-false}
 use Rattle.log.proofs.Splitting.{pieces}
-use Rattle.log.proofs.Fields.{no_words, more-words}
-use Rattle.log.proofs.Calls.{no_fields, no-date, no-open, is_open}
+use Rattle.log.proofs.Fields.{no_words, more_words}
+use Rattle.log.proofs.Calls.{no_fields, no_date, no-open, is_open}
 use borrow.Author.Rules.{rules}
 use Rattle.base.proofs.Known.{known}
 use Rattle.log.proofs.line.open_after.Statement.{statement}
@@ -34,7 +34,7 @@ returns c = no_fields _ (no_words c.before.before.args.line.now c.before.before.
 returns-2 : tie.Need-returns-2
 returns-2 c =
     let at_end_of = after-end-of c in
-    no-date _ _ _ (more-words at_end_of.before.before.before.args.line.now at_end_of.before.before.before.args.end
+    no_date _ _ _ (more_words at_end_of.before.before.before.args.line.now at_end_of.before.before.before.args.end
     at_end_of.before.if1.left
     ∙ pieces 32 _ _ at_end_of.end_of_lem.result at_end_of.end_of_lem.ensures.2) (sym c.before.before.date-of.ensures
     ∙ c.enum_told.given.1)
@@ -43,7 +43,7 @@ returns-3 : tie.Need-returns-3
 returns-3 c =
     let at-year = after-year c in
     let at_end_of = after-end-of-year at-year in
-    no-open _ _ _ (more-words at_end_of.before.before.before.args.line.now at_end_of.before.before.before.args.end
+    no-open _ _ _ (more_words at_end_of.before.before.before.args.line.now at_end_of.before.before.before.args.end
     at_end_of.before.if1.left
     ∙ pieces 32 _ _ at_end_of.end_of_lem.result at_end_of.end_of_lem.ensures.2) _ _ _ (sym at-year.before.before.date-of.ensures
     ∙ c.before.before.before.year.given.1) (sym c.before.values-after.ensures.0 ∙ not-true _ c.if2.true)
@@ -53,7 +53,7 @@ returns-4 c =
     let at-year = after-year-t28 c in
     let past2 = passed2 c in
     let at_end_of = after-end-of-year at-year in
-    is_open _ _ _ (more-words at_end_of.before.before.before.args.line.now at_end_of.before.before.before.args.end
+    is_open _ _ _ (more_words at_end_of.before.before.before.args.line.now at_end_of.before.before.before.args.end
     at_end_of.before.if1.left
     ∙ pieces 32 _ _ at_end_of.end_of_lem.result at_end_of.end_of_lem.ensures.2) _ _ _ (sym at-year.before.before.date-of.ensures
     ∙ at-year.year.given.1) past2.before.values-after.result.values (sym past2.before.values-after.ensures.0

@@ -1,7 +1,7 @@
 -- `log::line::register_after`: four numbers, or three.
 use mathlib.Core.Path.{sym, ◌∙◌}
 use borrow.Author.Tests.{not-true, not-false}
-use Rattle.log.proofs.Calls.{no-width, is-register}
+use Rattle.log.proofs.Calls.{no_width, is_register}
 use Rattle.base.proofs.Known.{known}
 use Rattle.log.proofs.line.register_after.Statement.{statement}
 use Rattle.log.proofs.line.register_after.Tie as tie
@@ -14,12 +14,12 @@ passed1 c = c.before.before.before.before
 -- ---- Needs
 
 returns : tie.Need-returns
-returns c = c.sharp-after.ensures ∙ no-width _ (sym c.before.before.values-after.ensures.0 ∙ not-true _ c.before.if1.true)
+returns c = c.sharp-after.ensures ∙ no_width _ (sym c.before.before.values-after.ensures.0 ∙ not-true _ c.before.if1.true)
 
 returns-2 : tie.Need-returns-2
 returns-2 c =
     let past1 = passed1 c in
-    is-register _ past1.before.values-after.result.values
+    is_register _ past1.before.values-after.result.values
     (sym past1.before.values-after.ensures.0 ∙ not-false _ past1.if1.left)
     (past1.before.values-after.ensures.1 (not-false _ past1.if1.left))
 

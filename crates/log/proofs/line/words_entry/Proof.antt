@@ -3,7 +3,7 @@ use mathlib.Core.Path.{sym, ap, ◌∙◌}
 use lib.Seq.{length-take-le}
 use Rattle.log.specs.Line.{bare}
 use Rattle.log.proofs.Splitting.{pieces}
-use Rattle.log.proofs.Calls.{first_word, entry-table, entry-bare}
+use Rattle.log.proofs.Calls.{first_word, entry_table, entry_bare}
 use Rattle.base.proofs.Known.{known}
 use Rattle.log.proofs.line.words_entry.Statement.{statement}
 use Rattle.log.proofs.line.words_entry.Tie as tie
@@ -22,7 +22,7 @@ returns : tie.Need-returns
 returns c =
     let at_end_of = after-end-of c.before.before in
     c.limits-entry.ensures
-    ∙ entry-table _ _ _ (first_word _ at_end_of.end_of_lem.result _
+    ∙ entry_table _ _ _ (first_word _ at_end_of.end_of_lem.result _
     (pieces 32 _ _ at_end_of.end_of_lem.result at_end_of.end_of_lem.ensures.2)) (sym c.before.before.is_same.ensures
     ∙ c.before.if1.true)
 
@@ -30,7 +30,7 @@ returns-2 : tie.Need-returns-2
 returns-2 c =
     let at_end_of = after-end-of c.before.before.before in
     c.bare.ensures ∙ ap bare c.before.call-of.ensures
-    ∙ entry-bare _ _ _ (first_word _ at_end_of.end_of_lem.result _
+    ∙ entry_bare _ _ _ (first_word _ at_end_of.end_of_lem.result _
     (pieces 32 _ _ at_end_of.end_of_lem.result at_end_of.end_of_lem.ensures.2)) (sym c.before.before.before.is_same.ensures
     ∙ c.before.before.if1.false)
 

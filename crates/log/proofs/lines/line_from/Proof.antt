@@ -1,12 +1,12 @@
 -- `lines::line_from`: a delivery in one pass, or the line cut out and read.
 use borrow.Author.Rules.{rules}
 use Rattle.base.proofs.Known.{known}
-use Rattle.log.proofs.OnePass.{delivery-found}
+use Rattle.log.proofs.OnePass.{delivery_found}
 use Rattle.log.proofs.lines.line_from.Statement.{statement}
 use Rattle.log.proofs.lines.line_from.Tie as tie
 
 returns : tie.Need-returns
-returns c = delivery-found _ _ c.before.delivery-at.result (c.before.delivery-at.ensures c.if1.true)
+returns c = delivery_found _ _ c.before.delivery-at.result (c.before.delivery-at.ensures c.if1.true)
 
 returns-2 : tie.Need-returns-2
 returns-2 c = c.read-from.ensures

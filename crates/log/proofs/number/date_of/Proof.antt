@@ -1,7 +1,7 @@
 -- `log::number::date_of` meets its contract.
 use mathlib.Core.Path.{sym, ◌∙◌}
 use lib.Seq.{length-take-le}
-use Rattle.log.proofs.Reading.{date-length, date-first, date-second, date-year, date-month, date-day, date-whole}
+use Rattle.log.proofs.Reading.{date_length, date_first, date-second, date-year, date-month, date-day, date-whole}
 use borrow.Author.Rules.{rules}
 use Rattle.base.proofs.Known.{known}
 use Rattle.log.proofs.number.date_of.Statement.{statement}
@@ -36,10 +36,10 @@ passed1-number-of3 c = (passed2 c).before.before
 -- ---- Needs
 
 returns : tie.Need-returns
-returns c = sym (date-length _ c.if1.true)
+returns c = sym (date_length _ c.if1.true)
 
 returns-2 : tie.Need-returns-2
-returns-2 c = sym (date-first _ c.before.before.if1.false c.if2.true)
+returns-2 c = sym (date_first _ c.before.before.if1.false c.if2.true)
 
 returns-3 : tie.Need-returns-3
 returns-3 c = sym (date-second _ (passed1 c.before).if1.false c.before.before.if2.false c.if3.true)

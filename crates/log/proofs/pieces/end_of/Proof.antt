@@ -7,7 +7,7 @@ use Prim.Native.Nat.{ℕ, ◌≤◌, ◌-◌}
 use native.Mathlib.Omega.{arith}
 use lib.ListN.{length, take, drop}
 use Rattle.log.specs.Words.{split}
-use Rattle.log.proofs.Splitting.{piece-begins, piece-goes-on, piece-ends, bytes-end}
+use Rattle.log.proofs.Splitting.{piece_begins, piece_goes_on, piece_ends, bytes_end}
 use Rattle.log.proofs.pieces.end_of.Statement.{statement}
 use Rattle.log.proofs.pieces.end_of.Tie as tie
 
@@ -32,7 +32,7 @@ start c = c.before.before.before
 
 loop-holds : tie.Need-loop-init invariant-loop decreases-loop
 loop-holds c =
-    record { low = search rules; inside = search rules; known = piece-begins c.args.separator c.args.bytes.now c.args.at }
+    record { low = search rules; inside = search rules; known = piece_begins c.args.separator c.args.bytes.now c.args.at }
 
 returns : tie.Need-returns invariant-loop decreases-loop
 returns c =
@@ -40,7 +40,7 @@ returns c =
       search rules,
       search rules,
       λ begun more. c.before.before.before.loop.invariant.known begun more
-          ∙ piece-ends begun-2.args.separator begun-2.args.bytes.now begun-2.args.at c.before.before.before.loop.i
+          ∙ piece_ends begun-2.args.separator begun-2.args.bytes.now begun-2.args.at c.before.before.before.loop.i
           (search rules) (search rules) c.if1.true begun more,
     )
 
@@ -52,7 +52,7 @@ loop-again c =
       inside = search rules;
       known =
           λ begun more. c.before.before.before.loop.invariant.known begun more
-          ∙ piece-goes-on begun-2.args.separator begun-2.args.bytes.now begun-2.args.at c.before.before.before.loop.i
+          ∙ piece_goes_on begun-2.args.separator begun-2.args.bytes.now begun-2.args.at c.before.before.before.loop.i
           (search rules) (search rules) c.if1.false begun more;
     }
 
@@ -61,7 +61,7 @@ returns-2 c = (
   search rules,
   search rules,
   λ begun more. c.before.loop.invariant.known begun more
-      ∙ bytes-end c.before.before.args.separator c.before.before.args.bytes.now c.before.before.args.at
+      ∙ bytes_end c.before.before.args.separator c.before.before.args.bytes.now c.before.before.args.at
       c.before.loop.i (search rules) (omega arith) begun more,
 )
 

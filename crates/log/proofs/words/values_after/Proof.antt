@@ -1,7 +1,7 @@
 -- `log::words::values_after` meets its contract.
 use Rattle.log.proofs.Splitting.{pieces}
-use Rattle.log.proofs.Fields.{no-good, numbers-start, no_words, more-words, numbers-short, numbers-not, numbers-next, values-next}
-use Rattle.log.proofs.Fields.{numbers-end, values-end}
+use Rattle.log.proofs.Fields.{no_good, numbers_start, no_words, more_words, numbers_short, numbers_not, numbers_next, values_next}
+use Rattle.log.proofs.Fields.{numbers_end, values_end}
 use borrow.Author.Rules.{rules}
 use Rattle.base.proofs.Known.{known}
 use mathlib.Core.List.{List, ◌++◌, map}
@@ -10,8 +10,8 @@ use Prim.Native.Nat.{ℕ, ◌≤◌, ◌-◌}
 use native.Mathlib.Omega.{arith}
 use lib.ListN.{length, take, length-set}
 use Rattle.log.specs.Numbers.{value_of}
-use Rattle.log.specs.Words.{areNumbers}
-use Rattle.log.specs.Inner.Parsing.{piecesAfter}
+use Rattle.log.specs.Words.{are_numbers}
+use Rattle.log.specs.Inner.Parsing.{pieces_after}
 use Rattle.log.proofs.words.values_after.Statement.{statement}
 use Rattle.log.proofs.words.values_after.Tie as tie
 
@@ -19,8 +19,8 @@ record Held (line : List ℕ) (end count : ℕ) (values : List ℕ) (at i : ℕ)
   inside : at ≤ length line
   below : i ≤ count
   long : length values ≡ 4
-  tested : areNumbers count (piecesAfter 32 line end) ≡ areNumbers (count - i) (piecesAfter 32 line at)
-  known : map value_of (piecesAfter 32 line end) ≡ take i values ++ map value_of (piecesAfter 32 line at)
+  tested : are_numbers count (pieces_after 32 line end) ≡ are_numbers (count - i) (pieces_after 32 line at)
+  known : map value_of (pieces_after 32 line end) ≡ take i values ++ map value_of (pieces_after 32 line at)
 
 abbrev invariant-loop : tie.invariant-loop
 invariant-loop line end count values₀ at₀ i₀ values at i = Held line end count values at i
@@ -45,14 +45,14 @@ after-end-of-enum-told c = c.before.before.before.before
 -- ---- Needs
 
 loop-holds : tie.Need-loop-init invariant-loop decreases-loop
-loop-holds c = record { inside = search rules; below = search rules; long = search rules; tested = numbers-start _ _; known = refl }
+loop-holds c = record { inside = search rules; below = search rules; long = search rules; tested = numbers_start _ _; known = refl }
 
 returns : tie.Need-returns invariant-loop decreases-loop
 returns c = (
   sym (c.before.before.loop.invariant.tested
-      ∙ numbers-short (start c).args.count c.before.before.loop.i _ (search rules)
+      ∙ numbers_short (start c).args.count c.before.before.loop.i _ (search rules)
       (no_words (start c).args.line.now c.before.before.loop.at c.if1.true)),
-  no-good,
+  no_good,
 )
 
 returns-2 : tie.Need-returns-2 invariant-loop decreases-loop
@@ -60,11 +60,11 @@ returns-2 c =
     let at_end_of = after-end-of-enum-told c in
     let begun = start-number-of c.before.before in (
       sym (at_end_of.before.before.before.loop.inv.tested
-          ∙ numbers-not begun.args.count at_end_of.before.before.before.loop.i _ _ _ (search rules)
-          (more-words begun.args.line.now at_end_of.before.before.before.loop.at (search rules)
+          ∙ numbers_not begun.args.count at_end_of.before.before.before.loop.i _ _ _ (search rules)
+          (more_words begun.args.line.now at_end_of.before.before.before.loop.at (search rules)
           ∙ pieces 32 _ _ at_end_of.end_of_lem.result at_end_of.end_of_lem.ensures.2) (sym c.before.before.number_of_lem.ensures
           ∙ c.enum_told.given.1)),
-      no-good,
+      no_good,
     )
 
 loop-again : tie.Need-loop-preserved invariant-loop decreases-loop
@@ -77,14 +77,14 @@ loop-again c =
       long = simp length-set at_end_of.before.before.before.loop.inv.long;
       tested =
           at_end_of.before.before.before.loop.inv.tested
-          ∙ numbers-next begun.args.count at_end_of.before.before.before.loop.i _ _ _ (search rules)
-          (more-words begun.args.line.now at_end_of.before.before.before.loop.at (search rules)
+          ∙ numbers_next begun.args.count at_end_of.before.before.before.loop.i _ _ _ (search rules)
+          (more_words begun.args.line.now at_end_of.before.before.before.loop.at (search rules)
           ∙ pieces 32 _ _ at_end_of.end_of_lem.result at_end_of.end_of_lem.ensures.2) _ (sym
           c.before.before.before.number_of_lem.ensures ∙ c.before.value.given.1);
       known =
           at_end_of.before.before.before.loop.inv.known
-          ∙ values-next begun.args.count at_end_of.before.before.before.loop.i _ _ _ (search rules)
-          (more-words begun.args.line.now at_end_of.before.before.before.loop.at (search rules)
+          ∙ values_next begun.args.count at_end_of.before.before.before.loop.i _ _ _ (search rules)
+          (more_words begun.args.line.now at_end_of.before.before.before.loop.at (search rules)
           ∙ pieces 32 _ _ at_end_of.end_of_lem.result at_end_of.end_of_lem.ensures.2) at_end_of.before.before.before.loop.values _
           (search rules) (sym c.before.before.before.number_of_lem.ensures ∙ c.before.value.given.1);
     }
@@ -92,10 +92,10 @@ loop-again c =
 returns-3 : tie.Need-returns-3 invariant-loop decreases-loop
 returns-3 c = (
   sym (c.before.loop.invariant.tested
-      ∙ numbers-end c.before.before.before.args.line.now c.before.loop.at c.before.before.before.args.count
+      ∙ numbers_end c.before.before.before.args.line.now c.before.loop.at c.before.before.before.args.count
       c.before.loop.i (search rules) (search rules)),
   λ e. sym (c.before.loop.invariant.known
-      ∙ values-end c.before.before.before.args.line.now c.before.loop.values c.before.loop.at
+      ∙ values_end c.before.before.before.args.line.now c.before.loop.values c.before.loop.at
       c.before.before.before.args.count c.before.loop.i (omega arith) e),
 )
 

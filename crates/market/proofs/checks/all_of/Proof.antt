@@ -9,14 +9,14 @@ use native.Mathlib.Nat.{sub-zero}
 use borrow.Author.Tests.{not-true, not-false}
 use lib.ListN.{length, get_or}
 use Rattle.base.specs.Lists.{all}
-use Rattle.base.proofs.Sums.{all_more, all-fails, all_done}
-use Rattle.market.specs.Export.{inClass, all_of}
+use Rattle.base.proofs.Sums.{all_more, all_fails, all_done}
+use Rattle.market.specs.Export.{in_class, all_of}
 use Rattle.market.proofs.checks.all_of.Statement.{statement}
 use Rattle.market.proofs.checks.all_of.Tie as tie
 
 record Held (class : Class) (text : List ℕ) (i : ℕ) : Type 0 where
   inside : i ≤ length text
-  known : all_of class text ≡ all (λ j. inClass class (get_or text j 0)) i (length text - i)
+  known : all_of class text ≡ all (λ j. in_class class (get_or text j 0)) i (length text - i)
 
 abbrev invariant-loop : tie.invariant-loop
 invariant-loop class text i₀ i = Held class text i
@@ -38,7 +38,7 @@ loop-holds c = record { inside = search rules; known = rw sub-zero }
 returns : tie.Need-returns invariant-loop decreases-loop
 returns c =
     sym ((at-loop c.before).loop.inv.known
-    ∙ all-fails _ (at-loop c.before).loop.i _ (search rules) (sym c.before.is-in.ensures ∙ not-true _ c.if1.true))
+    ∙ all_fails _ (at-loop c.before).loop.i _ (search rules) (sym c.before.is-in.ensures ∙ not-true _ c.if1.true))
 
 loop-again : tie.Need-loop-preserved invariant-loop decreases-loop
 loop-again c =

@@ -3,7 +3,7 @@ use mathlib.Core.List.{[]}
 use mathlib.Core.Path.{sym, ◌∙◌}
 use borrow.Author.Tests.{not-true, not-false}
 use Rattle.market.specs.Fields.{texts}
-use Rattle.market.proofs.Answers.{supplied-by}
+use Rattle.market.proofs.Answers.{supplied_by}
 use Rattle.base.proofs.Known.{known}
 use Rattle.market.proofs.checks.are_supplied.Statement.{statement}
 use Rattle.market.proofs.checks.are_supplied.Tie as tie
@@ -17,14 +17,14 @@ start c = c.before.before.before.before.before.before.before.before.before.befor
 
 returns : tie.Need-returns
 returns c = let a = (start c.before).args in
-    sym (sym (supplied-by
+    sym (sym (supplied_by
     (texts [] a.from.now a.to.now a.configuration.now a.register.now a.suffix.now a.stream.now a.serial.now
     a.next-read.now a.reason.now a.created.now) a.codes) ∙ rw (sym c.before.are-headers.ensures
     ∙ not-true _ c.if1.true))
 
 returns-2 : tie.Need-returns-2
 returns-2 c = let a = (start c.before.before).args in
-    sym (sym (supplied-by
+    sym (sym (supplied_by
     (texts [] a.from.now a.to.now a.configuration.now a.register.now a.suffix.now a.stream.now a.serial.now
     a.next-read.now a.reason.now a.created.now) a.codes) ∙ rw (sym c.before.before.are-headers.ensures
     ∙ not-false _ c.before.if1.false) (sym c.are-reason-time-codes.ensures))

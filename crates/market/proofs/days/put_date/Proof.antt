@@ -3,7 +3,7 @@ use mathlib.Core.Path.{ap}
 use mathlib.Core.List.{◌++◌}
 use Rattle.line.specs.Line.{digits}
 use Rattle.calendar.specs.declared.Date.{Date}
-use Rattle.market.specs.Fields.{dateField}
+use Rattle.market.specs.Fields.{date_field}
 use Rattle.line.proofs.Putting.{then, same}
 use borrow.Author.Rules.{rules}
 use Rattle.base.proofs.Known.{known}
@@ -21,7 +21,7 @@ after-put-digits2 c = c.before.before.before.before.before.before
 -- ---- Needs
 
 returns : tie.Need-returns
-unfolding dateField
+unfolding date_field
 returns c =
     let at-put-digits2 = after-put-digits2 c.before in
     let at-put-digits = after-put-digits at-put-digits2 in

@@ -9,11 +9,11 @@ use Prim.Native.Nat.{ℕ, ◌≤◌, ◌-◌, ◌+◌}
 use native.Mathlib.Omega.{arith}
 use lib.ListN.{length}
 use Rattle.file.specs.Reader.{slot_at}
-use Rattle.market.specs.Fields.{joined, mark_of, endsRun, start_of}
+use Rattle.market.specs.Fields.{joined, mark_of, ends_run, start_of}
 use Rattle.market.specs.Records.{record400, runs}
 use Rattle.line.specs.Inner.Writing.{Added}
-use Rattle.line.proofs.Putting.{length-stored, same}
-use Rattle.market.proofs.Joining.{joined-none, joined-next-0, start_none, start-next, start-le, run-piece}
+use Rattle.line.proofs.Putting.{length_stored, same}
+use Rattle.market.proofs.Joining.{joined_none, joined_next_0, start_none, start_next, start_le, run_piece}
 use Rattle.market.proofs.days.put_runs.Statement.{statement}
 use Rattle.market.proofs.days.put_runs.Tie as tie
 
@@ -22,7 +22,7 @@ record Held (out₀ : List ℕ) (at : ℕ) (file : List ℕ) (codes : Codes) (a 
   began : start ≡ start_of (λ i. mark_of codes (slot_at file i)) a n j
   early : start ≤ j
   added : Added out₀ at out next
-      (joined (λ k. cond (endsRun (λ i. mark_of codes (slot_at file i)) a n k)
+      (joined (λ k. cond (ends_run (λ i. mark_of codes (slot_at file i)) a n k)
       (record400 reason (start_of (λ i. mark_of codes (slot_at file i)) a n k + 1) (k + 1) (mark_of codes (slot_at file (a + k)))) []) 0 j)
 
 abbrev invariant-loop : tie.invariant-loop
@@ -47,7 +47,7 @@ loop-holds c =
       inside = search rules;
       began = start_none _ _ _;
       early = search rules;
-      added = joined-none _ _ _ _ (search rules) (search rules);
+      added = joined_none _ _ _ _ (search rules) (search rules);
     }
 
 loop-again : tie.Need-loop-preserved invariant-loop decreases-loop
@@ -56,19 +56,19 @@ loop-again c =
     let l = at-mark-at.before.before.before.loop in
     let a = (entry at-mark-at.before.before.before).args in
     let start_is = c.next_start.ensures
-    ∙ start-next _ a.a a.n l.j _ l.start at-mark-at.before.ends-run.ensures l.inv.began in
+    ∙ start_next _ a.a a.n l.j _ l.start at-mark-at.before.ends-run.ensures l.inv.began in
     record {
       inside = search rules;
       began = start_is;
-      early = omega (arith, start_is, start-le (λ i. mark_of a.codes (slot_at a.file.now i)) a.a a.n (l.j + 1));
+      early = omega (arith, start_is, start_le (λ i. mark_of a.codes (slot_at a.file.now i)) a.a a.n (l.j + 1));
       added =
-          joined-next-0 _ l.j l.inv.added
-          (same (run-piece _ a.a a.n _ l.j _ l.start _ at-mark-at.before.ends-run.ensures l.inv.began
+          joined_next_0 _ l.j l.inv.added
+          (same (run_piece _ a.a a.n _ l.j _ l.start _ at-mark-at.before.ends-run.ensures l.inv.began
           at-mark-at.mark-at.ensures) c.before.before.before.put-run.ensures);
     }
 
 same_length : tie.Need-same-length invariant-loop decreases-loop
-same_length c = ap length c.before.loop.invariant.added.has ∙ length-stored _ _ _
+same_length c = ap length c.before.loop.invariant.added.has ∙ length_stored _ _ _
 
 returns : tie.Need-returns invariant-loop decreases-loop
 unfolding runs

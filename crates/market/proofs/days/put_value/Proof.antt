@@ -1,6 +1,6 @@
 -- `days::put_value` meets its contract.
 use mathlib.Core.Path.{ap}
-use Rattle.file.proofs.Offsets.{slot-at}
+use Rattle.file.proofs.Offsets.{slot_at_lem}
 use Rattle.market.specs.Fields.{field, kwh}
 use Rattle.line.proofs.Putting.{then, same}
 use borrow.Author.Rules.{rules}
@@ -22,7 +22,7 @@ returns : tie.Need-returns
 unfolding kwh
 returns c =
     let at-put-text = after-put-text c.before in
-    rw (slot-at _ _) (same (ap (λ v. field (kwh v)) (after-put-number at-put-text).before.before.number.ensures.0)
+    rw (slot_at_lem _ _) (same (ap (λ v. field (kwh v)) (after-put-number at-put-text).before.before.number.ensures.0)
     (then (after-put-number at-put-text).put-number.ensures
     (then at-put-text.put-text.ensures c.before.before.put-digits.ensures)))
 

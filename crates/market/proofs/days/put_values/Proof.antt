@@ -8,8 +8,8 @@ use lib.ListN.{length}
 use Rattle.file.specs.Reader.{slot_at}
 use Rattle.market.specs.Fields.{field, kwh, joined}
 use Rattle.line.specs.Inner.Writing.{Added}
-use Rattle.line.proofs.Putting.{length-stored}
-use Rattle.market.proofs.Joining.{joined-none, joined-next}
+use Rattle.line.proofs.Putting.{length_stored}
+use Rattle.market.proofs.Joining.{joined_none, joined_next}
 use Rattle.market.proofs.days.put_values.Statement.{statement}
 use Rattle.market.proofs.days.put_values.Tie as tie
 
@@ -34,18 +34,18 @@ at-loop c = c.before.before.before.before
 -- ---- Needs
 
 loop-holds : tie.Need-loop-init invariant-loop decreases-loop
-loop-holds c = record { inside = search rules; added = joined-none _ _ _ _ (search rules) (search rules) }
+loop-holds c = record { inside = search rules; added = joined_none _ _ _ _ (search rules) (search rules) }
 
 loop-again : tie.Need-loop-preserved invariant-loop decreases-loop
 loop-again c =
     record {
       inside = search rules;
       added =
-          joined-next _ _ (at-loop c.before).loop.i (at-loop c.before).loop.inv.added c.before.before.put-value.ensures;
+          joined_next _ _ (at-loop c.before).loop.i (at-loop c.before).loop.inv.added c.before.before.put-value.ensures;
     }
 
 same_length : tie.Need-same-length invariant-loop decreases-loop
-same_length c = ap length c.before.loop.invariant.added.has ∙ length-stored _ _ _
+same_length c = ap length c.before.loop.invariant.added.has ∙ length_stored _ _ _
 
 returns : tie.Need-returns invariant-loop decreases-loop
 returns c = let done : c.before.loop.i ≡ (start c).args.k = omega arith in

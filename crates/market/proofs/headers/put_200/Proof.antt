@@ -3,7 +3,7 @@ use Rattle.market.specs.Fields.{field, fields}
 use Rattle.base.specs.Text.{ascii}
 use Rattle.market.specs.Records.{record200}
 use Rattle.line.proofs.Putting.{then, same}
-use Rattle.market.proofs.Joining.{meter-parts}
+use Rattle.market.proofs.Joining.{meter_parts}
 use borrow.Author.Rules.{rules}
 use Rattle.base.proofs.Known.{known}
 use Rattle.market.proofs.headers.put_200.Statement.{statement}
@@ -43,7 +43,7 @@ returns c =
     let at-put-field2 = after-put-field2 at-put-text in
     let at-put-field = after-put-field at-put-field2 in
     let a = (start (after-put-meter at-put-field)).args in
-    same (meter-parts (ascii "200") (field a.identifier.now) (field a.configuration.now) (field a.register.now)
+    same (meter_parts (ascii "200") (field a.identifier.now) (field a.configuration.now) (field a.register.now)
     (field a.suffix.now) _)
     (then (after-put-meter at-put-field).put-meter.ensures
     (then at-put-field.put-field.ensures

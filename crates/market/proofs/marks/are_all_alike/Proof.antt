@@ -8,15 +8,15 @@ use Prim.Native.Nat.{ℕ, ◌≤◌, ◌-◌, ◌+◌}
 use native.Mathlib.Nat.{sub-zero}
 use borrow.Author.Tests.{not-true, not-false}
 use Rattle.base.specs.Lists.{all}
-use Rattle.base.proofs.Sums.{all_more, all-fails, all_done}
+use Rattle.base.proofs.Sums.{all_more, all_fails, all_done}
 use Rattle.file.specs.Reader.{slot_at}
-use Rattle.market.specs.Fields.{mark_of, alike, oneMark}
+use Rattle.market.specs.Fields.{mark_of, alike, one_mark}
 use Rattle.market.proofs.marks.are_all_alike.Statement.{statement}
 use Rattle.market.proofs.marks.are_all_alike.Tie as tie
 
 record Held (file : List ℕ) (codes : Codes) (a n j : ℕ) : Type 0 where
   inside : j ≤ n
-  known : oneMark (λ i. mark_of codes (slot_at file i)) a n
+  known : one_mark (λ i. mark_of codes (slot_at file i)) a n
       ≡ all (λ i. alike (mark_of codes (slot_at file a)) (mark_of codes (slot_at file (a + i)))) j (n - j)
 
 abbrev invariant-loop : tie.invariant-loop
@@ -33,14 +33,14 @@ at-loop c = c.before.before.before
 -- ---- Needs
 
 loop-holds : tie.Need-loop-init invariant-loop decreases-loop
-unfolding oneMark
+unfolding one_mark
 loop-holds c = record { inside = search rules; known = rw sub-zero }
 
 returns : tie.Need-returns invariant-loop decreases-loop
 returns c =
     let looped = at-loop c.before in
     sym (looped.loop.inv.known
-    ∙ all-fails _ looped.loop.j _ (search rules)
+    ∙ all_fails _ looped.loop.j _ (search rules)
     (sym (c.before.are-alike.ensures ∙ ap₂ alike looped.before.mark-at.ensures c.before.before.mark-at2.ensures)
     ∙ not-true _ c.if1.true))
 

@@ -1,23 +1,23 @@
 -- `marks::code_for` meets its contract.
 use borrow.Author.Tests.{eq-eqb, ne_eqb}
-use Rattle.market.specs.Fields.{codeFor}
+use Rattle.market.specs.Fields.{code_for}
 use Rattle.market.proofs.marks.code_for.Statement.{statement}
 use Rattle.market.proofs.marks.code_for.Tie as tie
 
 returns : tie.Need-returns
-unfolding codeFor
+unfolding code_for
 returns c = simp (eq-eqb _ _ c.if1.true)
 
 returns-2 : tie.Need-returns-2
-unfolding codeFor
+unfolding code_for
 returns-2 c = simp (ne_eqb _ _ c.before.if1.false, eq-eqb _ _ c.if2.true)
 
 returns-3 : tie.Need-returns-3
-unfolding codeFor
+unfolding code_for
 returns-3 c = simp (ne_eqb _ _ c.before.before.if1.false, ne_eqb _ _ c.before.if2.false, eq-eqb _ _ c.if3.true)
 
 returns-4 : tie.Need-returns-4
-unfolding codeFor
+unfolding code_for
 returns-4 c =
     simp (
       ne_eqb _ _ c.before.before.before.if1.false,
@@ -27,7 +27,7 @@ returns-4 c =
     )
 
 returns-5 : tie.Need-returns-5
-unfolding codeFor
+unfolding code_for
 returns-5 c =
     simp (
       ne_eqb _ _ c.before.before.before.if1.false,

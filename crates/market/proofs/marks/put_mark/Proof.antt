@@ -2,7 +2,7 @@
 use mathlib.Core.Path.{sym, ◌∙◌}
 use borrow.Author.Tests.{not-true, not-false}
 use Rattle.line.proofs.Putting.{then, same}
-use Rattle.market.proofs.Joining.{without-code, with_code}
+use Rattle.market.proofs.Joining.{without_code, with_code}
 use borrow.Author.Rules.{rules}
 use Rattle.base.proofs.Known.{known}
 use Rattle.market.proofs.marks.put_mark.Statement.{statement}
@@ -37,7 +37,7 @@ returns : tie.Need-returns
 returns c =
     let chosen1 = taken1 c.before in
     let at-put-text = after-put-text chosen1.before in
-    same (without-code (start at-put-text).args.mark (start at-put-text).args.reason.now
+    same (without_code (start at-put-text).args.mark (start at-put-text).args.reason.now
     (sym chosen1.before.has_code.ensures ∙ not-true _ chosen1.if1.taken)) (then at-put-text.put-text.ensures
     c.before.before.put-text2.ensures)
 

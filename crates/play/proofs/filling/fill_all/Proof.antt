@@ -1,32 +1,32 @@
 -- `filling::fill_all`: before each line, what is still to come from the present lists completes what was told.
 use mathlib.Core.List.{List}
 use Rattle.rules.specs.declared.Head.{Head}
-use Rattle.play.proofs.Walking.{still-fits, Walked, walk_first, walk-room, walk-next, walk-last}
+use Rattle.play.proofs.Walking.{still_fits, Walked, walk_first, walk-room, walk_next, walk-last}
 use borrow.Author.Rules.{rules}
 use Rattle.base.proofs.Known.{known}
 use mathlib.Core.Path.{◌≡◌, refl}
 use Prim.Native.Nat.{ℕ, ◌-◌}
 use native.Mathlib.Omega.{arith}
 use lib.ListN.{length}
-use Rattle.rules.specs.Lent.{slots, agreedLists, cells}
+use Rattle.rules.specs.Lent.{slots, agreed_lists, cells}
 use Rattle.book.proofs.EachCall.{book}
 use Rattle.play.proofs.filling.fill_all.Statement.{statement}
 use Rattle.play.proofs.filling.fill_all.Tie as tie
 
 record Held (log : List ℕ) (head : Head)
-    (values₀ versions₀ statuses₀ holidays₀ readings₀ readVersions₀ agreed₀ agreed-versions₀ counts₀ widths₀ answers₀ values versions
-    statuses holidays readings readVersions agreed agreed-versions counts widths answers : List ℕ) (at i : ℕ) : Type 0 where
+    (values₀ versions₀ statuses₀ holidays₀ readings₀ read_versions₀ agreed₀ agreed-versions₀ counts₀ widths₀ answers₀ values versions
+    statuses holidays readings read_versions agreed agreed-versions counts widths answers : List ℕ) (at i : ℕ) : Type 0 where
   walked : Walked head log
-      (book (cells (slots values₀ versions₀ statuses₀) holidays₀ readings₀ readVersions₀ (agreedLists agreed₀ agreed-versions₀) widths₀)
+      (book (cells (slots values₀ versions₀ statuses₀) holidays₀ readings₀ read_versions₀ (agreed_lists agreed₀ agreed-versions₀) widths₀)
       counts₀)
-      answers (book (cells (slots values versions statuses) holidays readings readVersions (agreedLists agreed agreed-versions) widths)
+      answers (book (cells (slots values versions statuses) holidays readings read_versions (agreed_lists agreed agreed-versions) widths)
       counts) at i
   long-values : length values ≡ length values₀
   long-versions : length versions ≡ length versions₀
   long-statuses : length statuses ≡ length statuses₀
   long-holidays : length holidays ≡ length holidays₀
   long-readings : length readings ≡ length readings₀
-  long-reads : length readVersions ≡ length readVersions₀
+  long-reads : length read_versions ≡ length read_versions₀
   long-agreed : length agreed ≡ length agreed₀
   long-agreed-versions : length agreed-versions ≡ length agreed-versions₀
   long-counts : length counts ≡ length counts₀
@@ -34,14 +34,14 @@ record Held (log : List ℕ) (head : Head)
   long-answers : length answers ≡ length answers₀
 
 abbrev invariant-loop : tie.invariant-loop
-invariant-loop log head values₀ versions₀ statuses₀ holidays₀ readings₀ readVersions₀ agreed₀ agreed-versions₀ counts₀ widths₀ answers₀ at₀ i₀
-    values versions statuses holidays readings readVersions agreed agreed-versions counts widths answers at i =
-    Held log head values₀ versions₀ statuses₀ holidays₀ readings₀ readVersions₀ agreed₀ agreed-versions₀ counts₀ widths₀ answers₀ values
-    versions statuses holidays readings readVersions agreed agreed-versions counts widths answers at i
+invariant-loop log head values₀ versions₀ statuses₀ holidays₀ readings₀ read_versions₀ agreed₀ agreed-versions₀ counts₀ widths₀ answers₀ at₀ i₀
+    values versions statuses holidays readings read_versions agreed agreed-versions counts widths answers at i =
+    Held log head values₀ versions₀ statuses₀ holidays₀ readings₀ read_versions₀ agreed₀ agreed-versions₀ counts₀ widths₀ answers₀ values
+    versions statuses holidays readings read_versions agreed agreed-versions counts widths answers at i
 
 abbrev decreases-loop : tie.decreases-loop
-decreases-loop log head values₀ versions₀ statuses₀ holidays₀ readings₀ readVersions₀ agreed₀ agreed-versions₀ counts₀ widths₀ answers₀ at₀ i₀
-    values versions statuses holidays readings readVersions agreed agreed-versions counts widths answers at i =
+decreases-loop log head values₀ versions₀ statuses₀ holidays₀ readings₀ read_versions₀ agreed₀ agreed-versions₀ counts₀ widths₀ answers₀ at₀ i₀
+    values versions statuses holidays readings read_versions agreed agreed-versions counts widths answers at i =
     length log - at
 
 -- ---- Places
@@ -80,7 +80,7 @@ play-line-requires c κs =
     let inv = (after-line-from c).before.before.loop.invariant in
     let start = entry (after-line-from c).before.before.before in (
       start.pre.0,
-      still-fits _ _ _ inv.long-values inv.long-versions inv.long-statuses inv.long-holidays inv.long-readings
+      still_fits _ _ _ inv.long-values inv.long-versions inv.long-statuses inv.long-holidays inv.long-readings
           inv.long-reads inv.long-agreed inv.long-agreed-versions inv.long-counts inv.long-widths start.pre.1,
     )
 
@@ -112,7 +112,7 @@ loop-again c =
     let at-play-line = after-play-line c.before in
     let at-line-from = after-line-from at-play-line.before in
     record {
-      walked = walk-next _ _ _ at-line-from.before.before.loop.inv.walked at-line-from.line-from.ensures _ _
+      walked = walk_next _ _ _ at-line-from.before.before.loop.inv.walked at-line-from.line-from.ensures _ _
           at-play-line.play-line.ensures;
       long-values = search rules;
       long-versions = search rules;

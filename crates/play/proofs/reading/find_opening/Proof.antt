@@ -1,7 +1,7 @@
 -- `reading::find_opening`: no line so far is the opening, and none is wrong.
 use borrow.Author.Tests.{not-true, not-false}
 use Rattle.log.specs.declared.line.Entry.{Entry}
-use Rattle.log.specs.Log.{itemIn}
+use Rattle.log.specs.Log.{item_in}
 use borrow.Author.Rules.{rules}
 use Rattle.base.proofs.Known.{known}
 use mathlib.Core.Path.{sym, ap, ◌∙◌}
@@ -9,7 +9,7 @@ use Prim.Native.Nat.{◌-◌}
 use native.Mathlib.Omega.{arith}
 use lib.ListN.{length}
 use Rattle.log.specs.Log.{table_of, item_of}
-use Rattle.play.proofs.Stepping.{Leading, leading-first, leading-next, leading-ends, leading-none}
+use Rattle.play.proofs.Stepping.{Leading, leading_first, leading-next, leading-ends, leading_none}
 use Rattle.play.proofs.reading.find_opening.Statement.{statement}
 use Rattle.play.proofs.reading.find_opening.Tie as tie
 
@@ -33,7 +33,7 @@ after-entry-of-table-after c = c.before.before.before.before
 -- ---- Needs
 
 loop-holds : tie.Need-loop-init invariant-loop decreases-loop
-loop-holds c = rw c.none.ensures (leading-first _)
+loop-holds c = rw c.none.ensures (leading_first _)
 
 returns : tie.Need-returns invariant-loop decreases-loop
 unfolding item_of
@@ -41,8 +41,8 @@ returns c =
     let at-entry-of = after-entry-of c in
     rw c.opening-at.ensures
     (leading-ends (at-loop at-entry-of).loop.inv at-entry-of.before.before.line_at_lem.ensures _
-    (ap (λ (e : Entry). itemIn e.line e.limits) at-entry-of.entry_of.ensures) _ c.before.before.before.step_of_lem.ensures
-    (sym c.before.before.goes_on.ensures ∙ not-true _ c.before.if1.true))
+    (ap (λ (e : Entry). item_in e.line e.limits) at-entry-of.entry_of.ensures) _ c.before.before.before.step_of_lem.ensures
+    (sym c.before.before.goes_on_lem.ensures ∙ not-true _ c.before.if1.true))
 
 loop-again : tie.Need-loop-preserved invariant-loop decreases-loop
 unfolding item_of
@@ -50,11 +50,11 @@ loop-again c =
     let at-entry-of = after-entry-of-table-after c in
     rw c.table-after.ensures
     (leading-next (at-loop at-entry-of).loop.inv at-entry-of.before.before.line_at_lem.ensures _
-    (ap (λ (e : Entry). itemIn e.line e.limits) at-entry-of.entry_of.ensures) _ c.before.before.before.step_of_lem.ensures
-    (sym c.before.before.goes_on.ensures ∙ not-false _ c.before.if1.false))
+    (ap (λ (e : Entry). item_in e.line e.limits) at-entry-of.entry_of.ensures) _ c.before.before.before.step_of_lem.ensures
+    (sym c.before.before.goes_on_lem.ensures ∙ not-false _ c.before.if1.false))
 
 returns-2 : tie.Need-returns-2 invariant-loop decreases-loop
-returns-2 c = leading-none c.before.loop.invariant (omega arith)
+returns-2 c = leading_none c.before.loop.invariant (omega arith)
 
 pub find-opening-spec : {M : Type 1} → statement M
 find-opening-spec =

@@ -1,12 +1,12 @@
 -- `reading::following`: each line after the opening so far is a call or passed over.
-use Rattle.play.proofs.Stepping.{calls-little}
+use Rattle.play.proofs.Stepping.{calls_little}
 use borrow.Author.Rules.{rules}
 use Rattle.base.proofs.Known.{known}
 use mathlib.Core.Path.{sym, ◌∙◌}
 use Prim.Native.Nat.{◌-◌}
 use native.Mathlib.Omega.{arith}
 use lib.ListN.{length}
-use Rattle.play.proofs.Stepping.{Following, following-first, following-next, following-ends, following-last}
+use Rattle.play.proofs.Stepping.{Following, following_first, following-next, following-ends, following_last}
 use Rattle.play.proofs.reading.following.Statement.{statement}
 use Rattle.play.proofs.reading.following.Tie as tie
 
@@ -17,7 +17,7 @@ abbrev decreases-loop : tie.decreases-loop
 decreases-loop log head from before at₀ n₀ calls₀ at n calls = length log - at
 
 loop-holds : tie.Need-loop-init invariant-loop decreases-loop
-loop-holds c = following-first c.before.requires
+loop-holds c = following_first c.before.requires
 
 -- the line of this turn, after the test that it can stand here
 abbrev passed : tie.Else1 invariant-loop decreases-loop → tie.After-tested-at invariant-loop decreases-loop
@@ -43,7 +43,7 @@ add-calls c =
       loop.loop.inv.reached.few,
       (turn (passed c.before)).loop-test.taken,
       told.calls,
-      calls-little told.line,
+      calls_little told.line,
     )
 
 loop-less : tie.Need-loop-smaller invariant-loop decreases-loop
@@ -57,7 +57,7 @@ loop-again c =
     following-next (turn (passed c.before)).before.loop.inv told.found (sym told.outside ∙ c.before.if1.false) _ told.calls
 
 returns-2 : tie.Need-returns-2 invariant-loop decreases-loop
-returns-2 c = following-last c.before.loop.invariant (omega arith)
+returns-2 c = following_last c.before.loop.invariant (omega arith)
 
 pub following-spec : {M : Type 1} → statement M
 following-spec =

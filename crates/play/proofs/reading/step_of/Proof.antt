@@ -1,30 +1,30 @@
 -- `reading::step_of`: by cases.
 use mathlib.Core.Path.{◌∙◌}
-use Rattle.log.specs.Log.{itemIn}
-use Rattle.play.proofs.Stepping.{step-passed, step-opening, step_call, step-neither}
+use Rattle.log.specs.Log.{item_in}
+use Rattle.play.proofs.Stepping.{step_passed, step_opening, step_call, step_neither}
 use Rattle.base.proofs.Known.{known}
 use Rattle.play.proofs.reading.step_of.Statement.{statement}
 use Rattle.play.proofs.reading.step_of.Tie as tie
 
 returns : tie.Need-returns
-unfolding itemIn
-returns c = rw c.enum_told.given.1 (step-passed _)
+unfolding item_in
+returns c = rw c.enum_told.given.1 (step_passed _)
 
 returns-2 : tie.Need-returns-2
-unfolding itemIn
+unfolding item_in
 returns-2 c = rw c.before.before.enum-told2.given.1 c.table_step.ensures
 
 returns-3 : tie.Need-returns-3
-unfolding itemIn
-returns-3 c = rw c.before.before.line.given.1 (c.opening-step.ensures ∙ step-opening _ _)
+unfolding item_in
+returns-3 c = rw c.before.before.line.given.1 (c.opening-step.ensures ∙ step_opening _ _)
 
 returns-4 : tie.Need-returns-4
-unfolding itemIn
+unfolding item_in
 returns-4 c = rw c.enum-told3.given.1 (step_call _ _)
 
 returns-5 : tie.Need-returns-5
-unfolding itemIn
-returns-5 c = rw c.enum-told4.given.1 (step-neither _)
+unfolding item_in
+returns-5 c = rw c.enum-told4.given.1 (step_neither _)
 
 pub step-of-spec : {M : Type 1} → statement M
 step-of-spec =

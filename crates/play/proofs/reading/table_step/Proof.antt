@@ -1,7 +1,7 @@
 -- `reading::table_step`: by cases.
 use mathlib.Core.Path.{sym, ◌∙◌}
-use Rattle.play.specs.Inner.Steps.{tableStep}
-use Rattle.play.proofs.Stepping.{step-second, step-first}
+use Rattle.play.specs.Inner.Steps.{table_step}
+use Rattle.play.proofs.Stepping.{step_second, step_first}
 use borrow.Author.Rules.{rules}
 use Rattle.base.proofs.Known.{known}
 use Rattle.play.proofs.reading.table_step.Statement.{statement}
@@ -15,17 +15,17 @@ passed1 c = c.before.before.before
 -- ---- Needs
 
 returns : tie.Need-returns
-returns c = step-second _ _ (search rules) _ c.if1.true
+returns c = step_second _ _ (search rules) _ c.if1.true
 
 returns-2 : tie.Need-returns-2
-unfolding tableStep
+unfolding table_step
 returns-2 c =
-    step-first _ _ _ c.before.before.before.if1.false _ (sym c.before.before.load_from.ensures ∙ c.enum_told.given.1)
+    step_first _ _ _ c.before.before.before.if1.false _ (sym c.before.before.load_from.ensures ∙ c.enum_told.given.1)
 
 returns-3 : tie.Need-returns-3
-unfolding tableStep
+unfolding table_step
 returns-3 c =
-    step-first _ _ _ (passed1 c.before).if1.false _ (sym c.before.before.before.load_from.ensures ∙ c.before.loaded.given.1)
+    step_first _ _ _ (passed1 c.before).if1.false _ (sym c.before.before.before.load_from.ensures ∙ c.before.loaded.given.1)
 
 pub table-step-spec : {M : Type 1} → statement M
 table-step-spec =

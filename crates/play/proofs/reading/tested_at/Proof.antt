@@ -1,12 +1,12 @@
 -- `reading::tested_at`: a delivery that is not read, or the line read.
 use borrow.Author.Rules.{rules}
 use Rattle.base.proofs.Known.{known}
-use Rattle.play.proofs.Stepping.{passing-delivery}
+use Rattle.play.proofs.Stepping.{passing_delivery}
 use Rattle.play.proofs.reading.tested_at.Statement.{statement}
 use Rattle.play.proofs.reading.tested_at.Tie as tie
 
 returns : tie.Need-returns
-returns c = passing-delivery (c.before.delivery-end.ensures c.if1.true)
+returns c = passing_delivery (c.before.delivery-end.ensures c.if1.true)
 
 returns-2 : tie.Need-returns-2
 returns-2 c = record {

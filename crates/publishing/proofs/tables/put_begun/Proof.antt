@@ -6,9 +6,9 @@ use native.Mathlib.Omega.{arith}
 use lib.ListN.{length}
 use Rattle.rules.specs.declared.stretch.Begins.{Begins}
 use Rattle.rules.specs.Inner.Passes.{list_of}
-use Rattle.file.specs.Layout.{table, spanRow}
+use Rattle.file.specs.Layout.{table, span_row}
 use Rattle.file.specs.Inner.Writing.{written}
-use Rattle.publishing.proofs.Buffers.{table-one, written_none}
+use Rattle.publishing.proofs.Buffers.{table_one, written_none}
 use borrow.Author.Rules.{rules}
 use Rattle.base.proofs.Known.{known}
 use Rattle.publishing.proofs.tables.put_begun.Statement.{statement}
@@ -36,7 +36,7 @@ returns c =
       omega (arith, ap (λ (x : Begins). length (list_of x)) e),
       c.before.before.put-span.ensures
           ∙ ap (written begun.args.out.now (begun.args.at + 14 * begun.args.count))
-          (sym (table-one (spanRow true) at-begins.begins.given.0.0) ∙ ap (λ (x : Begins). table (spanRow true) (list_of x)) (sym e)),
+          (sym (table_one (span_row true) at-begins.begins.given.0.0) ∙ ap (λ (x : Begins). table (span_row true) (list_of x)) (sym e)),
     )
 
 returns-2 : tie.Need-returns-2
@@ -44,7 +44,7 @@ unfolding table
 returns-2 c = let e = c.enum_told.given.1 in (
   omega (arith, ap (λ (x : Begins). length (list_of x)) e),
   sym (ap (λ (x : Begins). written c.before.before.before.args.out.now
-      (c.before.before.before.args.at + 14 * c.before.before.before.args.count) (table (spanRow true) (list_of x))) e
+      (c.before.before.before.args.at + 14 * c.before.before.before.args.count) (table (span_row true) (list_of x))) e
       ∙ written_none c.before.before.before.args.out.now
       (c.before.before.before.args.at + 14 * c.before.before.before.args.count)),
 )

@@ -10,23 +10,23 @@ use Rattle.base.proofs.Known.{known}
 use Rattle.base.specs.Lists.{up_to}
 use lib.ListN.{length, get_or}
 use Rattle.rules.specs.declared.Head.{Head}
-use Rattle.rules.specs.Opening.{Slots, Agreed, slotCount}
-use Rattle.rules.specs.Lent.{slots, agreedLists}
-use Rattle.rules.specs.Tests.{goodAt}
-use Rattle.rules.specs.Inner.Walks.{actualOf, agreedOf, directOf}
-use Rattle.rules.proofs.Bounds.{bounded, count-high}
-use Rattle.rules.proofs.Directs.{direct_good, direct-agreed, direct-none}
-use Rattle.rules.proofs.Outages.{zero-none, good-delivered}
+use Rattle.rules.specs.Opening.{Slots, Agreed, slot_count}
+use Rattle.rules.specs.Lent.{slots, agreed_lists}
+use Rattle.rules.specs.Tests.{good_at}
+use Rattle.rules.specs.Inner.Walks.{actual_of, agreed_of, direct_of}
+use Rattle.rules.proofs.Bounds.{bounded, count_high}
+use Rattle.rules.proofs.Directs.{direct_good, direct_agreed, direct_none}
+use Rattle.rules.proofs.Outages.{zero_none, good_delivered}
 use Rattle.file.specs.Layout.{table}
-use Rattle.publishing.specs.Inner.Publishing.{directTotals, Countable}
+use Rattle.publishing.specs.Inner.Publishing.{direct_totals, Countable}
 use Rattle.publishing.proofs.Buffers.{written_none}
-use Rattle.publishing.proofs.Records.{Ran, ran_on, ran-end}
+use Rattle.publishing.proofs.Records.{Ran, ran_on, ran_end}
 use Rattle.publishing.proofs.tables.put_direct.Statement.{statement}
 use Rattle.publishing.proofs.tables.put_direct.Tie as tie
 
 abbrev invariant-loop : tie.invariant-loop
 invariant-loop head values versions statuses agreed agreed-versions out₀ from to before outage₀ totals₀ at₀ out outage totals at =
-    Ran head (slots values versions statuses) (agreedLists agreed agreed-versions) out₀ from to totals₀ outage totals out at
+    Ran head (slots values versions statuses) (agreed_lists agreed agreed-versions) out₀ from to totals₀ outage totals out at
 
 abbrev decreases-loop : tie.decreases-loop
 decreases-loop head values versions statuses agreed agreed-versions out₀ from to before outage₀ totals₀ at₀ out outage totals at = to - at
@@ -63,27 +63,27 @@ abbrev lent : At-loop → Slots
 lent c = let a = (start c).args in slots a.values.now a.versions.now a.statuses.now
 
 abbrev settled : At-loop → Agreed
-settled c = let a = (start c).args in agreedLists a.agreed.now a.agreed-versions.now
+settled c = let a = (start c).args in agreed_lists a.agreed.now a.agreed-versions.now
 
 absent : {i from : ℕ} → i < from → from ≤ i → ⊥
 absent l m = omega arith
 
 -- the outcomes of a good slot and of an agreed one
 module _ (h : Head) (s : Slots) (a : Agreed) (i : ℕ) where
-  good-outcome : goodAt h s i ≡ true → actualOf (get_or s.values i 0) ≡ directOf h s a i
-  unfolding directOf
+  good-outcome : good_at h s i ≡ true → actual_of (get_or s.values i 0) ≡ direct_of h s a i
+  unfolding direct_of
   good-outcome g = rw g
 
-  agreed-outcome : goodAt h s i ≡ false → agreedOf (get_or a.values i 0) ≡ directOf h s a i
-  unfolding directOf
+  agreed-outcome : good_at h s i ≡ false → agreed_of (get_or a.values i 0) ≡ direct_of h s a i
+  unfolding direct_of
   agreed-outcome g = rw g
 
 -- the slot lies in the book
-below : (c : tie.In-loop invariant-loop decreases-loop) → c.before.loop.at < slotCount (start c.before).args.head
+below : (c : tie.In-loop invariant-loop decreases-loop) → c.before.loop.at < slot_count (start c.before).args.head
 below c = omega (arith, c.loop-test.true, (start c.before).pre.direct.inside)
 
-most : (c : At-loop) → slotCount (start c).args.head ≤ 115_200
-most c = count-high (start c).args.head (bounded (start c).args.head (start c).requires.direct.fitted.head)
+most : (c : At-loop) → slot_count (start c).args.head ≤ 115_200
+most c = count_high (start c).args.head (bounded (start c).args.head (start c).requires.direct.fitted.head)
 
 -- its record has room
 room : (c : tie.In-loop invariant-loop decreases-loop) → 6 * c.before.loop.at + 6 ≤ length c.before.loop.out
@@ -101,7 +101,7 @@ counts c =
 -- ---- Needs
 
 loop-holds : tie.Need-loop-init invariant-loop decreases-loop
-unfolding directTotals up_to table
+unfolding direct_totals up_to table
 loop-holds c =
     let pre = (entry c).requires in
     let none : (entry c).args.from - (entry c).args.from ≡ 0 = omega arith in
@@ -143,7 +143,7 @@ returns c =
     let is = c.before.before.before in
     let at = (turn is).before in
     let cause = sym is.is-good.ensures ∙ c.before.before.if1.false in
-    ran-end _ (lent at) (settled at) _ _ _ _ _ _ _ _ at.loop.inv (λ l. direct-none _ _ (settled at) _ cause c.if2.true)
+    ran_end _ (lent at) (settled at) _ _ _ _ _ _ _ _ at.loop.inv (λ l. direct_none _ _ (settled at) _ cause c.if2.true)
 
 shared-slice-read-by-agreement : tie.Need-shared-slice-read-by-agreement invariant-loop decreases-loop
 shared-slice-read-by-agreement c =
@@ -186,14 +186,14 @@ loop-again c =
     ⊎_elim
     (λ w.
     let is = sym c.before.is-good.ensures ∙ w.0.taken in
-    let zero = sym (zero-none s.versions s.statuses (slotCount h) i (good-delivered h s i is)) in
+    let zero = sym (zero_none s.versions s.statuses (slot_count h) i (good_delivered h s i is)) in
     on w.2.result _ _ _ (start at).pre.room turned.loop-test.taken (direct_good h s a i is)
     (w.2.ensures ∙ good-outcome h s a i is)
     (w.9 ∙ zero) (w.10 ∙ w.7.ensures) (w.8 ∙ w.4.ensures))
     (λ w.
     let cause = sym c.before.is-good.ensures ∙ w.0.left in
     let zero = rw (start at).pre.direct.fitted.versions at w.9.ensures in
-    on w.4.result _ _ _ (start at).pre.room turned.loop-test.taken (direct-agreed h s a i w.2.left)
+    on w.4.result _ _ _ (start at).pre.room turned.loop-test.taken (direct_agreed h s a i w.2.left)
     (w.4.ensures ∙ agreed-outcome h s a i cause)
     (w.12 ∙ zero) (w.13 ∙ w.10.ensures) (w.11 ∙ w.6.ensures))
     c.if1.branch
@@ -204,7 +204,7 @@ same-length-2 c = c.before.loop.invariant.long
 returns-2 : tie.Need-returns-2 invariant-loop decreases-loop
 returns-2 c =
     let at = c.before in
-    ran-end _ (lent at) (settled at) _ _ _ _ _ _ _ _ at.loop.invariant (λ l. absurd (absent l c.loop-test.false))
+    ran_end _ (lent at) (settled at) _ _ _ _ _ _ _ _ at.loop.invariant (λ l. absurd (absent l c.loop-test.false))
 
 pub put-direct-spec : {M : Type 1} → statement M
 put-direct-spec =

@@ -7,34 +7,34 @@ use native.Mathlib.Omega.{arith}
 use Rattle.base.proofs.Known.{known}
 use lib.ListN.{length}
 use Rattle.rules.specs.declared.stretch.Stretch.{Stretch}
-use Rattle.rules.specs.Opening.{Cells, slotCount}
-use Rattle.rules.specs.Lent.{slots, agreedLists, cells}
-use Rattle.rules.specs.Tests.{goodAt}
+use Rattle.rules.specs.Opening.{Cells, slot_count}
+use Rattle.rules.specs.Lent.{slots, agreed_lists, cells}
+use Rattle.rules.specs.Tests.{good_at}
 use Rattle.rules.specs.Spans.{spans}
-use Rattle.rules.specs.Filling.{isOutageZero, isAgreed, filledAt, shape_at}
-use Rattle.rules.proofs.Bounds.{Bounded, bounded, count-high}
-use Rattle.rules.proofs.Directs.{run-line, none-direct}
-use Rattle.rules.proofs.Lines.{walk-outage, walk-line}
-use Rattle.rules.proofs.Outages.{zero-applies}
+use Rattle.rules.specs.Filling.{is_outage_zero, is_agreed, filled_at, shape_at}
+use Rattle.rules.proofs.Bounds.{Bounded, bounded, count_high}
+use Rattle.rules.proofs.Directs.{run_line, none_direct}
+use Rattle.rules.proofs.Lines.{walk_outage, walk_line}
+use Rattle.rules.proofs.Outages.{zero_applies}
 use Rattle.rules.proofs.Ruled.{line-drawn, ruled}
 use Rattle.rules.proofs.Steps.{step-scalable}
-use Rattle.rules.proofs.Stretches.{stretch-ahead}
-use Rattle.file.specs.Layout.{row, slotRow}
+use Rattle.rules.proofs.Stretches.{stretch_ahead}
+use Rattle.file.specs.Layout.{row, slot_row}
 use Rattle.file.specs.Inner.Writing.{written}
-use Rattle.publishing.proofs.Inside.{Inside, inside-next, inside-run, run-countable, passed}
-use Rattle.publishing.proofs.Records.{none-put}
+use Rattle.publishing.proofs.Inside.{Inside, inside-next, inside_run, run_countable, passed}
+use Rattle.publishing.proofs.Records.{none_put}
 use Rattle.publishing.proofs.Totals.{countable}
 use Rattle.publishing.proofs.tables.put_inside.Statement.{statement}
 use Rattle.publishing.proofs.tables.put_inside.Tie as tie
 
 abbrev invariant-loop : tie.invariant-loop
-invariant-loop head values versions statuses holidays readings readVersions agreed agreed-versions widths out₀ from at₀ outage₀ line₀ stretch₀
+invariant-loop head values versions statuses holidays readings read_versions agreed agreed-versions widths out₀ from at₀ outage₀ line₀ stretch₀
     totals₀ until out at outage line stretch totals =
-    let b = cells (slots values versions statuses) holidays readings readVersions (agreedLists agreed agreed-versions) widths in
+    let b = cells (slots values versions statuses) holidays readings read_versions (agreed_lists agreed agreed-versions) widths in
     Inside head b out₀ from.pass.walk.at from.pass.stretch.until outage line stretch totals out at
 
 abbrev decreases-loop : tie.decreases-loop
-decreases-loop head values versions statuses holidays readings readVersions agreed agreed-versions widths out₀ from at₀ outage₀ line₀ stretch₀
+decreases-loop head values versions statuses holidays readings read_versions agreed agreed-versions widths out₀ from at₀ outage₀ line₀ stretch₀
     totals₀ until out at outage line stretch totals =
     until - at
 
@@ -78,49 +78,49 @@ abbrev lent : tie.Start invariant-loop decreases-loop → Cells
 lent c =
     let a = c.args in
     cells (slots a.values.now a.versions.now a.statuses.now) a.holidays.now a.readings.now a.read-versions.now
-    (agreedLists a.agreed.now a.agreed-versions.now) a.widths.now
+    (agreed_lists a.agreed.now a.agreed-versions.now) a.widths.now
 
 bounds : (c : tie.Start invariant-loop decreases-loop) → Bounded c.args.head
 bounds c = bounded c.args.head c.requires.roomy.whole.lent.fitted.head
 
 -- the stretch ends behind its first slot, and in the book
 ahead : (c : tie.Start invariant-loop decreases-loop) → let a = c.args in
-    (a.from.pass.walk.at < a.from.pass.stretch.until) × (a.from.pass.stretch.until ≤ slotCount a.head)
+    (a.from.pass.walk.at < a.from.pass.stretch.until) × (a.from.pass.stretch.until ≤ slot_count a.head)
 ahead c =
     let a = c.args in
     rw (ap (λ (s : Stretch). s.until) c.requires.stretch)
-    (stretch-ahead a.head (bounds c) (lent c) a.from.pass.walk.at c.requires.inside)
+    (stretch_ahead a.head (bounds c) (lent c) a.from.pass.walk.at c.requires.inside)
 
 room : (c : tie.Start invariant-loop decreases-loop)
-    → 6 * slotCount c.args.head + 14 * length (spans c.args.head (lent c)) ≤ length c.args.out.now
+    → 6 * slot_count c.args.head + 14 * length (spans c.args.head (lent c)) ≤ length c.args.out.now
 room c = omega (arith, c.requires.roomy.room)
 
-below : (c : In-loop) → c.before.loop.at < slotCount (start c.before).args.head
+below : (c : In-loop) → c.before.loop.at < slot_count (start c.before).args.head
 below c = omega (arith, c.loop-test.true, (ahead (start c.before)).1)
 
-most : (c : At-loop) → slotCount (start c).args.head ≤ 115_200
-most c = count-high (start c).args.head (bounds (start c))
+most : (c : At-loop) → slot_count (start c).args.head ≤ 115_200
+most c = count_high (start c).args.head (bounds (start c))
 
 -- another slot than a direct one has a cause and is not agreed
 cause : (c : tie.Else1 invariant-loop decreases-loop) → let at = (turn (other c)).before in let b = lent (start at) in
-    (goodAt (start at).args.head b.slots at.loop.at ≡ false) × (isAgreed b.agreed.versions at.loop.at ≡ false)
+    (good_at (start at).args.head b.slots at.loop.at ≡ false) × (is_agreed b.agreed.versions at.loop.at ≡ false)
 cause c =
     let run = other c in
     let at = (turn run).before in
-    none-direct (start at).args.head (lent (start at)).slots (lent (start at)).agreed _ _ _ _ run.put-direct.ensures.direct
+    none_direct (start at).args.head (lent (start at)).slots (lent (start at)).agreed _ _ _ _ run.put-direct.ensures.direct
     c.if1.false
     (turn run).loop-test.taken
 
 zeroed : (c : tie.After-outage-zero invariant-loop decreases-loop) → let at = (turn (other c.before)).before in
-    c.outage-zero.result ≡ isOutageZero (start at).args.head (lent (start at)).slots at.loop.at
+    c.outage-zero.result ≡ is_outage_zero (start at).args.head (lent (start at)).slots at.loop.at
 zeroed c =
     let s = start (turn (other c.before)).before in
-    c.outage-zero.ensures ∙ zero-applies s.args.head (lent s).slots _ s.pre.roomy.whole.lent.fitted.versions _
+    c.outage-zero.ensures ∙ zero_applies s.args.head (lent s).slots _ s.pre.roomy.whole.lent.fitted.versions _
 
 -- what the rules give it
 ruled-here : (c : tie.After-unscaled invariant-loop decreases-loop) → let at = (turn (other (chosen c))).before in let s = start at in let b = lent s in
     let r = c.unscaled.result in
-    (r.outcome ≡ filledAt s.args.head b.slots b.agreed b.holidays at.loop.at)
+    (r.outcome ≡ filled_at s.args.head b.slots b.agreed b.holidays at.loop.at)
     × (r.shape ≡ shape_at s.args.head b.slots b.agreed b.holidays at.loop.at)
 ruled-here c =
     let pick = chosen c in
@@ -141,8 +141,8 @@ loop-holds c =
     record {
       further = le_refl _;
       inside = omega (arith, (ahead at).0);
-      outage = walk-outage a.head b.slots b.agreed.versions a.from.pass.walk i at.pre.walk _ refl;
-      line = walk-line a.head b.slots b.agreed.versions a.from.pass.walk i at.pre.walk;
+      outage = walk_outage a.head b.slots b.agreed.versions a.from.pass.walk i at.pre.walk _ refl;
+      line = walk_line a.head b.slots b.agreed.versions a.from.pass.walk i at.pre.walk;
       end = refl;
       stretch = λ l. at.pre.stretch;
       carried = λ l. absurd (omega arith);
@@ -170,7 +170,7 @@ put-direct-requires c κs =
           };
       room = omega (arith, (ahead s).1, room s, held.long);
       countable =
-          run-countable s.args.head (bounds s) (lent s) _ _ _ (ahead s).1 (room s) _ _ _ _ _ _ held whole.settled.low
+          run_countable s.args.head (bounds s) (lent s) _ _ _ (ahead s).1 (room s) _ _ _ _ _ _ held whole.settled.low
           whole.widths.low;
     }
 
@@ -187,9 +187,9 @@ loop-again c =
     let b = lent s in
     let done = run.put-direct.ensures in
     let to = done.direct in
-    inside-run s.args.head (bounds s) b _ _ _ (ahead s).1 (room s) _ _ _ _ _ _ at.loop.inv _ _ _ _ _ to.further to.inside
+    inside_run s.args.head (bounds s) b _ _ _ (ahead s).1 (room s) _ _ _ _ _ _ at.loop.inv _ _ _ _ _ to.further to.inside
     to.direct to.outage
-    (c.before.bare.ensures ∙ run-line s.args.head b.slots b.agreed _ _ to.direct c.before.before.if1.true)
+    (c.before.bare.ensures ∙ run_line s.args.head b.slots b.agreed _ _ to.direct c.before.before.if1.true)
     done.totals done.bytes
 
 outage-zero-requires : tie.Need-outage-zero-requires invariant-loop decreases-loop
@@ -271,12 +271,12 @@ loop-again-2 c =
     let b = lent s in
     let h = s.args.head in
     let i = at.loop.at in
-    let none = none-put h b.slots b.agreed _ _ _ _ _ _ run.put-direct.ensures pick.if1.left in
+    let none = none_put h b.slots b.agreed _ _ _ _ _ _ run.put-direct.ensures pick.if1.left in
     let fit = placed.before.before.before.fit.ensures in
     let zero = rw s.pre.roomy.whole.lent.fitted.versions at found.before.before.outage-zero.ensures in
     inside-next h (bounds s) b _ _ _ (ahead s).1 _ _ _ _ _ i at.loop.inv turned.loop-test.taken _ _ (ruled-here found).0
     (ruled-here found).1 _ _ _ _ _ _ zero found.before.line-unagreed.ensures (room s) fit.0 fit.1 c.add.ensures
-    (placed.put-slot.ensures ∙ (λ t. written (none t) (6 * i) (row (slotRow placed.before.before.before.fit.result.outcome))))
+    (placed.put-slot.ensures ∙ (λ t. written (none t) (6 * i) (row (slot_row placed.before.before.before.fit.result.outcome))))
 
 same_length : tie.Need-same-length invariant-loop decreases-loop
 same_length c = c.before.loop.invariant.long

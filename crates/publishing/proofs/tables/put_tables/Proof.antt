@@ -7,12 +7,12 @@ use borrow.Author.Rules.{rules}
 use Rattle.base.proofs.Known.{known}
 use lib.ListN.{length}
 use Rattle.rules.specs.declared.Head.{Head}
-use Rattle.rules.specs.Opening.{Cells, slotCount}
-use Rattle.rules.specs.Lent.{slots, agreedLists, cells}
+use Rattle.rules.specs.Opening.{Cells, slot_count}
+use Rattle.rules.specs.Lent.{slots, agreed_lists, cells}
 use Rattle.rules.specs.Spans.{outcomes}
 use Rattle.publishing.specs.declared.tables.Progress.{Progress}
-use Rattle.publishing.specs.Inner.Publishing.{progressAt, bufferAt}
-use Rattle.publishing.proofs.Buffers.{buffer-first}
+use Rattle.publishing.specs.Inner.Publishing.{progress_at, buffer_at}
+use Rattle.publishing.proofs.Buffers.{buffer_first}
 use Rattle.publishing.proofs.Totals.{progress-place, progress-here}
 use Rattle.publishing.proofs.tables.put_tables.Statement.{statement}
 use Rattle.publishing.proofs.tables.put_tables.Tie as tie
@@ -20,16 +20,16 @@ use Rattle.publishing.proofs.tables.put_tables.Tie as tie
 record Held (h : Head) (b : Cells) (d₀ : List ℕ) (n : ℕ) (d : List ℕ) (here : Progress) (i : ℕ) : Type 0 where
   inside : i ≤ n
   long : length d ≡ length d₀
-  known : here ≡ progressAt h b i
-  bytes : d ≡ bufferAt h b d₀ i
+  known : here ≡ progress_at h b i
+  bytes : d ≡ buffer_at h b d₀ i
 
 abbrev invariant-loop : tie.invariant-loop
-invariant-loop head values versions statuses holidays readings readVersions agreed agreed-versions widths out₀ table n here₀ i₀ out here i =
-    Held head (cells (slots values versions statuses) holidays readings readVersions (agreedLists agreed agreed-versions) widths) out₀ n
+invariant-loop head values versions statuses holidays readings read_versions agreed agreed-versions widths out₀ table n here₀ i₀ out here i =
+    Held head (cells (slots values versions statuses) holidays readings read_versions (agreed_lists agreed agreed-versions) widths) out₀ n
     out here i
 
 abbrev decreases-loop : tie.decreases-loop
-decreases-loop head values versions statuses holidays readings readVersions agreed agreed-versions widths out₀ table n here₀ i₀ out here i = n - i
+decreases-loop head values versions statuses holidays readings read_versions agreed agreed-versions widths out₀ table n here₀ i₀ out here i = n - i
 
 -- ---- Places
 
@@ -57,7 +57,7 @@ abbrev lent : tie.Start invariant-loop decreases-loop → Cells
 lent c =
     let a = c.args in
     cells (slots a.values.now a.versions.now a.statuses.now) a.holidays.now a.readings.now a.read-versions.now
-    (agreedLists a.agreed.now a.agreed-versions.now) a.widths.now
+    (agreed_lists a.agreed.now a.agreed-versions.now) a.widths.now
 
 place : (c : tie.At-loop invariant-loop decreases-loop) → c.loop.here.pass.walk.at ≡ c.loop.i
 place c = progress-place (start c).args.head (lent (start c)) c.loop.i c.loop.here c.loop.invariant.known
@@ -74,7 +74,7 @@ loop-holds c =
       inside = zero-le;
       long = refl;
       known = c.begin.ensures s.args.head (lent s);
-      bytes = sym (buffer-first s.args.head (lent s) s.args.out.now);
+      bytes = sym (buffer_first s.args.head (lent s) s.args.out.now);
     }
 
 put-stretch-requires : tie.Need-put-stretch-requires invariant-loop decreases-loop
@@ -104,19 +104,19 @@ loop-again c =
       known = found.known;
       bytes =
           found.bytes s.args.out.now (sym held.long)
-          (held.bytes ∙ ap (bufferAt s.args.head (lent s) s.args.out.now) (sym (place at)));
+          (held.bytes ∙ ap (buffer_at s.args.head (lent s) s.args.out.now) (sym (place at)));
     }
 
 same_length : tie.Need-same-length invariant-loop decreases-loop
 same_length c = c.before.before.loop.invariant.long
 
 returns : tie.Need-returns invariant-loop decreases-loop
-unfolding outcomes progressAt
+unfolding outcomes progress_at
 returns c =
     let at = c.before.before in
     let s = start at in
     let held = at.loop.invariant in
-    let n : at.loop.i ≡ slotCount s.args.head =
+    let n : at.loop.i ≡ slot_count s.args.head =
     omega (arith, c.before.loop-test.false, held.inside, (after-slot-count-result c).slot-count.ensures) in
     (rw n at (ap (λ (p : Progress). p.totals) held.known), rw n at held.bytes)
 

@@ -1,8 +1,8 @@
 -- `sawmauve_explain`: 1, then 2 for the fields, then what explaining answers.
 use mathlib.Core.Path.{◌∙◌}
-use Rattle.book.specs.Lent.{lentBook}
-use Rattle.host.specs.Codes.{headOf}
-use Rattle.questions.proofs.Explaining.{refused-head, refused-fields, refused-rest, explained}
+use Rattle.book.specs.Lent.{lent_book}
+use Rattle.host.specs.Codes.{head_of}
+use Rattle.questions.proofs.Explaining.{refused_head, refused_fields, refused-rest, explained}
 use borrow.Author.Rules.{rules}
 use Rattle.base.proofs.Known.{known}
 use Rattle.questions.proofs.follow.sawmauve_explain.Statement.{statement}
@@ -29,26 +29,26 @@ passed3 c = c.before.before.before.before
 
 returns : tie.Need-returns
 returns c = let a = (start c.before.before).args in
-    let h = headOf a.year a.month a.day a.days a.interval a.limit a.tolerance in
-    let b = lentBook a.values a.versions a.statuses a.holidays a.readings a.read-versions a.agreed a.agreed-versions
+    let h = head_of a.year a.month a.day a.days a.interval a.limit a.tolerance in
+    let b = lent_book a.values a.versions a.statuses a.holidays a.readings a.read-versions a.agreed a.agreed-versions
     a.counts a.widths in
-    refused-head h b a.slot a.fields.now c.before.before.explain.result
+    refused_head h b a.slot a.fields.now c.before.before.explain.result
     (rw c.before.before.before.head_of.ensures at c.before.before.explain.ensures) c.if1.true
 
 returns-2 : tie.Need-returns-2
 returns-2 c = let a = (start (after-explain c)).args in
-    let h = headOf a.year a.month a.day a.days a.interval a.limit a.tolerance in
-    let b = lentBook a.values a.versions a.statuses a.holidays a.readings a.read-versions a.agreed a.agreed-versions
+    let h = head_of a.year a.month a.day a.days a.interval a.limit a.tolerance in
+    let b = lent_book a.values a.versions a.statuses a.holidays a.readings a.read-versions a.agreed a.agreed-versions
     a.counts a.widths in
-    refused-fields h b a.slot a.fields.now c.before.before.before.explain.result
+    refused_fields h b a.slot a.fields.now c.before.before.before.explain.result
     (rw (after-explain c).before.head_of.ensures at c.before.before.before.explain.ensures) c.before.if1.false c.if2.true
 
 returns-3 : tie.Need-returns-3
 returns-3 c =
     let at-explain = after-explain-passed2 c.before.before.before in
     let a = (start at-explain).args in
-    let h = headOf a.year a.month a.day a.days a.interval a.limit a.tolerance in
-    let b = lentBook a.values a.versions a.statuses a.holidays a.readings a.read-versions a.agreed a.agreed-versions
+    let h = head_of a.year a.month a.day a.days a.interval a.limit a.tolerance in
+    let b = lent_book a.values a.versions a.statuses a.holidays a.readings a.read-versions a.agreed a.agreed-versions
     a.counts a.widths in
     refused-rest h b a.slot a.fields.now at-explain.explain.result
     (simp at-explain.before.head_of.ensures at at-explain.explain.ensures) c.before.before.before.if2.false
@@ -62,8 +62,8 @@ returns-4 c =
     let past2 = passed2 c.before.before.before in
     let at-explain = after-explain-passed2 past2 in
     let a = (start at-explain).args in
-    let h = headOf a.year a.month a.day a.days a.interval a.limit a.tolerance in
-    let b = lentBook a.values a.versions a.statuses a.holidays a.readings a.read-versions a.agreed a.agreed-versions
+    let h = head_of a.year a.month a.day a.days a.interval a.limit a.tolerance in
+    let b = lent_book a.values a.versions a.statuses a.holidays a.readings a.read-versions a.agreed a.agreed-versions
     a.counts a.widths in
     let x = explained h b a.slot a.fields.now at-explain.explain.result
     (simp at-explain.before.head_of.ensures at at-explain.explain.ensures) past2.if2.left (passed3 c.before).if3.false in

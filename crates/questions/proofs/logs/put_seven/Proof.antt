@@ -1,7 +1,7 @@
 -- `logs::put_seven`: seven stores fill a list of seven.
 use native.Mathlib.Omega.{arith}
 use lib.ListN.{length-set}
-use Rattle.questions.proofs.Logging.{seven-set}
+use Rattle.questions.proofs.Logging.{seven_set}
 use borrow.Author.Rules.{rules}
 use Rattle.base.proofs.Known.{known}
 use Rattle.questions.proofs.logs.put_seven.Statement.{statement}
@@ -17,7 +17,7 @@ slice-write-fields-7 : tie.Need-slice-write-fields-7
 slice-write-fields-7 c = simp length-set (omega arith)
 
 returns : tie.Need-returns
-returns c = seven-set c.args.fields.now (c).requires
+returns c = seven_set c.args.fields.now (c).requires
 
 pub put-seven-spec : {M : Type 1} → statement M
 put-seven-spec =

@@ -1,5 +1,5 @@
 -- `logs::sawmauve_call`: 2 for a list of another length; else what checking says, as numbers.
-use Rattle.questions.proofs.Logging.{other-fields, fields_told}
+use Rattle.questions.proofs.Logging.{other_fields, fields_told}
 use Rattle.base.proofs.Known.{known}
 use Rattle.questions.proofs.logs.sawmauve_call.Statement.{statement}
 use Rattle.questions.proofs.logs.sawmauve_call.Tie as tie
@@ -12,7 +12,7 @@ after-line-of c = c.before.before.before
 -- ---- Needs
 
 returns : tie.Need-returns
-returns c = other-fields _ _ c.if1.true
+returns c = other_fields _ _ c.if1.true
 
 returns-2 : tie.Need-returns-2
 returns-2 c =

@@ -1,6 +1,6 @@
 -- `logs::sawmauve_play`: the answer as its code, and what playing leaves.
 use mathlib.Core.Path.{ap, ◌∙◌}
-use Rattle.questions.specs.Logs.{playedCode}
+use Rattle.questions.specs.Logs.{played_code}
 use Rattle.base.proofs.Known.{known}
 use Rattle.questions.proofs.logs.sawmauve_play.Statement.{statement}
 use Rattle.questions.proofs.logs.sawmauve_play.Tie as tie
@@ -16,7 +16,7 @@ after-play c =
 returns : tie.Need-returns
 returns c =
     let at-play = after-play c in
-    (c.played-code.ensures ∙ ap playedCode at-play.play.ensures.0, at-play.play.ensures.1, at-play.play.ensures.2)
+    (c.played-code.ensures ∙ ap played_code at-play.play.ensures.0, at-play.play.ensures.1, at-play.play.ensures.2)
 
 pub sawmauve-play-spec : {M : Type 1} → statement M
 sawmauve-play-spec =

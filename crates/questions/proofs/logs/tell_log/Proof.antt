@@ -2,7 +2,7 @@
 use mathlib.Core.Path.{refl}
 use native.Mathlib.Omega.{arith}
 use lib.ListN.{length-set}
-use Rattle.questions.proofs.Logging.{nine-set}
+use Rattle.questions.proofs.Logging.{nine_set}
 use borrow.Author.Rules.{rules}
 use Rattle.base.proofs.Known.{known}
 use Rattle.questions.proofs.logs.tell_log.Statement.{statement}
@@ -36,7 +36,7 @@ same_length c = simp length-set (omega arith)
 returns : tie.Need-returns
 returns c =
     let at-found = after-found c in
-    rw at-found.found.given.1 (refl, nine-set at-found.before.before.args.figures.now at-found.before.before.pre)
+    rw at-found.found.given.1 (refl, nine_set at-found.before.before.args.figures.now at-found.before.before.pre)
 
 pub tell-log-spec : {M : Type 1} → statement M
 tell-log-spec =

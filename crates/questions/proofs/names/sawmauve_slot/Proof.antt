@@ -1,7 +1,7 @@
 -- `names::sawmauve_slot`: 1 goes before 3.
 use mathlib.Core.Path.{sym, ◌∙◌}
 use borrow.Author.Tests.{not-true, not-false}
-use Rattle.questions.proofs.Dating.{bad-head, bad-date, named-slot}
+use Rattle.questions.proofs.Dating.{bad_head, bad_date, named_slot}
 use Rattle.base.proofs.Known.{known}
 use Rattle.questions.proofs.names.sawmauve_slot.Statement.{statement}
 use Rattle.questions.proofs.names.sawmauve_slot.Tie as tie
@@ -17,24 +17,24 @@ after-is-date c = c.before.before.before.before
 -- ---- Needs
 
 returns : tie.Need-returns
-returns c = bad-head _ _ c.before.before.head_of.ensures _ _ _ _ (sym c.before.head_ok.ensures ∙ not-true _ c.if1.true)
+returns c = bad_head _ _ c.before.before.head_of.ensures _ _ _ _ (sym c.before.head_ok.ensures ∙ not-true _ c.if1.true)
 
 returns-2 : tie.Need-returns-2
 returns-2 c =
-    bad-date _ _ (after-head-of c).head_of.ensures _ _ _ _
+    bad_date _ _ (after-head-of c).head_of.ensures _ _ _ _
     (sym c.before.before.before.head_ok.ensures ∙ not-false _ c.before.before.if1.false)
-    (sym c.before.is-date.ensures ∙ not-true _ c.if2.true)
+    (sym c.before.is_date_lem.ensures ∙ not-true _ c.if2.true)
 
 day-number-requires : tie.Need-day-number-requires
-day-number-requires c κs = sym c.before.is-date.ensures ∙ not-false _ c.if2.false
+day-number-requires c κs = sym c.before.is_date_lem.ensures ∙ not-false _ c.if2.false
 
 returns-3 : tie.Need-returns-3
 returns-3 c =
     let at-is-date = after-is-date c in
-    named-slot _ _ at-is-date.before.before.before.head_of.ensures _ _ _ _
+    named_slot _ _ at-is-date.before.before.before.head_of.ensures _ _ _ _
     (sym at-is-date.before.before.head_ok.ensures ∙ not-false _ at-is-date.before.if1.left)
-    (sym at-is-date.is-date.ensures ∙ not-false _ c.before.before.before.if2.false) _ c.before.before.day-number.ensures _
-    c.before.slot-at.ensures _ c.named-code.ensures
+    (sym at-is-date.is_date_lem.ensures ∙ not-false _ c.before.before.before.if2.false) _ c.before.before.day-number.ensures _
+    c.before.slot_at_lem.ensures _ c.named-code.ensures
 
 pub sawmauve-slot-spec : {M : Type 1} → statement M
 sawmauve-slot-spec =

@@ -1,7 +1,7 @@
 -- `sawmauve_simulate`: 1 goes before the length of the report, which goes with 2; else the answer of the run as its code.
 use mathlib.Core.Path.{sym, ◌∙◌}
 use borrow.Author.Tests.{not-true, not-false}
-use Rattle.questions.proofs.Reporting.{each, bad-head, bad-report, run-told}
+use Rattle.questions.proofs.Reporting.{each, bad_head, bad_report, run_told}
 use borrow.Author.Rules.{rules}
 use Rattle.base.proofs.Known.{known}
 use Rattle.questions.proofs.simulating.sawmauve_simulate.Statement.{statement}
@@ -20,11 +20,11 @@ after-simulate c =
 
 returns : tie.Need-returns
 returns c =
-    each (bad-head _ _ c.before.before.head_of.ensures _ _ _ _ _ (sym c.before.head_ok.ensures ∙ not-true _ c.if1.true))
+    each (bad_head _ _ c.before.before.head_of.ensures _ _ _ _ _ (sym c.before.head_ok.ensures ∙ not-true _ c.if1.true))
 
 returns-2 : tie.Need-returns-2
 returns-2 c =
-    each (bad-report _ _ c.before.before.before.head_of.ensures _ _ _ _ _
+    each (bad_report _ _ c.before.before.before.head_of.ensures _ _ _ _ _
     (sym c.before.before.head_ok.ensures ∙ not-false _ c.before.if1.false) c.if2.true)
 
 tell-requires : tie.Need-tell-requires
@@ -52,7 +52,7 @@ returns-3 : tie.Need-returns-3
 returns-3 c =
     let at-simulate = after-simulate c.before.before in
     let e = at-simulate.simulate.ensures in
-    each (run-told _ _ (passed2 at-simulate).before.before.before.head_of.ensures _ _ _ _ _ (passed2 at-simulate).if2.left _ e.0
+    each (run_told _ _ (passed2 at-simulate).before.before.before.head_of.ensures _ _ _ _ _ (passed2 at-simulate).if2.left _ e.0
     e.1 e.2 c.before.tell.ensures.0 c.before.tell.ensures.1)
 
 pub sawmauve-simulate-spec : {M : Type 1} → statement M

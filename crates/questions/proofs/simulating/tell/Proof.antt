@@ -7,7 +7,7 @@ use mir.Syntax.{w8, w64}
 use mir.Val.{Fits, SFits}
 use mir.ValLaws.{to_z-of_z, to_z_pos}
 use mathlib.Core.Path.{refl}
-use Rattle.questions.proofs.Reporting.{two-set}
+use Rattle.questions.proofs.Reporting.{two_set}
 use borrow.Author.Rules.{rules}
 use Rattle.base.proofs.Known.{known}
 use Rattle.questions.proofs.simulating.tell.Statement.{statement}
@@ -26,7 +26,7 @@ returns c = let found = c.before.before.before.simulated.given.0.0 in
     let fits : SFits w64 found.difference = search rules in
     rw c.before.before.before.simulated.given.1 (
       refl,
-      two-set (start c).args.report.now _ _ (start c).requires
+      two_set (start c).args.report.now _ _ (start c).requires
           ∙ ap₂ (λ (x y : ℤ). x ∷ y ∷ []) (to_z_pos w64 _ (omega (arith, small.fits))) (to_z-of_z w64 _ fits),
     )
 

@@ -7,17 +7,17 @@ use native.Mathlib.Nat.{le_refl}
 use native.Mathlib.Omega.{arith}
 use borrow.Author.Rules.{rules}
 use Rattle.base.specs.Lists.{sum}
-use Rattle.rules.specs.Opening.{Slots, Agreed, slotCount}
-use Rattle.rules.specs.Lent.{slots, agreedLists}
-use Rattle.rules.proofs.Bounds.{bounded, count-high}
-use Rattle.rules.proofs.Directs.{direct_good, direct-agreed, direct-none, good-value, agreed-value, Summed, summed-on, summed-end}
-use Rattle.rules.proofs.Outages.{zero-none, good-delivered}
+use Rattle.rules.specs.Opening.{Slots, Agreed, slot_count}
+use Rattle.rules.specs.Lent.{slots, agreed_lists}
+use Rattle.rules.proofs.Bounds.{bounded, count_high}
+use Rattle.rules.proofs.Directs.{direct_good, direct_agreed, direct_none, good_value, agreed_value, Summed, summed_on, summed-end}
+use Rattle.rules.proofs.Outages.{zero_none, good_delivered}
 use Rattle.rules.proofs.direct.add_up.Statement.{statement}
 use Rattle.rules.proofs.direct.add_up.Tie as tie
 
 abbrev invariant-loop : tie.invariant-loop
 invariant-loop head values versions statuses agreed agreed-versions from to before sum₀ outage₀ at₀ sum outage at =
-    Summed head (slots values versions statuses) (agreedLists agreed agreed-versions) from to sum outage at
+    Summed head (slots values versions statuses) (agreed_lists agreed agreed-versions) from to sum outage at
 
 abbrev decreases-loop : tie.decreases-loop
 decreases-loop head values versions statuses agreed agreed-versions from to before sum₀ outage₀ at₀ sum outage at = to - at
@@ -45,17 +45,17 @@ abbrev lent : At-loop → Slots
 lent c = let a = (start c).args in slots a.values.now a.versions.now a.statuses.now
 
 abbrev settled : At-loop → Agreed
-settled c = let a = (start c).args in agreedLists a.agreed.now a.agreed-versions.now
+settled c = let a = (start c).args in agreed_lists a.agreed.now a.agreed-versions.now
 
 absent : {i from : ℕ} → i < from → from ≤ i → ⊥
 absent l m = omega arith
 
 -- the slot lies in the book
-below : (c : tie.In-loop invariant-loop decreases-loop) → c.before.loop.at < slotCount (start c.before).args.head
+below : (c : tie.In-loop invariant-loop decreases-loop) → c.before.loop.at < slot_count (start c.before).args.head
 below c = omega (arith, c.loop-test.true, (start c.before).pre.inside)
 
-most : (c : At-loop) → slotCount (start c).args.head ≤ 115_200
-most c = count-high (start c).args.head (bounded (start c).args.head (start c).requires.fitted.head)
+most : (c : At-loop) → slot_count (start c).args.head ≤ 115_200
+most c = count_high (start c).args.head (bounded (start c).args.head (start c).requires.fitted.head)
 
 -- ---- Needs
 
@@ -95,7 +95,7 @@ returns : tie.Need-returns invariant-loop decreases-loop
 returns c =
     let at = turn c.before.before.before in
     let cause = sym c.before.before.before.is-good.ensures ∙ c.before.before.if1.false in
-    summed-end _ (lent at) (settled at) _ _ _ _ _ at.loop.inv (λ l. direct-none _ _ (settled at) _ cause c.if2.true)
+    summed-end _ (lent at) (settled at) _ _ _ _ _ at.loop.inv (λ l. direct_none _ _ (settled at) _ cause c.if2.true)
 
 outage-zero-requires : tie.Need-outage-zero-requires invariant-loop decreases-loop
 outage-zero-requires c κs =
@@ -133,17 +133,17 @@ loop-again c =
     let s = lent at in
     let a = settled at in
     let i = at.loop.at in
-    let on = summed-on h s a _ _ _ _ i at.loop.inv in
+    let on = summed_on h s a _ _ _ _ i at.loop.inv in
     ⊎_elim
     (λ w.
     let good = sym c.before.is-good.ensures ∙ w.0.taken in
-    let zero = sym (zero-none s.versions s.statuses (slotCount h) i (good-delivered h s i good)) in
-    rw (w.2, w.3) (on _ false c.before.before.loop-test.true (direct_good h s a i good) (good-value h s a i good)
+    let zero = sym (zero_none s.versions s.statuses (slot_count h) i (good_delivered h s i good)) in
+    rw (w.2, w.3) (on _ false c.before.before.loop-test.true (direct_good h s a i good) (good_value h s a i good)
     (omega (arith, w.1.given i)) zero))
     (λ w.
     let cause = sym c.before.is-good.ensures ∙ w.0.left in
     let zero = rw (start at).pre.fitted.versions at w.3.ensures in
-    rw (w.5, w.6) (on _ _ c.before.before.loop-test.true (direct-agreed h s a i w.2.left) (agreed-value h s a i cause)
+    rw (w.5, w.6) (on _ _ c.before.before.loop-test.true (direct_agreed h s a i w.2.left) (agreed_value h s a i cause)
     (omega (arith, w.4.given i)) zero))
     c.if1.branch
 

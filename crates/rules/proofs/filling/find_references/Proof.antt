@@ -7,23 +7,23 @@ use native.Mathlib.Omega.{arith}
 use Rattle.base.proofs.Known.{known}
 use lib.ListN.{length}
 use Rattle.rules.specs.declared.Head.{Head}
-use Rattle.rules.specs.Opening.{Slots, slotsPerDay, slotCount}
-use Rattle.rules.specs.References.{inFour}
+use Rattle.rules.specs.Opening.{Slots, slots_per_day, slot_count}
+use Rattle.rules.specs.References.{in_four}
 use Rattle.rules.specs.Lent.{slots}
 use Rattle.rules.specs.Inner.Ways.{value_of, InBook}
-use Rattle.rules.specs.Weeks.{firstBack, farthestBack}
-use Rattle.rules.proofs.Bounds.{Bounded, bounded, count-high, day-below}
-use Rattle.rules.proofs.References.{values-each}
+use Rattle.rules.specs.Weeks.{first_back, farthest_back}
+use Rattle.rules.proofs.Bounds.{Bounded, bounded, count_high, day_below}
+use Rattle.rules.proofs.References.{values_each}
 use Rattle.rules.proofs.Searches.{Keeping, Standing, begin-fits, stands-first, keeps-none, slot-inside, stands_on, keeps-passed}
-use Rattle.rules.proofs.Searches.{keeps-found, weeks-fit, past-gaps}
-use Rattle.rules.proofs.Searches.{keeps-spent, keeps-full}
+use Rattle.rules.proofs.Searches.{keeps-found, weeks_fit, past-gaps}
+use Rattle.rules.proofs.Searches.{keeps_spent, keeps_full}
 use Rattle.rules.proofs.filling.find_references.Statement.{statement}
 use Rattle.rules.proofs.filling.find_references.Tie as tie
 
 record Held (h : Head) (s : Slots) (holidays : List ℕ) (slot week : ℕ) (found days : List ℕ) (count left at : ℕ) : Type 0 where
   standing : Standing h slot week count at left
   values : Keeping (value_of s) h s holidays slot found count at left
-  dates : Keeping (λ j. j / slotsPerDay h) h s holidays slot days count at left
+  dates : Keeping (λ j. j / slots_per_day h) h s holidays slot days count at left
 
 abbrev invariant-weeks : tie.invariant-weeks
 invariant-weeks head values versions statuses holidays slot week found₀ days₀ count₀ begin at₀ left₀ found days count at left =
@@ -61,19 +61,19 @@ lent c = let a = c.args in slots a.values.now a.versions.now a.statuses.now
 bounds : (c : tie.Start invariant-weeks decreases-weeks) → Bounded c.args.head
 bounds c = bounded c.args.head c.requires.0.fitted.head
 
-most : (c : tie.Start invariant-weeks decreases-weeks) → slotCount c.args.head ≤ 115_200
-most c = count-high c.args.head (bounds c)
+most : (c : tie.Start invariant-weeks decreases-weeks) → slot_count c.args.head ≤ 115_200
+most c = count_high c.args.head (bounds c)
 
 -- a week of slots, and the first days back, with the weeks that lie in the book
-week : (c : tie.After-day-with invariant-weeks decreases-weeks) → 7 * c.day-with.result.slots ≡ 7 * slotsPerDay (entry c).args.head
+week : (c : tie.After-day-with invariant-weeks decreases-weeks) → 7 * c.day-with.result.slots ≡ 7 * slots_per_day (entry c).args.head
 week c = ap (λ (x : ℕ). 7 * x) c.day-with.ensures.1
 
 first : (c : tie.After-way-back invariant-weeks decreases-weeks) → let a = (entry (led c)).args in
-    c.way_back.result.first ≡ firstBack a.head a.holidays.now (a.slot / slotsPerDay a.head)
+    c.way_back.result.first ≡ first_back a.head a.holidays.now (a.slot / slots_per_day a.head)
 first c = rw (led c).day-with.ensures.0 at c.way_back.ensures.0
 
-weeks : (c : tie.After-way-back invariant-weeks decreases-weeks) → let a = (entry (led c)).args in let d = a.slot / slotsPerDay a.head in
-    InBook c.way_back.result.first (farthestBack a.holidays.now d) d c.way_back.result.weeks
+weeks : (c : tie.After-way-back invariant-weeks decreases-weeks) → let a = (entry (led c)).args in let d = a.slot / slots_per_day a.head in
+    InBook c.way_back.result.first (farthest_back a.holidays.now d) d c.way_back.result.weeks
 weeks c = rw (led c).day-with.ensures.0 at c.way_back.ensures.1
 
 -- where the search begins
@@ -83,7 +83,7 @@ begin c =
     (entry (led c)).args.slot + 7 * n - c.way_back.result.first * n
 
 begins : (c : tie.After-way-back invariant-weeks decreases-weeks) → let at = led c in
-    begin c ≡ (entry at).args.slot + 7 * at.day-with.result.slots - c.way_back.result.first * slotsPerDay (entry at).args.head
+    begin c ≡ (entry at).args.slot + 7 * at.day-with.result.slots - c.way_back.result.first * slots_per_day (entry at).args.head
 begins c =
     let at = led c in
     ap (λ (x : ℕ). (entry at).args.slot + 7 * at.day-with.result.slots - c.way_back.result.first * x) at.day-with.ensures.1
@@ -109,7 +109,7 @@ keeps f c =
 
 -- the slot of this week lies in the book
 inside : (c : tie.In-weeks invariant-weeks decreases-weeks) → let at = c.before in
-    at.weeks.at - 7 * (led (begun at.before)).day-with.result.slots < slotCount (start at).args.head
+    at.weeks.at - 7 * (led (begun at.before)).day-with.result.slots < slot_count (start at).args.head
 inside c = omega (arith, c.before.weeks.invariant.standing.near, (start c.before).pre.1)
 
 -- ---- Needs
@@ -123,7 +123,7 @@ way-back-requires c κs =
     let s = entry at in (
       s.pre.0.fitted.head,
       s.pre.0.holidays,
-      rw at.day-with.ensures.0 (day-below s.args.head (bounds s) s.args.slot s.pre.1),
+      rw at.day-with.ensures.0 (day_below s.args.head (bounds s) s.args.slot s.pre.1),
     )
 
 add_begin : tie.Need-overflow-add-begin invariant-weeks decreases-weeks
@@ -132,7 +132,7 @@ add_begin c = let s = entry (led c) in rw (led c).day-with.ensures.1 (omega (ari
 mul-begin : tie.Need-overflow-mul-begin invariant-weeks decreases-weeks
 mul-begin c =
     let at = c.before.before in
-    rw (led at).day-with.ensures.1 (omega (arith, mul-le-mul at.way_back.ensures.1.short (bounds (entry (led at))).day-high))
+    rw (led at).day-with.ensures.1 (omega (arith, mul-le-mul at.way_back.ensures.1.short (bounds (entry (led at))).day_high))
 
 sub-begin : tie.Need-overflow-sub-begin invariant-weeks decreases-weeks
 sub-begin c =
@@ -146,7 +146,7 @@ pass-gaps-requires : tie.Need-pass-gaps-requires invariant-weeks decreases-weeks
 pass-gaps-requires c κs =
     let at = c.before.before in
     let s = entry (led at) in (
-      weeks-fit s.args.head (bounds s) s.args.slot _ (week (led at)) _ _ (stands at),
+      weeks_fit s.args.head (bounds s) s.args.slot _ (week (led at)) _ _ (stands at),
       omega (arith, (stands at).near, s.pre.1, s.pre.0.fitted.versions),
     )
 
@@ -189,7 +189,7 @@ cast-days c =
     let turned = turn (found c) in
     let at = start turned.before in
     rw c.day-of.ensures
-    (record { fits = omega (arith, day-below at.args.head (bounds at) _ (inside turned), (bounds at).days-high) })
+    (record { fits = omega (arith, day_below at.args.head (bounds at) _ (inside turned), (bounds at).days_high) })
 
 mul-days : tie.Need-overflow-mul-days invariant-weeks decreases-weeks
 mul-days c = omega (arith, (turn (found c)).before.weeks.inv.standing.room)
@@ -239,10 +239,10 @@ returns : tie.Need-returns invariant-weeks decreases-weeks
 returns c =
     let held = c.before.weeks.invariant in
     let at = start c.before in
-    let v = keeps-spent held.values held.standing.room c.weeks-test.true in
-    let d = keeps-spent held.dates held.standing.room c.weeks-test.true in
-    let e = values-each at.args.head (lent at) at.args.holidays.now at.args.slot in
-    (d.0, v.0 ∙ ap inFour e, v.1 ∙ ap length e)
+    let v = keeps_spent held.values held.standing.room c.weeks-test.true in
+    let d = keeps_spent held.dates held.standing.room c.weeks-test.true in
+    let e = values_each at.args.head (lent at) at.args.holidays.now at.args.slot in
+    (d.0, v.0 ∙ ap in_four e, v.1 ∙ ap length e)
 
 returns-2 : tie.Need-returns-2 invariant-weeks decreases-weeks
 returns-2 c =
@@ -253,11 +253,11 @@ returns-2 c =
     let yes = sym is.is-reference.ensures ∙ c.before.before.before.if1.true in
     let seven = held.standing.seven in
     let more = turned.weeks-test.left in
-    let v = keeps-full (keeps-found s.args.head (bounds s) _ _ seven held.standing more held.values _ refl yes) c.if2.true in
-    let d = keeps-full (keeps-found s.args.head (bounds s) _ _ seven held.standing more held.dates _ c.before.day-of.ensures
+    let v = keeps_full (keeps-found s.args.head (bounds s) _ _ seven held.standing more held.values _ refl yes) c.if2.true in
+    let d = keeps_full (keeps-found s.args.head (bounds s) _ _ seven held.standing more held.dates _ c.before.day-of.ensures
     yes) c.if2.true in
-    let e = values-each s.args.head (lent s) s.args.holidays.now s.args.slot in
-    (d.0, v.0 ∙ ap inFour e, v.1 ∙ ap length e)
+    let e = values_each s.args.head (lent s) s.args.holidays.now s.args.slot in
+    (d.0, v.0 ∙ ap in_four e, v.1 ∙ ap length e)
 
 pub find-references-spec : {M : Type 1} → statement M
 find-references-spec =

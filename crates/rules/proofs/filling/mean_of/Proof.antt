@@ -10,8 +10,8 @@ use borrow.Author.Rules.{rules}
 use lib.ListN.{length, take, get_or}
 use lib.Seq.{length-take-le}
 use Rattle.base.specs.Lists.{sum_of}
-use Rattle.rules.specs.Filling.{meanOf}
-use Rattle.rules.proofs.References.{total-next}
+use Rattle.rules.specs.Filling.{mean_of}
+use Rattle.rules.proofs.References.{total_next}
 use Rattle.rules.proofs.filling.mean_of.Statement.{statement}
 use Rattle.rules.proofs.filling.mean_of.Tie as tie
 
@@ -27,7 +27,7 @@ abbrev decreases-loop : tie.decreases-loop
 decreases-loop values count sum₀ i₀ sum i = count - i
 
 returns : tie.Need-returns invariant-loop decreases-loop
-unfolding meanOf
+unfolding mean_of
 returns c =
     let v = c.before.before.before.args.found.values in
     let n = c.before.before.before.args.found.count in
@@ -51,7 +51,7 @@ loop-again c =
     let e : Fits w32 (get_or c.before.before.before.args.found.values c.before.loop.i 0) = search rules in
     record {
       inside = omega arith;
-      known = total-next c.before.before.before.args.found.values c.before.loop.i _ c.before.loop.invariant.known;
+      known = total_next c.before.before.before.args.found.values c.before.loop.i _ c.before.loop.invariant.known;
       small = omega arith;
     }
 

@@ -6,9 +6,9 @@ use lib.ListN.{length, take}
 use Rattle.base.specs.Lists.{sum_of}
 use Rattle.rules.specs.Filling.{references, shape_of}
 use Rattle.rules.specs.Lent.{slots}
-use Rattle.rules.proofs.References.{from-none, from_some}
-use Rattle.rules.proofs.Searches.{first-places}
-use Rattle.rules.proofs.Shapes.{shape-exact, references-few}
+use Rattle.rules.proofs.References.{from_none, from_some}
+use Rattle.rules.proofs.Searches.{first_places}
+use Rattle.rules.proofs.Shapes.{shape_exact, references_few}
 use Rattle.base.proofs.Known.{known}
 use Rattle.rules.proofs.filling.same_day.Statement.{statement}
 use Rattle.rules.proofs.filling.same_day.Tie as tie
@@ -28,12 +28,12 @@ few : (c : tie.After-find-references) → let a = (start c).args in
     length (references a.head (slots a.values.now a.versions.now a.statuses.now) a.holidays.now a.at) ≤ 4
 few c =
     let a = (start c).args in
-    references-few a.head (slots a.values.now a.versions.now a.statuses.now) a.holidays.now a.at
+    references_few a.head (slots a.values.now a.versions.now a.statuses.now) a.holidays.now a.at
 
 values : (c : tie.After-find-references) → let a = (start c).args in let r = c.find-references.result in
     take r.count r.values
     ≡ references a.head (slots a.values.now a.versions.now a.statuses.now) a.holidays.now a.at
-values c = first-places _ _ _ c.find-references.ensures.1 c.find-references.ensures.2 (few c)
+values c = first_places _ _ _ c.find-references.ensures.1 c.find-references.ensures.2 (few c)
 
 -- ---- Needs
 
@@ -41,7 +41,7 @@ returns : tie.Need-returns
 unfolding shape_of
 returns c =
     let search = c.before.before.before in
-    let none = from-none _ (sym search.find-references.ensures.2 ∙ c.before.if1.true) in
+    let none = from_none _ (sym search.find-references.ensures.2 ∙ c.before.if1.true) in
     (c.unshaped.ensures.0 ∙ sym none, rw c.unshaped.ensures.0 c.unshaped.ensures.1)
 
 mean-of-requires : tie.Need-mean-of-requires
@@ -64,7 +64,7 @@ returns-2 c =
     let n : length x ≡ 0 → ⊥ = omega (arith, c.before.before.if1.false) in
     let m = c.before.mean-of.ensures in
     let q : c.shape-of.result * length x ≡ 12 * sum_of x = rw (e, ← m.2, ← m.1) c.shape-of.ensures in
-    rw (← values search) (simp (from_some x n, m.0), shape-exact _ _ _ (omega arith) q)
+    rw (← values search) (simp (from_some x n, m.0), shape_exact _ _ _ (omega arith) q)
 
 pub same-day-spec : {M : Type 1} → statement M
 same-day-spec = tie.close (tie.spec (λ c κs. search known) (λ c κs. search known) returns mean-of-requires shape-of-requires returns-2)

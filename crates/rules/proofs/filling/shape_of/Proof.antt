@@ -1,8 +1,8 @@
--- `filling::shape_of`: the sum fits, and `shape-whole`.
+-- `filling::shape_of`: the sum fits, and `shape_whole`.
 use Prim.Native.Nat.{◌≤◌}
 use native.Mathlib.Nat.{mul-le-mul}
 use native.Mathlib.Omega.{arith}
-use Rattle.rules.proofs.Shapes.{shape-whole}
+use Rattle.rules.proofs.Shapes.{shape_whole}
 use borrow.Author.Rules.{rules}
 use Rattle.base.proofs.Known.{known}
 use Rattle.rules.proofs.filling.shape_of.Statement.{statement}
@@ -10,7 +10,7 @@ use Rattle.rules.proofs.filling.shape_of.Tie as tie
 
 returns : tie.Need-returns
 returns c =
-    shape-whole c.before.before.before.args.mean.number _ c.before.before.before.requires.0 c.before.before.before.requires.1
+    shape_whole c.before.before.before.args.mean.number _ c.before.before.before.requires.0 c.before.before.before.requires.1
 
 mul-sum : tie.Need-overflow-mul-sum
 mul-sum c = let p : c.before.before.args.mean.mean ≤ 4_294_967_295 = search rules in

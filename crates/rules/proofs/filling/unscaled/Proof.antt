@@ -7,7 +7,7 @@ use Rattle.base.proofs.Known.{known}
 use Rattle.rules.specs.declared.Outcome.{Outcome}
 use Rattle.rules.specs.declared.Quality.TheVariants.{S}
 use Rattle.rules.specs.Filling.{shape_of}
-use Rattle.rules.specs.Inner.Walks.{ruledBy}
+use Rattle.rules.specs.Inner.Walks.{ruled_by}
 use Rattle.rules.proofs.filling.unscaled.Statement.{statement}
 use Rattle.rules.proofs.filling.unscaled.Tie as tie
 
@@ -28,24 +28,24 @@ passed1-same-day c = c.before.before
 -- ---- Needs
 
 returns : tie.Need-returns
-unfolding ruledBy shape_of
+unfolding ruled_by shape_of
 returns c = (c.unshaped.ensures.0 ∙ rw c.before.if1.true, rw c.unshaped.ensures.0 c.unshaped.ensures.1)
 
 line-value-requires : tie.Need-line-value-requires
 line-value-requires c κs = (start c.before.before.before).requires.2 c.if2.true
 
 returns-2 : tie.Need-returns-2
-unfolding ruledBy shape_of
+unfolding ruled_by shape_of
 returns-2 c =
     let line = (start (passed1 c.before).before).args.line in
     (simp ((passed1 c.before).if1.false, lt-ltb 0 line.length c.before.if2.true) (ap line_of c.line-value.ensures), refl)
 
 returns-3 : tie.Need-returns-3
-unfolding ruledBy
+unfolding ruled_by
 returns-3 c =
     let line = (start (passed1-same-day c.before).before).args.line in (
-      c.same-day.ensures.0 ∙ simp ((passed1-same-day c.before).if1.false, le-ltb 0 line.length c.before.if2.false),
-      c.same-day.ensures.1,
+      c.same_day_lem.ensures.0 ∙ simp ((passed1-same-day c.before).if1.false, le-ltb 0 line.length c.before.if2.false),
+      c.same_day_lem.ensures.1,
     )
 
 pub unscaled-spec : {M : Type 1} → statement M

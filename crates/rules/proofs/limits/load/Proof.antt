@@ -2,7 +2,7 @@ use Prim.Native.Nat.{◌<◌}
 -- `limits::load`: 13 before 1, then the limit at the place.
 use mathlib.Core.Path.{sym, ◌∙◌}
 use borrow.Author.Tests.{le-leb, lt-leb, not-true, not-false}
-use Rattle.rules.specs.Limits.{loadAnswer}
+use Rattle.rules.specs.Limits.{load_answer}
 use borrow.Author.Rules.{rules}
 use Rattle.base.proofs.Known.{known}
 use Rattle.rules.proofs.limits.load.Statement.{statement}
@@ -19,16 +19,16 @@ after-table-ok c = c.before.before.before
 -- ---- Needs
 
 returns : tie.Need-returns
-unfolding loadAnswer
+unfolding load_answer
 returns c = rw (sym c.before.table-ok.ensures ∙ not-true _ c.if1.true)
 
 returns-2 : tie.Need-returns-2
-unfolding loadAnswer
+unfolding load_answer
 returns-2 c = let p : (start c).args.kind < 1 = c.if2.true in
     rw (sym c.before.before.table-ok.ensures ∙ not-false _ c.before.if1.false, lt-leb _ _ p)
 
 returns-3 : tie.Need-returns-3
-unfolding loadAnswer
+unfolding load_answer
 returns-3 c =
     rw (
       sym c.before.before.before.table-ok.ensures ∙ not-false _ c.before.before.if1.false,
@@ -37,7 +37,7 @@ returns-3 c =
     )
 
 returns-4 : tie.Need-returns-4
-unfolding loadAnswer
+unfolding load_answer
 returns-4 c =
     rw (
       sym (after-table-ok c.before).table-ok.ensures ∙ not-false _ c.before.before.before.if1.false,

@@ -3,10 +3,10 @@ use mathlib.Core.Path.{sym, ◌∙◌}
 use Prim.Native.Nat.{◌+◌, ◌<◌}
 use native.Mathlib.Omega.{arith}
 use borrow.Author.Tests.{not-true, not-false}
-use Rattle.rules.specs.Opening.{slotCount}
+use Rattle.rules.specs.Opening.{slot_count}
 use Rattle.rules.specs.Lent.{slots}
-use Rattle.rules.proofs.Bounds.{bounded, count-high}
-use Rattle.rules.proofs.Lines.{line-first-slot, line-no-left, line-no-right, line-ends, line-found}
+use Rattle.rules.proofs.Bounds.{bounded, count_high}
+use Rattle.rules.proofs.Lines.{line-first-slot, line-no-left, line-no-right, line_ends, line-found}
 use borrow.Author.Rules.{rules}
 use Rattle.base.proofs.Known.{known}
 use Rattle.rules.proofs.linear.begin.Statement.{statement}
@@ -46,13 +46,13 @@ Past3 =
       is-good-reads.Learnt,
       length-within-reads.Asked,
       length-within-reads.Learnt,
-    ) readVersions.Pre readVersions.Post
+    ) read_versions.Pre read_versions.Post
 
 -- a slot follows the run
-inside : (c : Past3) → (start-passed3 c).args.at + c.before.length-within.result < slotCount (start-passed3 c).args.head
+inside : (c : Past3) → (start-passed3 c).args.at + c.before.length-within.result < slot_count (start-passed3 c).args.head
 inside c =
     let p = start-passed3 c in
-    line-ends p.args.head (slots p.args.values.now p.args.versions.now p.args.statuses.now)
+    line_ends p.args.head (slots p.args.values.now p.args.versions.now p.args.statuses.now)
     p.args.agreed-versions.now p.args.at p.pre.2 p.pre.3 p.pre.4 (passed1 c).if1.false
     (sym c.before.before.before.is-good.ensures ∙ not-false _ c.before.before.if2.false) c.before.length-within.result
     c.before.length-within.ensures c.if3.false
@@ -90,7 +90,7 @@ add-after : tie.Need-overflow-add-after
 add-after c = omega (arith, inside c)
 
 cast-t12 : tie.Need-overflow-cast-t12
-cast-t12 c = let b = count-high _ (bounded _ (start-passed3 c).requires.0.head) in
+cast-t12 c = let b = count_high _ (bounded _ (start-passed3 c).requires.0.head) in
     record { fits = omega (arith, inside c) }
 
 mul-t16 : tie.Need-overflow-mul-t16

@@ -1,6 +1,6 @@
 -- `linear::floor_over`: one less than the quotient where the remainder is negative.
 use Prim.Native.Nat.{◌<◌, ◌^◌}
-use Rattle.rules.proofs.Floors.{quot_fits, down_fits, down-read, whole-read}
+use Rattle.rules.proofs.Floors.{quot_fits, down_fits, down-read, whole_read}
 use borrow.Author.Rules.{rules}
 use Rattle.rules.proofs.linear.floor_over.Statement.{statement}
 use Rattle.rules.proofs.linear.floor_over.Tie as tie
@@ -21,7 +21,7 @@ returns : tie.Need-returns
 returns c = down-read c.before.args.z c.before.ranges.z c.before.args.m (small c.before) c.before.requires c.if1.true
 
 returns-2 : tie.Need-returns-2
-returns-2 c = whole-read c.before.args.z c.before.ranges.z c.before.args.m (small c.before) c.before.requires c.if1.false
+returns-2 c = whole_read c.before.args.z c.before.ranges.z c.before.args.m (small c.before) c.before.requires c.if1.false
 
 pub floor-over-spec : {M : Type 1} → statement M
 floor-over-spec = tie.close (tie.spec (λ c. search rules) div-q rem-if1 sub-result returns returns-2)

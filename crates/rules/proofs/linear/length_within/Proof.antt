@@ -9,24 +9,24 @@ use native.Mathlib.Nat.{div-le_self, lt_of_le_of_lt}
 use native.Mathlib.Numerals.{add-one}
 use native.Mathlib.Omega.{arith}
 use lib.Dec.{lit<}
-use Rattle.rules.specs.Opening.{slotCount}
+use Rattle.rules.specs.Opening.{slot_count}
 use Rattle.rules.specs.Filling.{run_from}
 use Rattle.rules.specs.Lent.{slots}
-use Rattle.rules.specs.Inner.Walks.{zeroBefore}
+use Rattle.rules.specs.Inner.Walks.{zero_before}
 use Rattle.rules.proofs.Bounds.{bounded}
-use Rattle.rules.proofs.Runs.{not-agreed, run-agreed, run-zeroed, run_holds, from_on, run_on}
+use Rattle.rules.proofs.Runs.{not_agreed, run-agreed, run-zeroed, run_holds, from_on, run_on}
 use Rattle.rules.proofs.Runs.{within-last, within-good, within-broken}
 use Rattle.rules.proofs.Runs.{within-long}
-use Rattle.rules.proofs.Outages.{zero-applies, run-not-zeroed}
+use Rattle.rules.proofs.Outages.{zero_applies, run_not_zeroed}
 use Rattle.rules.proofs.linear.length_within.Statement.{statement}
 use Rattle.rules.proofs.linear.length_within.Tie as tie
 
 record Held (head : Head) (values versions statuses agreed : List ℕ) (at k : ℕ) : Type 0 where
   low : 1 ≤ k
-  inside : at + k ≤ slotCount head
-  run : run_from head (slots values versions statuses) agreed at (slotCount head - at)
-      ≡ k + run_from head (slots values versions statuses) agreed (at + k) (slotCount head - (at + k))
-  level : false ≡ zeroBefore versions statuses (slotCount head) (at + k)
+  inside : at + k ≤ slot_count head
+  run : run_from head (slots values versions statuses) agreed at (slot_count head - at)
+      ≡ k + run_from head (slots values versions statuses) agreed (at + k) (slot_count head - (at + k))
+  level : false ≡ zero_before versions statuses (slot_count head) (at + k)
 
 abbrev invariant-loop : tie.invariant-loop
 invariant-loop head values versions statuses agreed at most k₀ k = Held head values versions statuses agreed at k
@@ -54,7 +54,7 @@ cast-most : tie.Need-overflow-cast-most invariant-loop decreases-loop
 cast-most c = record { fits = lt_of_le_of_lt (div-le_self _ _) (lit< tt) }
 
 div_most : tie.Need-nonzero-div-most invariant-loop decreases-loop
-div_most c = let b = bounded (start c).args.head (start c).requires.0.head in omega (arith, b.interval-low)
+div_most c = let b = bounded (start c).args.head (start c).requires.0.head in omega (arith, b.interval_low)
 
 loop-holds : tie.Need-loop-init invariant-loop decreases-loop
 loop-holds c =
@@ -65,7 +65,7 @@ loop-holds c =
       low = omega arith;
       inside = omega arith;
       run = rw add-one (omega (arith, from_on a.head s a.agreed-versions.now a.at begun.pre.2 begun.pre.3));
-      level = rw add-one (run-not-zeroed a.head s a.agreed-versions.now _ a.at refl begun.pre.3);
+      level = rw add-one (run_not_zeroed a.head s a.agreed-versions.now _ a.at refl begun.pre.3);
     }
 
 returns : tie.Need-returns invariant-loop decreases-loop
@@ -82,7 +82,7 @@ returns-2 c =
     let a = (start looped.before).args in
     let b = bounded a.head (start looped.before).pre.0.head in
     sym (within-good a.head (slots a.values.now a.versions.now a.statuses.now) a.agreed-versions.now a.at
-    looped.loop.k looped.loop.inv.run c.before.before.before.loop-test.true (omega (arith, b.interval-low)) (omega arith)
+    looped.loop.k looped.loop.inv.run c.before.before.before.loop-test.true (omega (arith, b.interval_low)) (omega arith)
     (sym c.before.is-good.ensures ∙ c.if2.true))
 
 returns-3 : tie.Need-returns-3 invariant-loop decreases-loop
@@ -107,7 +107,7 @@ returns-4 c =
     sym (within-broken a.head s a.agreed-versions.now a.at (at-loop past2.before).loop.k
     (at-loop past2.before).loop.inv.run (sym past2.before.is-good.ensures ∙ past2.if2.left)
     (run-zeroed a.head s a.agreed-versions.now _ _
-    (c.before.outage-zero.ensures ∙ zero-applies a.head s _ (start-outage-zero c.before).pre.0.versions _) c.if4.true))
+    (c.before.outage-zero.ensures ∙ zero_applies a.head s _ (start-outage-zero c.before).pre.0.versions _) c.if4.true))
 
 loop-again : tie.Need-loop-preserved invariant-loop decreases-loop
 loop-again c =
@@ -117,24 +117,24 @@ loop-again c =
     let v = a.agreed-versions.now in
     let i = a.at in
     let k = (at-loop past2.before).loop.k in
-    let l : i + k < slotCount a.head = omega arith in
+    let l : i + k < slot_count a.head = omega arith in
     let r = run_holds a.head s v (i + k) (sym past2.before.is-good.ensures ∙ past2.if2.left)
-    (not-agreed v (i + k) c.before.before.if3.false) _
-    (c.before.outage-zero.ensures ∙ zero-applies a.head s _ (start-outage-zero c.before).pre.0.versions (i + k))
+    (not_agreed v (i + k) c.before.before.if3.false) _
+    (c.before.outage-zero.ensures ∙ zero_applies a.head s _ (start-outage-zero c.before).pre.0.versions (i + k))
     c.if4.false in
     let n : i + (k + 1) ≡ suc (i + k) = omega arith in
     record {
       low = omega arith;
       inside = omega arith;
       run = run_on a.head s v i k (at-loop past2.before).loop.inv.run l r;
-      level = rw n (run-not-zeroed a.head s v _ (i + k) refl r);
+      level = rw n (run_not_zeroed a.head s v _ (i + k) refl r);
     }
 
 returns-5 : tie.Need-returns-5 invariant-loop decreases-loop
 returns-5 c = let a = (start c.before.before).args in
     let b = bounded a.head (start c.before.before).pre.0.head in
     sym (within-long a.head (slots a.values.now a.versions.now a.statuses.now) a.agreed-versions.now a.at
-    c.before.loop.k c.before.loop.invariant.run c.loop-test.false (omega (arith, b.interval-low)))
+    c.before.loop.k c.before.loop.invariant.run c.loop-test.false (omega (arith, b.interval_low)))
 
 pub length-within-spec : {M : Type 1} → statement M
 length-within-spec =

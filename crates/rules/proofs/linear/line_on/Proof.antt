@@ -3,8 +3,8 @@ use mathlib.Core.Path.{◌∙◌}
 use borrow.Author.Rules.{rules}
 use Rattle.base.proofs.Known.{known}
 use Rattle.rules.specs.Lent.{slots}
-use Rattle.rules.proofs.Runs.{not-agreed, run-agreed}
-use Rattle.rules.proofs.Lines.{line-none}
+use Rattle.rules.proofs.Runs.{not_agreed, run-agreed}
+use Rattle.rules.proofs.Lines.{line_none}
 use Rattle.rules.proofs.linear.line_on.Statement.{statement}
 use Rattle.rules.proofs.linear.line_on.Tie as tie
 
@@ -20,7 +20,7 @@ returns c =
     let a = (start c.before.before).args in
     let s = slots a.values.now a.versions.now a.statuses.now in
     let v = a.agreed-versions.now in
-    c.bare.ensures ∙ line-none a.head s v a.at (run-agreed a.head s v a.at c.before.if1.true)
+    c.bare.ensures ∙ line_none a.head s v a.at (run-agreed a.head s v a.at c.before.if1.true)
 
 line-unagreed-requires : tie.Need-line-unagreed-requires
 line-unagreed-requires c κs =
@@ -30,7 +30,7 @@ line-unagreed-requires c κs =
       begun.pre.1,
       begun.pre.2,
       begun.pre.3,
-      not-agreed a.agreed-versions.now a.at c.if1.false,
+      not_agreed a.agreed-versions.now a.at c.if1.false,
       begun.pre.4,
       begun.pre.5,
     )

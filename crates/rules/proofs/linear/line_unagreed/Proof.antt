@@ -2,9 +2,9 @@
 use mathlib.Core.Path.{◌∙◌}
 use native.Mathlib.Omega.{arith}
 use Rattle.rules.specs.Lent.{slots}
-use Rattle.rules.proofs.Bounds.{bounded, count-high}
+use Rattle.rules.proofs.Bounds.{bounded, count_high}
 use Rattle.rules.proofs.Runs.{run_holds, run-zeroed}
-use Rattle.rules.proofs.Lines.{line-none, line-fresh, line-place, line_kept}
+use Rattle.rules.proofs.Lines.{line_none, line_fresh, line_place, line_kept}
 use Rattle.base.proofs.Known.{known}
 use Rattle.rules.proofs.linear.line_unagreed.Statement.{statement}
 use Rattle.rules.proofs.linear.line_unagreed.Tie as tie
@@ -26,7 +26,7 @@ returns c =
     let a = begun.args in
     let s = slots a.values.now a.versions.now a.statuses.now in
     let v = a.agreed-versions.now in
-    c.bare.ensures ∙ line-none a.head s v a.at (run-zeroed a.head s v a.at _ begun.pre.5 c.before.if1.true)
+    c.bare.ensures ∙ line_none a.head s v a.at (run-zeroed a.head s v a.at _ begun.pre.5 c.before.if1.true)
 
 begin-requires : tie.Need-begin-requires
 begin-requires c κs =
@@ -39,7 +39,7 @@ begin-requires c κs =
       begun.pre.1,
       begun.pre.2,
       run_holds a.head s v a.at begun.pre.3 begun.pre.4 _ begun.pre.5 past1.if1.false,
-      line-fresh a.head s v a.at _ begun.pre.6 c.if2.true,
+      line_fresh a.head s v a.at _ begun.pre.6 c.if2.true,
     )
 
 returns-2 : tie.Need-returns-2
@@ -52,8 +52,8 @@ add-place c =
     let s = slots a.values.now a.versions.now a.statuses.now in
     omega (
       arith,
-      line-place a.head s a.agreed-versions.now a.at _ begun.pre.6,
-      count-high a.head (bounded a.head begun.pre.0.head),
+      line_place a.head s a.agreed-versions.now a.at _ begun.pre.6,
+      count_high a.head (bounded a.head begun.pre.0.head),
     )
 
 returns-3 : tie.Need-returns-3

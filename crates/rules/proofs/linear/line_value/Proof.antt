@@ -1,5 +1,5 @@
 -- `linear::line_value` computes with signed numbers what the specification says.
-use Rattle.rules.proofs.Floors.{rise-fits, risen-fits, value-fits, value-whole, value_line}
+use Rattle.rules.proofs.Floors.{rise_fits, risen_fits, value_fits, value-whole, value_line}
 use borrow.Author.Rules.{rules}
 use Rattle.rules.proofs.linear.line_value.Statement.{statement}
 use Rattle.rules.proofs.linear.line_value.Tie as tie
@@ -12,13 +12,13 @@ start c = c.before.before.before.before
 -- ---- Needs
 
 sub-rise : tie.Need-overflow-sub-rise
-sub-rise c = rise-fits c.before.before.args.line c.before.before.requires
+sub-rise c = rise_fits c.before.before.args.line c.before.before.requires
 
 mul-floor-over : tie.Need-overflow-mul-floor-over
-mul-floor-over c = risen-fits (start c).args.line (start c).requires
+mul-floor-over c = risen_fits (start c).args.line (start c).requires
 
 add-result : tie.Need-overflow-add-result
-add-result c = value-fits (start c.before).args.line (start c.before).requires _ c.floor-over.ensures
+add-result c = value_fits (start c.before).args.line (start c.before).requires _ c.floor-over.ensures
 
 cast-result : tie.Need-overflow-cast-result
 cast-result c = value-whole (start c.before).args.line (start c.before).requires _ c.floor-over.ensures

@@ -3,7 +3,7 @@ use mathlib.Core.Bool.{true, and-true}
 use mathlib.Core.Path.{◌≡◌, sym, ◌∙◌}
 use borrow.Author.Tests.{le-leb, lt-leb, not-true, not-false}
 use Rattle.base.proofs.Known.{known}
-use Rattle.calendar.specs.Calendar.{isDate}
+use Rattle.calendar.specs.Calendar.{is_date}
 use Rattle.rules.proofs.opening.are_days.Statement.{statement}
 use Rattle.rules.proofs.opening.are_days.Tie as tie
 
@@ -17,11 +17,11 @@ abbrev start1 : tie.Else1 → tie.Start
 start1 c = c.before.before
 
 -- the first day is a date
-dated : (c : tie.Else1) → let h = (start1 c).args.head in isDate h.year h.month h.day ≡ true
-dated c = sym c.before.is-date.ensures ∙ not-false _ c.if1.false
+dated : (c : tie.Else1) → let h = (start1 c).args.head in is_date h.year h.month h.day ≡ true
+dated c = sym c.before.is_date_lem.ensures ∙ not-false _ c.if1.false
 
 returns : tie.Need-returns
-returns c = simp (sym c.before.is-date.ensures ∙ not-true _ c.if1.true)
+returns c = simp (sym c.before.is_date_lem.ensures ∙ not-true _ c.if1.true)
 
 returns-2 : tie.Need-returns-2
 returns-2 c = simp (dated c.before.before, lt-leb _ _ c.if2.true)

@@ -2,7 +2,7 @@
 use mathlib.Core.Path.{sym, ◌∙◌}
 use borrow.Author.Tests.{le-leb, lt-leb, not-true, not-false}
 use mathlib.Core.Bool.{and-true}
-use Rattle.rules.specs.Opening.{headOk}
+use Rattle.rules.specs.Opening.{head_ok}
 use Rattle.base.proofs.Known.{known}
 use Rattle.rules.proofs.opening.head_ok.Statement.{statement}
 use Rattle.rules.proofs.opening.head_ok.Tie as tie
@@ -21,11 +21,11 @@ passed2 c = c.before.before.before
 -- ---- Needs
 
 returns : tie.Need-returns
-unfolding headOk
+unfolding head_ok
 returns c = simp (sym c.before.is-interval.ensures ∙ not-true _ c.if1.true)
 
 returns-2 : tie.Need-returns-2
-unfolding headOk
+unfolding head_ok
 returns-2 c =
     rw (
       sym c.before.before.before.is-interval.ensures ∙ not-false _ c.before.before.if1.false,
@@ -33,7 +33,7 @@ returns-2 c =
     )
 
 returns-3 : tie.Need-returns-3
-unfolding headOk
+unfolding head_ok
 returns-3 c =
     rw (
       sym (after-is-interval c).is-interval.ensures ∙ not-false _ (passed1 c).if1.false,
@@ -42,7 +42,7 @@ returns-3 c =
     )
 
 returns-4 : tie.Need-returns-4
-unfolding headOk
+unfolding head_ok
 returns-4 c =
     let past2 = passed2 c.before in
     rw (
@@ -53,7 +53,7 @@ returns-4 c =
     )
 
 returns-5 : tie.Need-returns-5
-unfolding headOk
+unfolding head_ok
 returns-5 c =
     let past2 = passed2 c.before.before in
     rw (

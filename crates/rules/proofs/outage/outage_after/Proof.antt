@@ -5,14 +5,14 @@ use Prim.Native.Nat.{ℕ, ◌≤◌, ◌-◌}
 use native.Mathlib.Omega.{arith}
 use Rattle.base.proofs.Known.{known}
 use lib.ListN.{length}
-use Rattle.rules.specs.Filling.{outageAfter}
-use Rattle.rules.proofs.Outages.{gap, delivered, after-end, after-gap, after-delivered}
+use Rattle.rules.specs.Filling.{outage_after}
+use Rattle.rules.proofs.Outages.{gap, delivered, after_end, after_gap, after_delivered}
 use Rattle.rules.proofs.outage.outage_after.Statement.{statement}
 use Rattle.rules.proofs.outage.outage_after.Tie as tie
 
 record Held (versions statuses : List ℕ) (start j : ℕ) : Type 0 where
   inside : j ≤ length versions
-  known : outageAfter versions statuses start (length versions - start) ≡ outageAfter versions statuses j (length versions - j)
+  known : outage_after versions statuses start (length versions - start) ≡ outage_after versions statuses j (length versions - j)
 
 abbrev invariant-loop : tie.invariant-loop
 invariant-loop versions statuses start j₀ j = Held versions statuses start j
@@ -39,7 +39,7 @@ returns c =
     let a = (entry turned.before).args in
     let j = turned.before.loop.j in
     c.outage-bit.ensures
-    ∙ sym (after-delivered a.versions.now a.statuses.now (length a.versions.now) j turned.loop-test.taken
+    ∙ sym (after_delivered a.versions.now a.statuses.now (length a.versions.now) j turned.loop-test.taken
     (delivered a.versions.now a.statuses.now j c.before.before.if1.true))
     ∙ sym turned.before.loop.inv.known
 
@@ -49,7 +49,7 @@ loop-again c =
     let j = c.before.before.before.loop.j in record {
       inside = omega arith;
       known = c.before.before.before.loop.invariant.known
-          ∙ after-gap a.versions.now a.statuses.now (length a.versions.now) j c.before.before.loop-test.true
+          ∙ after_gap a.versions.now a.statuses.now (length a.versions.now) j c.before.before.loop-test.true
           (gap a.versions.now a.statuses.now j c.if1.false);
     }
 
@@ -57,7 +57,7 @@ returns-2 : tie.Need-returns-2 invariant-loop decreases-loop
 returns-2 c =
     let a = (entry c.before).args in
     sym (c.before.loop.invariant.known
-    ∙ after-end a.versions.now a.statuses.now (length a.versions.now) c.before.loop.j c.loop-test.false)
+    ∙ after_end a.versions.now a.statuses.now (length a.versions.now) c.before.loop.j c.loop-test.false)
 
 pub outage-after-spec : {M : Type 1} → statement M
 outage-after-spec =

@@ -1,7 +1,7 @@
 -- `outage::outage_zero`: inside a run the answer stands; at its first slot both sides are looked at.
 use mathlib.Core.Path.{sym, ◌∙◌}
 use native.Mathlib.Omega.{arith}
-use Rattle.rules.proofs.Outages.{gap, delivered, zero-none, zero-first, zero-kept, zero-before, zero-after}
+use Rattle.rules.proofs.Outages.{gap, delivered, zero_none, zero_first, zero-kept, zero_before_lem, zero-after}
 use borrow.Author.Rules.{rules}
 use Rattle.base.proofs.Known.{known}
 use Rattle.rules.proofs.outage.outage_zero.Statement.{statement}
@@ -27,12 +27,12 @@ passed3 c = c.before.before.before.before
 -- ---- Needs
 
 returns : tie.Need-returns
-returns c = sym (zero-none _ _ _ _ (delivered _ (start c.before).args.statuses.now _ c.if1.true))
+returns c = sym (zero_none _ _ _ _ (delivered _ (start c.before).args.statuses.now _ c.if1.true))
 
 returns-2 : tie.Need-returns-2
 returns-2 c =
-    c.outage-after.ensures
-    ∙ sym (zero-first _ _ _ _ c.before.if2.true
+    c.outage_after_lem.ensures
+    ∙ sym (zero_first _ _ _ _ c.before.if2.true
     (gap _ (start c.before.before.before).args.statuses.now _ c.before.before.if1.false))
 
 returns-3 : tie.Need-returns-3
@@ -45,7 +45,7 @@ returns-3 c =
 returns-4 : tie.Need-returns-4
 returns-4 c = let a = (start-outage-bit c.before).args in
     let g = gap a.versions.now a.statuses.now a.at (passed1 c).if1.false in
-    sym (zero-before _ _ _ _ _ (omega arith) (start-outage-bit c.before).requires.1 g
+    sym (zero_before_lem _ _ _ _ _ (omega arith) (start-outage-bit c.before).requires.1 g
     (delivered _ a.statuses.now _ c.before.before.before.if3.false) (sym c.before.outage-bit.ensures ∙ c.if4.true))
 
 returns-5 : tie.Need-returns-5

@@ -1,13 +1,13 @@
 -- `pass::first` knows nothing before slot 0.
-use Rattle.rules.specs.Inner.Walks.{zeroBefore, lineBefore, walkAt}
-use Rattle.rules.specs.Inner.Stretches.{carriedAt}
-use Rattle.rules.specs.Inner.Passes.{passAt}
+use Rattle.rules.specs.Inner.Walks.{zero_before, line_before, walk_at}
+use Rattle.rules.specs.Inner.Stretches.{carried_at}
+use Rattle.rules.specs.Inner.Passes.{pass_at}
 use Rattle.base.proofs.Known.{known}
 use Rattle.rules.proofs.pass.first.Statement.{statement}
 use Rattle.rules.proofs.pass.first.Tie as tie
 
 returns : tie.Need-returns
-unfolding passAt walkAt carriedAt zeroBefore lineBefore
+unfolding pass_at walk_at carried_at zero_before line_before
 returns c = λ h b. rw (c.unscaled-to.ensures, c.before.bare.ensures)
 
 pub first_spec : {M : Type 1} → statement M

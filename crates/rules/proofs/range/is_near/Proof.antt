@@ -5,7 +5,7 @@ use Prim.Native.Nat.{◌-◌}
 use native.Mathlib.Omega.{arith}
 use borrow.Author.Tests.{le-leb, lt-leb}
 use lib.Dec.{leb}
-use Rattle.rules.specs.Spans.{isNear}
+use Rattle.rules.specs.Spans.{is_near}
 use borrow.Author.Rules.{rules}
 use Rattle.base.proofs.Known.{known}
 use Rattle.rules.proofs.range.is_near.Statement.{statement}
@@ -19,14 +19,14 @@ start c = c.before.before.before.before.before
 -- ---- Needs
 
 returns : tie.Need-returns
-unfolding isNear
+unfolding is_near
 returns c = let a = c.before.before.before.args in
     let p : leb (a.range.lowest - a.v) a.tolerance ≡ false =
     lt-leb (a.range.lowest - a.v) a.tolerance (omega (arith, c.before.above.ensures, c.if1.true)) in
     rw p
 
 returns-2 : tie.Need-returns-2
-unfolding isNear
+unfolding is_near
 returns-2 c = let a = (start c).args in
     let p : leb (a.range.lowest - a.v) a.tolerance ≡ true =
     le-leb (a.range.lowest - a.v) a.tolerance

@@ -1,8 +1,8 @@
 -- `spans::compare` computes as the specification does.
 use native.Mathlib.Omega.{arith}
 use lib.ListN.{get_or}
-use Rattle.rules.proofs.Ranges.{advance-below}
-use Rattle.rules.specs.Inner.Summaries.{comparedWith}
+use Rattle.rules.proofs.Ranges.{advance_below}
+use Rattle.rules.specs.Inner.Summaries.{compared_with}
 use borrow.Author.Rules.{rules}
 use Rattle.base.proofs.Known.{known}
 use Rattle.rules.proofs.spans.compare.Statement.{statement}
@@ -23,11 +23,11 @@ advanced-requires c κs = (start c).pre.0.low (start c).args.first
 
 range-of-requires : tie.Need-range-of-requires
 range-of-requires c κs = let a = (start c.before.before.before).args in
-    let l = advance-below (get_or a.readings.now a.first 0) (get_or a.readings.now a.last 0) in
+    let l = advance_below (get_or a.readings.now a.first 0) (get_or a.readings.now a.last 0) in
     omega (arith, c.before.before.advanced.ensures, l)
 
 returns : tie.Need-returns
-unfolding comparedWith
+unfolding compared_with
 returns c =
     rw (
       c.state-of.ensures,

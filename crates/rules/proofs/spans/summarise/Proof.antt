@@ -10,18 +10,18 @@ use Rattle.base.specs.Lists.{sum, any}
 use Rattle.rules.specs.declared.Head.{Head}
 use Rattle.rules.specs.declared.linear.StraightLine.{StraightLine}
 use Rattle.rules.specs.declared.spans.Summary.{Summary}
-use Rattle.rules.specs.Opening.{Slots, Agreed, slotCount}
-use Rattle.rules.specs.Tests.{goodAt}
-use Rattle.rules.specs.Lent.{slots, agreedLists}
-use Rattle.rules.specs.Inner.Walks.{zeroBefore, lineBefore}
-use Rattle.rules.specs.Filling.{isOutageZero, isAgreed, filledAt, shape_at}
-use Rattle.rules.specs.Inner.Summaries.{summaryOf, actualAdded}
-use Rattle.rules.proofs.Bounds.{Bounded, bounded, count-high}
-use Rattle.rules.proofs.Directs.{none-direct, run-line, summary-run}
-use Rattle.rules.proofs.Outages.{zero-on, zero-applies}
-use Rattle.rules.proofs.Lines.{line_on, walk-outage, walk-line}
+use Rattle.rules.specs.Opening.{Slots, Agreed, slot_count}
+use Rattle.rules.specs.Tests.{good_at}
+use Rattle.rules.specs.Lent.{slots, agreed_lists}
+use Rattle.rules.specs.Inner.Walks.{zero_before, line_before}
+use Rattle.rules.specs.Filling.{is_outage_zero, is_agreed, filled_at, shape_at}
+use Rattle.rules.specs.Inner.Summaries.{summary_of, actual_added}
+use Rattle.rules.proofs.Bounds.{Bounded, bounded, count_high}
+use Rattle.rules.proofs.Directs.{none_direct, run_line, summary-run}
+use Rattle.rules.proofs.Outages.{zero_on, zero_applies}
+use Rattle.rules.proofs.Lines.{line_on, walk_outage, walk_line}
 use Rattle.rules.proofs.Ruled.{line-drawn, ruled}
-use Rattle.rules.proofs.Summaries.{summary-on, summary-fits}
+use Rattle.rules.proofs.Summaries.{summary_on, summary-fits}
 use Rattle.rules.proofs.spans.summarise.Statement.{statement}
 use Rattle.rules.proofs.spans.summarise.Tie as tie
 
@@ -29,13 +29,13 @@ record Held (h : Head) (s : Slots) (a : Agreed) (holidays : List ℕ) (start cou
     Type 0
   where
     inside : k ≤ count
-    outage : o ≡ zeroBefore s.versions s.statuses (slotCount h) (start + k)
-    line : l ≡ lineBefore h s a.versions (start + k)
-    known : m ≡ summaryOf h s a holidays start k
+    outage : o ≡ zero_before s.versions s.statuses (slot_count h) (start + k)
+    line : l ≡ line_before h s a.versions (start + k)
+    known : m ≡ summary_of h s a holidays start k
 
 abbrev invariant-loop : tie.invariant-loop
 invariant-loop head values versions statuses holidays agreed agreed-versions count sum₀ start to outage₀ line₀ k₀ sum outage line k =
-    Held head (slots values versions statuses) (agreedLists agreed agreed-versions) holidays start count sum outage line k
+    Held head (slots values versions statuses) (agreed_lists agreed agreed-versions) holidays start count sum outage line k
 
 abbrev decreases-loop : tie.decreases-loop
 decreases-loop head values versions statuses holidays agreed agreed-versions count sum₀ start to outage₀ line₀ k₀ sum outage line k = count - k
@@ -71,17 +71,17 @@ abbrev lent : At-loop → Slots
 lent c = let a = (start c).args in slots a.values.now a.versions.now a.statuses.now
 
 abbrev settled : At-loop → Agreed
-settled c = let a = (start c).args in agreedLists a.agreed.now a.agreed-versions.now
+settled c = let a = (start c).args in agreed_lists a.agreed.now a.agreed-versions.now
 
 bounds : (c : At-loop) → Bounded (start c).args.head
 bounds c = bounded (start c).args.head (start c).requires.0.fitted.head
 
 -- the slot lies in the book
-below : (c : In-loop) → (start c.before).args.first.at + c.before.loop.k < slotCount (start c.before).args.head
+below : (c : In-loop) → (start c.before).args.first.at + c.before.loop.k < slot_count (start c.before).args.head
 below c = omega (arith, c.loop-test.true, (start c.before).pre.2)
 
-most : (c : At-loop) → slotCount (start c).args.head ≤ 115_200
-most c = count-high (start c).args.head (bounds c)
+most : (c : At-loop) → slot_count (start c).args.head ≤ 115_200
+most c = count_high (start c).args.head (bounds c)
 
 -- there is room for one slot more, or for a run of them
 room : (c : At-loop) (x : ℕ) → let a = (start c).args in
@@ -95,24 +95,24 @@ room c x e =
 
 -- another slot than a direct one has a cause and is not agreed
 cause : (c : tie.Else1 invariant-loop decreases-loop) → let at = (turn (added c.before)).before in let i = (start at).args.first.at + at.loop.k in
-    (goodAt (start at).args.head (lent at) i ≡ false) × (isAgreed (settled at).versions i ≡ false)
+    (good_at (start at).args.head (lent at) i ≡ false) × (is_agreed (settled at).versions i ≡ false)
 cause c =
     let run = added c.before in
     let at = (turn run).before in
     let a = (start at).args in
-    none-direct a.head (lent at) (settled at) _ _ _ _ run.add-up.ensures.0 c.if1.false
+    none_direct a.head (lent at) (settled at) _ _ _ _ run.add-up.ensures.0 c.if1.false
     (omega (arith, (turn run).loop-test.taken))
 
 zeroed : (c : tie.After-outage-zero invariant-loop decreases-loop) → let at = (turn (added c.before.before)).before in
-    c.outage-zero.result ≡ isOutageZero (start at).args.head (lent at) ((start at).args.first.at + at.loop.k)
+    c.outage-zero.result ≡ is_outage_zero (start at).args.head (lent at) ((start at).args.first.at + at.loop.k)
 zeroed c =
     let at = (turn (added c.before.before)).before in
-    c.outage-zero.ensures ∙ zero-applies (start at).args.head (lent at) _ (start at).pre.0.fitted.versions _
+    c.outage-zero.ensures ∙ zero_applies (start at).args.head (lent at) _ (start at).pre.0.fitted.versions _
 
 -- what the rules give it
 ruled-here : (c : tie.After-unscaled invariant-loop decreases-loop) → let at = (turn (added (other c).before)).before in let a = (start at).args in
     let i = a.first.at + at.loop.k in let r = c.unscaled.result in
-    (r.outcome ≡ filledAt a.head (lent at) (settled at) a.holidays.now i)
+    (r.outcome ≡ filled_at a.head (lent at) (settled at) a.holidays.now i)
     × (r.shape ≡ shape_at a.head (lent at) (settled at) a.holidays.now i)
 ruled-here c =
     let turned = turn (added (other c).before) in
@@ -125,18 +125,18 @@ ruled-here c =
 -- ---- Needs
 
 add-to : tie.Need-overflow-add-to invariant-loop decreases-loop
-add-to c = omega (arith, (entry c).requires.2, count-high (entry c).args.head (bounded (entry c).args.head (entry c).requires.0.fitted.head))
+add-to c = omega (arith, (entry c).requires.2, count_high (entry c).args.head (bounded (entry c).args.head (entry c).requires.0.fitted.head))
 
 loop-holds : tie.Need-loop-init invariant-loop decreases-loop
-unfolding summaryOf sum any
+unfolding summary_of sum any
 loop-holds c =
     let a = (entry c.before).args in
     let known = (entry c.before).pre.3 in
     let s = slots a.values.now a.versions.now a.statuses.now in
     record {
       inside = zero-le;
-      outage = rw add-zero (walk-outage a.head s a.agreed-versions.now a.first a.first.at known _ refl);
-      line = rw add-zero (walk-line a.head s a.agreed-versions.now a.first a.first.at known);
+      outage = rw add-zero (walk_outage a.head s a.agreed-versions.now a.first a.first.at known _ refl);
+      line = rw add-zero (walk_line a.head s a.agreed-versions.now a.first a.first.at known);
       known = refl;
     }
 
@@ -181,9 +181,9 @@ loop-again c =
       outage = rw k to.outage;
       line =
           rw k (c.before.before.bare.ensures
-          ∙ run-line a.head (lent at) (settled at) _ end to.direct c.before.before.before.if1.true);
+          ∙ run_line a.head (lent at) (settled at) _ end to.direct c.before.before.before.if1.true);
       known =
-          c.before.add-actual.ensures ∙ ap (actualAdded at.loop.sum) run.add-up.ensures.1
+          c.before.add-actual.ensures ∙ ap (actual_added at.loop.sum) run.add-up.ensures.1
           ∙ summary-run a.head (lent at) (settled at) _ end to.direct a.holidays.now a.first.at at.loop.k refl
           at.loop.sum
           at.loop.inv.known (end - a.first.at) (sym k) to.further;
@@ -244,10 +244,10 @@ loop-again-2 c =
     let found = ruled-here c.before in
     record {
       inside = omega (arith, (turn (added (other c.before).before)).loop-test.true);
-      outage = zero ∙ zero-on s.versions s.statuses (slotCount a.head) a.first.at at.loop.k;
+      outage = zero ∙ zero_on s.versions s.statuses (slot_count a.head) a.first.at at.loop.k;
       line = c.before.before.line-unagreed.ensures ∙ line_on a.head s x.versions a.first.at at.loop.k;
       known =
-          summary-on a.head s x a.holidays.now a.first.at at.loop.k _ _ _ _ at.loop.inv.known c.add.ensures
+          summary_on a.head s x a.holidays.now a.first.at at.loop.k _ _ _ _ at.loop.inv.known c.add.ensures
           found.0 found.1;
     }
 
@@ -256,7 +256,7 @@ returns c =
     let at = c.before in
     let a = (start at).args in
     let e : at.loop.k ≡ a.count = omega (arith, c.loop-test.false, at.loop.invariant.inside) in
-    at.loop.invariant.known ∙ ap (summaryOf a.head (lent at) (settled at) a.holidays.now a.first.at) e
+    at.loop.invariant.known ∙ ap (summary_of a.head (lent at) (settled at) a.holidays.now a.first.at) e
 
 pub summarise-spec : {M : Type 1} → statement M
 summarise-spec =

@@ -2,8 +2,8 @@
 use mathlib.Core.Bool.{true, false, and-false}
 use mathlib.Core.Path.{◌≡◌, refl, sym, ◌∙◌}
 use borrow.Author.Tests.{eq-eqb, ne_eqb, not-true, not-false}
-use Rattle.rules.specs.Spans.{isS}
-use Rattle.rules.specs.Inner.Stretches.{fitOutcome, fitNext}
+use Rattle.rules.specs.Spans.{is_s}
+use Rattle.rules.specs.Inner.Stretches.{fit_outcome, fit_next}
 use borrow.Author.Rules.{rules}
 use Rattle.base.proofs.Known.{known}
 use Rattle.rules.proofs.stretch.fit.Statement.{statement}
@@ -20,14 +20,14 @@ after-is-substituted c = c.before.before.before.before
 -- ---- Needs
 
 returns : tie.Need-returns
-unfolding fitOutcome fitNext
+unfolding fit_outcome fit_next
 returns c = let z : c.before.before.before.args.here.by.whole ≡ 0 = c.if1.true in
-    rw (eq-eqb _ _ z, and-false (isS c.before.before.before.args.slot.quality)) (refl, refl)
+    rw (eq-eqb _ _ z, and-false (is_s c.before.before.before.args.slot.quality)) (refl, refl)
 
 returns-2 : tie.Need-returns-2
-unfolding fitOutcome fitNext
+unfolding fit_outcome fit_next
 returns-2 c =
-    let q : isS (start c.before).args.slot.quality ≡ false = sym c.before.is-substituted.ensures ∙ not-true _ c.if2.true in
+    let q : is_s (start c.before).args.slot.quality ≡ false = sym c.before.is-substituted.ensures ∙ not-true _ c.if2.true in
     rw q (refl, refl)
 
 scale-requires : tie.Need-scale-requires
@@ -35,10 +35,10 @@ scale-requires c κs =
     (start c.before).requires.scales (sym c.before.is-substituted.ensures ∙ not-false _ c.if2.false) c.before.before.if1.false
 
 returns-3 : tie.Need-returns-3
-unfolding fitOutcome fitNext
+unfolding fit_outcome fit_next
 returns-3 c =
     let at-is-substituted = after-is-substituted c in
-    let q : isS (start at-is-substituted).args.slot.quality ≡ true = sym at-is-substituted.is-substituted.ensures
+    let q : is_s (start at-is-substituted).args.slot.quality ≡ true = sym at-is-substituted.is-substituted.ensures
     ∙ not-false _ c.before.before.before.if2.false in
     rw (q, ne_eqb _ _ at-is-substituted.before.if1.left, c.before.before.scale.ensures) (refl, refl)
 

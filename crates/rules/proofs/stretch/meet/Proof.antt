@@ -4,13 +4,13 @@ use mathlib.Core.Path.{◌≡◌, ◌∙◌}
 use Prim.Native.Nat.{◌-◌, ◌*◌, ◌≤◌}
 use native.Mathlib.Nat.{mul-le-mul}
 use native.Mathlib.Omega.{arith}
-use Rattle.rules.specs.Opening.{slotsPerDay}
-use Rattle.rules.specs.Spans.{start, slotsIn}
-use Rattle.rules.specs.Lent.{slots, agreedLists, cells}
-use Rattle.rules.specs.Inner.Summaries.{summaryOf}
+use Rattle.rules.specs.Opening.{slots_per_day}
+use Rattle.rules.specs.Spans.{start, slots_in}
+use Rattle.rules.specs.Lent.{slots, agreed_lists, cells}
+use Rattle.rules.specs.Inner.Summaries.{summary_of}
 use Rattle.rules.proofs.Bounds.{bounded}
-use Rattle.rules.proofs.Places.{slots-within}
-use Rattle.rules.proofs.SpanSums.{compared-advance, meet-span, meet-stretch}
+use Rattle.rules.proofs.Places.{slots_within}
+use Rattle.rules.proofs.SpanSums.{compared_advance, meet-span, meet-stretch}
 use borrow.Author.Rules.{rules}
 use Rattle.base.proofs.Known.{known}
 use Rattle.rules.proofs.stretch.meet.Statement.{statement}
@@ -41,54 +41,54 @@ summarise-requires c κs =
     let a = begun.args in
     let w = begun.pre.3 in
     let e = c.slots-per-day.ensures in
-    (begun.pre.0, begun.pre.2, rw (e, w.at_first) (slots-within a.head a.first a.last (omega arith) w.within), w.known)
+    (begun.pre.0, begun.pre.2, rw (e, w.at_first) (slots_within a.head a.first a.last (omega arith) w.within), w.known)
 
 compare-requires : tie.Need-compare-requires
 compare-requires c κs =
     let begun = entry c.before in
     let b = bounded begun.args.head begun.pre.0.fitted.head in
     let w = begun.pre.3 in
-    (begun.pre.1, begun.pre.4, omega (arith, w.within, w.ordered), w.within, b.days-high)
+    (begun.pre.1, begun.pre.4, omega (arith, w.within, w.ordered), w.within, b.days_high)
 
 cast-t20 : tie.Need-overflow-cast-t20
 cast-t20 c =
     let begun = entry c.before.before.before in
     let b = bounded begun.args.head begun.pre.0.fitted.head in
     let w = begun.pre.3 in
-    omega (arith, b.days-high, w.within, w.ordered)
+    omega (arith, b.days_high, w.within, w.ordered)
 
 cast-t21 : tie.Need-overflow-cast-t21
 cast-t21 c =
     let begun = entry c.before.before.before in
     let b = bounded begun.args.head begun.pre.0.fitted.head in
     let w = begun.pre.3 in
-    omega (arith, b.days-high, w.within, w.ordered)
+    omega (arith, b.days_high, w.within, w.ordered)
 
 mul-stretch-by : tie.Need-overflow-mul-stretch-by
 mul-stretch-by c =
     let begun = entry c.before.before.before in
     let b = bounded begun.args.head begun.pre.0.fitted.head in
     let w = begun.pre.3 in
-    let p : begun.args.last ≤ 400 = omega (arith, b.days-high, w.within) in
+    let p : begun.args.last ≤ 400 = omega (arith, b.days_high, w.within) in
     let q : c.before.before.before.slots-per-day.result ≤ 288 =
-    omega (arith, c.before.before.before.slots-per-day.ensures, b.day-high) in
+    omega (arith, c.before.before.before.slots-per-day.ensures, b.day_high) in
     omega (arith, mul-le-mul p q)
 
 stretch-by-requires : tie.Need-stretch-by-requires
-stretch-by-requires c κs = compared-advance _ _ _ _ _ _ _ c.before.compare.ensures
+stretch-by-requires c κs = compared_advance _ _ _ _ _ _ _ c.before.compare.ensures
 
 returns : tie.Need-returns
-unfolding start slotsIn
+unfolding start slots_in
 returns c =
     let at-slots-per-day = after-slots-per-day c in
     let a = (entry at-slots-per-day).args in
     let w = (entry at-slots-per-day).pre.3 in
     let e = at-slots-per-day.slots-per-day.ensures in
     let b = cells (slots a.values.now a.versions.now a.statuses.now) a.holidays.now a.readings.now []
-    (agreedLists a.agreed.now a.agreed-versions.now) a.widths.now in
+    (agreed_lists a.agreed.now a.agreed-versions.now) a.widths.now in
     let m = c.before.before.before.summarise.result in
-    let s : m ≡ summaryOf a.head b.slots b.agreed b.holidays (a.first * slotsPerDay a.head)
-    ((a.last - a.first) * slotsPerDay a.head) = c.before.before.before.summarise.ensures ∙ (simp (e, w.at_first)) in
+    let s : m ≡ summary_of a.head b.slots b.agreed b.holidays (a.first * slots_per_day a.head)
+    ((a.last - a.first) * slots_per_day a.head) = c.before.before.before.summarise.ensures ∙ (simp (e, w.at_first)) in
     let f = c.before.before.compare.ensures in (
       meet-span a.head b a.first a.last m s _ f,
       c.stretch-by.ensures ∙ (simp (e, w.at_first) (meet-stretch a.head b a.first a.last m s _ f)),

@@ -2,13 +2,13 @@
 use mathlib.Core.Path.{refl}
 use borrow.Author.Rules.{rules}
 use Rattle.base.proofs.Known.{known}
-use Rattle.rules.specs.Tests.{isGap}
-use Rattle.rules.specs.Inner.Ways.{fourGaps}
+use Rattle.rules.specs.Tests.{is_gap}
+use Rattle.rules.specs.Inner.Ways.{four_gaps}
 use Rattle.rules.proofs.weeks.are_gaps.Statement.{statement}
 use Rattle.rules.proofs.weeks.are_gaps.Tie as tie
 
 returns : tie.Need-returns
-unfolding fourGaps isGap
+unfolding four_gaps is_gap
 returns c = refl
 
 pub are-gaps-spec : {M : Type 1} → statement M

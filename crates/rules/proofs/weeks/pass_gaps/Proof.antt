@@ -6,7 +6,7 @@ use native.Mathlib.Nat.{le_refl, sub_self}
 use native.Mathlib.Omega.{arith}
 use borrow.Author.Tests.{not-false}
 use Rattle.rules.specs.Inner.Ways.{GapsUpTo}
-use Rattle.rules.proofs.Gaps.{four-fewer, four-more}
+use Rattle.rules.proofs.Gaps.{four_fewer, four_more}
 use Rattle.rules.proofs.weeks.pass_gaps.Statement.{statement}
 use Rattle.rules.proofs.weeks.pass_gaps.Tie as tie
 
@@ -45,7 +45,7 @@ loop-holds c =
 -- four weeks lie in the book
 four : (c : tie.In-loop invariant-loop decreases-loop) → let at = c.before in
     (4 * (start at).args.week ≤ at.loop.at) × ((at.loop.left - 4) * (start at).args.week ≤ at.loop.at - 4 * (start at).args.week)
-four c = four-fewer c.before.loop.left _ _ c.loop-test.true c.before.loop.invariant.fits
+four c = four_fewer c.before.loop.left _ _ c.loop-test.true c.before.loop.invariant.fits
 
 are-gaps-requires : tie.Need-are-gaps-requires invariant-loop decreases-loop
 are-gaps-requires c κs = ((four c).0, omega (arith, (start c.before).pre.1, c.before.loop.invariant.near))
@@ -73,7 +73,7 @@ loop-again c =
       fits = (four turn).1;
       near = omega (arith, held.near);
       passed =
-          four-more a.versions.now a.week a.from _ _ a.weeks (four turn).0 turn.loop-test.true held.fewer gaps
+          four_more a.versions.now a.week a.from _ _ a.weeks (four turn).0 turn.loop-test.true held.fewer gaps
           held.passed;
     }
 

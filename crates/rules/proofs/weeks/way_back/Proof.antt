@@ -6,8 +6,8 @@ use borrow.Author.Rules.{rules}
 use Rattle.base.proofs.Known.{known}
 use borrow.Author.Tests.{eq-eqb, ne_eqb}
 use lib.ListN.{get_or}
-use Rattle.calendar.proofs.Sundays.{one-to-seven}
-use Rattle.rules.specs.Weeks.{firstBack, farthestBack}
+use Rattle.calendar.proofs.Sundays.{one_to_seven}
+use Rattle.rules.specs.Weeks.{first_back, farthest_back}
 use Rattle.rules.proofs.Bounds.{bounded}
 use Rattle.rules.proofs.weeks.way_back.Statement.{statement}
 use Rattle.rules.proofs.weeks.way_back.Tie as tie
@@ -28,7 +28,7 @@ way-within-requires c κs =
     (omega arith, omega arith, omega arith)
 
 returns : tie.Need-returns
-unfolding firstBack farthestBack
+unfolding first_back farthest_back
 returns c =
     let a = (start-way-within c).args in
     let e : get_or a.holidays.now a.day 0 ≡ 0 = c.before.if1.true in
@@ -46,11 +46,11 @@ way-within-requires-2 : tie.Need-way-within-requires-2
 way-within-requires-2 c κs =
     let begun = start c.before in
     let b = bounded begun.args.head begun.pre.0 in
-    let t = one-to-seven (c.before.first-day.result + begun.args.day) in
+    let t = one_to_seven (c.before.first-day.result + begun.args.day) in
     (omega arith, omega arith, omega arith)
 
 returns-2 : tie.Need-returns-2
-unfolding firstBack farthestBack
+unfolding first_back farthest_back
 returns-2 c =
     rw (ne_eqb _ _ c.before.before.before.if1.false)
     (c.way-within2.ensures.0 ∙ c.before.to-sunday.ensures ∙ rw c.before.before.first-day.ensures, c.way-within2.ensures.1)

@@ -2,16 +2,16 @@
 use mathlib.Core.Path.{refl}
 use native.Mathlib.Omega.{arith}
 use borrow.Author.Rules.{rules}
-use Rattle.rules.specs.Weeks.{weeksWithin}
+use Rattle.rules.specs.Weeks.{weeks_within}
 use Rattle.rules.proofs.weeks.way_within.Statement.{statement}
 use Rattle.rules.proofs.weeks.way_within.Tie as tie
 
 returns : tie.Need-returns
-unfolding weeksWithin
+unfolding weeks_within
 returns c = (refl, record { short = c.before.requires.0; inside = omega arith; within = omega arith; all = λ x. omega arith })
 
 returns-2 : tie.Need-returns-2
-unfolding weeksWithin
+unfolding weeks_within
 returns-2 c = (refl, record { short = c.before.requires.0; inside = omega arith; within = omega arith; all = λ x. omega arith })
 
 pub way-within-spec : {M : Type 1} → statement M

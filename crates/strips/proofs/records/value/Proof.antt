@@ -2,7 +2,7 @@
 use native.Mathlib.Omega.{arith}
 use borrow.Author.Rules.{rules}
 use Rattle.base.proofs.Known.{known}
-use Rattle.strips.proofs.Numbers.{number-spaced}
+use Rattle.strips.proofs.Numbers.{number_spaced}
 use Rattle.strips.proofs.records.value.Statement.{statement}
 use Rattle.strips.proofs.records.value.Tie as tie
 
@@ -25,7 +25,7 @@ returns c =
         at-wide2.wide2.ensures.0,
         c.before.before.wide3.ensures.0,
         c.wide4.ensures.0,
-      ) (number-spaced begun.args.bytes.now begun.args.at begun.args.step),
+      ) (number_spaced begun.args.bytes.now begun.args.at begun.args.step),
       omega (
         arith,
         at-wide2.before.before.wide.ensures.1,

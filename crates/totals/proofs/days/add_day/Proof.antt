@@ -6,9 +6,9 @@ use native.Mathlib.Omega.{arith}
 use borrow.Author.Rules.{rules}
 use Rattle.base.proofs.Known.{known}
 use lib.ListN.{length, get_or}
-use Rattle.totals.specs.Inner.Adding.{holds, withDay}
+use Rattle.totals.specs.Inner.Adding.{holds, with_day}
 use Rattle.totals.specs.Stays.{first_of, end_of}
-use Rattle.totals.proofs.Replaced.{Replaced, replaced-none, replaced-next, replaced-all}
+use Rattle.totals.proofs.Replaced.{Replaced, replaced_none, replaced_next, replaced_all}
 use Rattle.totals.proofs.days.add_day.Statement.{statement}
 use Rattle.totals.proofs.days.add_day.Tie as tie
 
@@ -30,7 +30,7 @@ turn c = c.before.before.before
 -- ---- Needs
 
 loop-holds : tie.Need-loop-init invariant-loop decreases-loop
-loop-holds c = replaced-none _ _
+loop-holds c = replaced_none _ _
 
 add-totals : tie.Need-overflow-add-totals invariant-loop decreases-loop
 add-totals c =
@@ -42,12 +42,12 @@ add-totals c =
 loop-again : tie.Need-loop-preserved invariant-loop decreases-loop
 loop-again c =
     let turned = turn c.before in
-    replaced-next _ _ _ _ _ turned.before.loop.inv turned.loop-test.taken
+    replaced_next _ _ _ _ _ turned.before.loop.inv turned.loop-test.taken
     (ap₂ ◌+◌ (turned.before.loop.inv.left turned.before.loop.k (search rules)) c.before.share.ensures.0)
 
 returns : tie.Need-returns invariant-loop decreases-loop
-unfolding withDay
-returns c = replaced-all _ _ _ _ c.before.loop.invariant c.loop-test.false
+unfolding with_day
+returns c = replaced_all _ _ _ _ c.before.loop.invariant c.loop-test.false
 
 pub add-day-spec : {M : Type 1} → statement M
 add-day-spec =

@@ -4,7 +4,7 @@ use Prim.Native.Nat.{◌-◌}
 use borrow.Author.Rules.{rules}
 use Rattle.base.proofs.Known.{known}
 use lib.ListN.{length}
-use Rattle.totals.proofs.Replaced.{Replaced, replaced-none, replaced-next, replaced-all}
+use Rattle.totals.proofs.Replaced.{Replaced, replaced_none, replaced_next, replaced_all}
 use Rattle.totals.proofs.days.clear.Statement.{statement}
 use Rattle.totals.proofs.days.clear.Tie as tie
 
@@ -15,13 +15,13 @@ abbrev decreases-loop : tie.decreases-loop
 decreases-loop totals₀ k₀ totals k = length totals₀ - k
 
 loop-holds : tie.Need-loop-init invariant-loop decreases-loop
-loop-holds c = replaced-none _ _
+loop-holds c = replaced_none _ _
 
 loop-again : tie.Need-loop-preserved invariant-loop decreases-loop
-loop-again c = replaced-next _ _ _ _ _ c.before.loop.invariant c.loop-test.true refl
+loop-again c = replaced_next _ _ _ _ _ c.before.loop.invariant c.loop-test.true refl
 
 returns : tie.Need-returns invariant-loop decreases-loop
-returns c = replaced-all _ _ _ _ c.before.loop.invariant c.loop-test.false
+returns c = replaced_all _ _ _ _ c.before.loop.invariant c.loop-test.false
 
 pub clear_spec : {M : Type 1} → statement M
 clear_spec =

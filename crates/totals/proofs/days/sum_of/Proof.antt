@@ -5,7 +5,7 @@ use Prim.Native.Nat.{ℕ, ◌≤◌, ◌-◌, ◌*◌, ◌+◌, ◌^◌}
 use native.Mathlib.Omega.{arith}
 use borrow.Author.Rules.{rules}
 use Rattle.base.specs.Lists.{sum}
-use Rattle.base.proofs.Sums.{sum-empty, sum_more}
+use Rattle.base.proofs.Sums.{sum_empty, sum_more}
 use Rattle.file.specs.Reader.{slot_at}
 use Rattle.totals.proofs.days.sum_of.Statement.{statement}
 use Rattle.totals.proofs.days.sum_of.Tie as tie
@@ -29,16 +29,16 @@ start c = c.before.before.before.before
 -- ---- Needs
 
 loop-holds : tie.Need-loop-init invariant-loop decreases-loop
-loop-holds c = record { inside = search rules; known = sym (sum-empty _ _); small = search rules }
+loop-holds c = record { inside = search rules; known = sym (sum_empty _ _); small = search rules }
 
 loop-again : tie.Need-loop-preserved invariant-loop decreases-loop
 loop-again c =
     record {
       inside = search rules;
       known =
-          ap₂ ◌+◌ c.before.before.loop.invariant.known c.value-at.ensures.0
+          ap₂ ◌+◌ c.before.before.loop.invariant.known c.value_at_lem.ensures.0
           ∙ sym (sum_more _ (start c).args.a c.before.before.loop.i);
-      small = omega (arith, c.value-at.ensures.1, c.before.before.loop.invariant.small);
+      small = omega (arith, c.value_at_lem.ensures.1, c.before.before.loop.invariant.small);
     }
 
 returns : tie.Need-returns invariant-loop decreases-loop

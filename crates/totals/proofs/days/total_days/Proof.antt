@@ -8,14 +8,14 @@ use borrow.Author.Rules.{rules}
 use Rattle.base.proofs.Known.{known}
 use lib.ListN.{length}
 use Rattle.file.specs.Contents.{Bytes}
-use Rattle.totals.specs.Inner.Adding.{totalsBefore}
-use Rattle.totals.proofs.Adding.{day-within, before-none, before-length, before-next, before-room}
+use Rattle.totals.specs.Inner.Adding.{totals_before}
+use Rattle.totals.proofs.Adding.{day_within, before_none, before_length, before_next, before_room}
 use Rattle.totals.proofs.days.total_days.Statement.{statement}
 use Rattle.totals.proofs.days.total_days.Tie as tie
 
 record Held (file : List ℕ) (n days : ℕ) (pairs totals : List ℕ) (day : ℕ) : Type 0 where
   inside : day ≤ days
-  known : totals ≡ totalsBefore file n pairs day
+  known : totals ≡ totals_before file n pairs day
 
 abbrev invariant-loop : tie.invariant-loop
 invariant-loop file n days pairs totals₀ day₀ totals day = Held file n days pairs totals day
@@ -46,7 +46,7 @@ loop-holds : tie.Need-loop-init invariant-loop decreases-loop
 loop-holds c =
     record {
       inside = search rules;
-      known = c.before.before.clear.ensures ∙ before-none _ _ _ (entry c).args.totals.now (entry c).requires.1;
+      known = c.before.before.clear.ensures ∙ before_none _ _ _ (entry c).args.totals.now (entry c).requires.1;
     }
 
 mul-sum-of : tie.Need-overflow-mul-sum-of invariant-loop decreases-loop
@@ -54,14 +54,14 @@ mul-sum-of c =
     let l = c.before.loop in
     let start = entry c.before.before in
     let fit = start.pre.0 in
-    omega (arith, day-within start.args.n l.day start.args.days (search rules), mul-le-mul fit.day fit.few)
+    omega (arith, day_within start.args.n l.day start.args.days (search rules), mul-le-mul fit.day fit.few)
 
 sum-of-requires : tie.Need-sum-of-requires invariant-loop decreases-loop
 sum-of-requires c κs =
     let l = c.before.loop in
     let start = entry c.before.before in
     let fit = start.pre.0 in
-    (omega (arith, day-within start.args.n l.day start.args.days (search rules), fit.long), fit.day)
+    (omega (arith, day_within start.args.n l.day start.args.days (search rules), fit.long), fit.day)
 
 add-day-requires : tie.Need-add-day-requires invariant-loop decreases-loop
 add-day-requires c κs =
@@ -71,7 +71,7 @@ add-day-requires c κs =
     let a = start.args in
     let fit = start.pre.0 in
     let bytes : Bytes a.file.now = λ i. omega (arith, known.shared-slice-known.given i) in
-    before-room a.file.now a.n a.pairs.now bytes fit.day l.day (omega arith) l.totals l.invariant.known _
+    before_room a.file.now a.n a.pairs.now bytes fit.day l.day (omega arith) l.totals l.invariant.known _
     c.before.sum_of.ensures.1
 
 loop-again : tie.Need-loop-preserved invariant-loop decreases-loop
@@ -82,12 +82,12 @@ loop-again c =
     record {
       inside = search rules;
       known =
-          before-next a.file.now a.n a.pairs.now l.day _ l.totals _ summed.sum_of.ensures.0 l.inv.known
+          before_next a.file.now a.n a.pairs.now l.day _ l.totals _ summed.sum_of.ensures.0 l.inv.known
           c.before.before.add-day.ensures;
     }
 
 same_length : tie.Need-same-length invariant-loop decreases-loop
-same_length c = ap length c.before.loop.invariant.known ∙ before-length _ _ _ _ ∙ sym (entry c.before.before).pre.1
+same_length c = ap length c.before.loop.invariant.known ∙ before_length _ _ _ _ ∙ sym (entry c.before.before).pre.1
 
 returns : tie.Need-returns invariant-loop decreases-loop
 returns c =

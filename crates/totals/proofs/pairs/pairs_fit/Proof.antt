@@ -7,20 +7,20 @@ use borrow.Author.Rules.{rules}
 use Rattle.base.proofs.Known.{known}
 use borrow.Author.Tests.{not-true, not-false}
 use Rattle.base.specs.Lists.{all}
-use Rattle.base.proofs.Sums.{all_more, all-fails, all_done}
-use Rattle.totals.specs.Stays.{pairCount, first_of, end_of, pairOk, pairsOk}
+use Rattle.base.proofs.Sums.{all_more, all_fails, all_done}
+use Rattle.totals.specs.Stays.{pair_count, first_of, end_of, pair_ok, pairs_ok}
 use Rattle.totals.proofs.pairs.pairs_fit.Statement.{statement}
 use Rattle.totals.proofs.pairs.pairs_fit.Tie as tie
 
 record Held (pairs : List ℕ) (days k : ℕ) : Type 0 where
-  inside : k ≤ pairCount pairs
-  known : pairsOk days pairs ≡ all (λ j. pairOk days (first_of pairs j) (end_of pairs j)) k (pairCount pairs - k)
+  inside : k ≤ pair_count pairs
+  known : pairs_ok days pairs ≡ all (λ j. pair_ok days (first_of pairs j) (end_of pairs j)) k (pair_count pairs - k)
 
 abbrev invariant-loop : tie.invariant-loop
 invariant-loop pairs days count k₀ k = Held pairs days k
 
 abbrev decreases-loop : tie.decreases-loop
-decreases-loop pairs days count k₀ k = pairCount pairs - k
+decreases-loop pairs days count k₀ k = pair_count pairs - k
 
 -- ---- Places
 
@@ -35,7 +35,7 @@ loop-holds c = record { inside = search rules; known = rw sub-zero }
 returns : tie.Need-returns invariant-loop decreases-loop
 returns c =
     sym ((at-loop c.before).loop.inv.known
-    ∙ all-fails _ (at-loop c.before).loop.k _ (search rules) (sym c.before.pair_ok.ensures ∙ not-true _ c.if1.true))
+    ∙ all_fails _ (at-loop c.before).loop.k _ (search rules) (sym c.before.pair_ok.ensures ∙ not-true _ c.if1.true))
 
 loop-again : tie.Need-loop-preserved invariant-loop decreases-loop
 loop-again c =

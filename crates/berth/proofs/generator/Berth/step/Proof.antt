@@ -1,5 +1,5 @@
 -- `generator::Berth::step`: two draws, and what each decides.
-use Rattle.berth.proofs.Draws.{two-draws, value-fits}
+use Rattle.berth.proofs.Draws.{two_draws, value_fits}
 use borrow.Author.Rules.{rules}
 use Rattle.base.proofs.Known.{known}
 use Rattle.berth.proofs.generator.Berth.step.Statement.{statement}
@@ -13,11 +13,11 @@ start c = c.before.before.before.before
 -- ---- Needs
 
 cast-t12 : tie.Need-overflow-cast-t12
-cast-t12 c = value-fits _ _ (start c).ranges.most
+cast-t12 c = value_fits _ _ (start c).ranges.most
 
 returns : tie.Need-returns
 returns c =
-    two-draws _ c.before.before.before.draw.result c.before.before.draw2.result _ _ c.before.before.before.draw.ensures
+    two_draws _ c.before.before.before.draw.result c.before.before.draw2.result _ _ c.before.before.before.draw.ensures
     c.before.before.draw2.ensures
 
 pub step_spec : {M : Type 1} → statement M
