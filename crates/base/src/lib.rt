@@ -1,4 +1,6 @@
 // What every layer names: words over lists and stretches of places, numbered rules and the first broken one, and texts as bytes, in specs/.
+#![tactic(auto)]
+
 ghost use Rattle.std.specs.Prelude.{◌≡◌};
 ghost use Rattle.base.specs.Refusals.{code_of};
 
@@ -9,7 +11,7 @@ pub const EIGHT_DIGITS: u32 = 99_999_999;
 pub const DIAL_MODULUS: u32 = 100_000_000;
 
 // What a call answers that has nothing else to tell.
-#[derive(Drop)]
+#[derive(Clone, Copy)]
 pub enum Performed {
     Done,
     // the refusal's number

@@ -3,7 +3,7 @@ ghost use Rattle.std.specs.Prelude.{◌≡◌};
 ghost use Rattle.berth.specs.Steps.{seeded, drawn, stepped};
 
 // The generator's 32 bits, and of the slot stepped last whether it is lost, and its true value.
-#[derive(Drop)]
+#[derive(Clone, Copy)]
 pub struct Berth {
     pub x: u32,
     pub lost: bool,

@@ -1,4 +1,6 @@
 // A berth on paper: a run of the book over a lossy radio (02, W12).
+#![tactic(auto)]
+
 pub mod generator;
 mod refusing;
 mod reporting;
@@ -15,7 +17,7 @@ ghost use Rattle.berth.specs.Inner.Refusing.{file_size};
 use rules::Head;
 
 // That span's state, the published total minus the true total, and the true total, of which a reader may want the share.
-#[derive(Drop)]
+#[derive(Clone, Copy)]
 pub struct Report {
     pub state: u8,
     pub difference: i64,
@@ -23,7 +25,7 @@ pub struct Report {
 }
 
 // The report, or the refusal's number.
-#[derive(Drop)]
+#[derive(Clone, Copy)]
 pub enum Simulated {
     Run(Report),
     Refused(u8),

@@ -8,7 +8,7 @@ ghost use Rattle.book.specs.Lent.{lent_book};
 use crate::Received;
 use rules::Head;
 
-#[derive(Drop)]
+#[derive(Clone, Copy)]
 pub enum Call {
     Delivery {
         slot: u32,

@@ -1,4 +1,6 @@
 // The calls that open and fill a book (01, Opening; The three calls that fill it; 02, W1, W6 and W10).
+#![tactic(auto)]
+
 pub mod calls;
 pub mod cells;
 mod deliveries;
@@ -23,7 +25,7 @@ use base::Performed;
 use rules::{Head, opening};
 
 // What a filling call answers.
-#[derive(Drop)]
+#[derive(Clone, Copy)]
 pub enum Received {
     Stored,
     Late,

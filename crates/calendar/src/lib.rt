@@ -1,4 +1,6 @@
 // The Gregorian calendar from 2000-01-01 to 2099-12-31 (01, Opening). Day number 0 is 2000-01-01.
+#![tactic(auto)]
+
 ghost use Rattle.std.specs.Prelude.{true, ◌≡◌, ◌-◌, ◌≤◌, ◌<◌};
 ghost use Rattle.calendar.specs.Calendar.{day_count, leap, month_length, year_length, days_before_month, days_before_year};
 ghost use Rattle.calendar.specs.Calendar.{day_number, is_date, place, date_of, weekday, to_sunday};
@@ -12,7 +14,7 @@ const MONTH_STARTS: [[u32; 12]; 2] = [
     [0, 31, 60, 91, 121, 152, 182, 213, 244, 274, 305, 335],
 ];
 
-#[derive(Drop)]
+#[derive(Clone, Copy)]
 pub struct Date {
     pub year: u32,
     pub month: u32,
@@ -20,7 +22,7 @@ pub struct Date {
 }
 
 // A year or a month, and the days of it that have passed.
-#[derive(Drop)]
+#[derive(Clone, Copy)]
 struct Place {
     at: u32,
     left: u32,

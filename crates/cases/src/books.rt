@@ -57,7 +57,7 @@ fn days_of(head: Head) -> usize
 }
 
 // The deliveries of a row: the same to each slot from `first` up to `end`.
-#[derive(Drop)]
+#[derive(Clone, Copy)]
 struct Run {
     first: u32,
     end: u32,

@@ -1,4 +1,6 @@
 // 01's section Cases and those of 02 as run code: each case is a book, filled and published by the public calls, and a line of output.
+#![tactic(auto)]
+
 mod answers;
 mod books;
 mod draws;

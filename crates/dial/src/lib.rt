@@ -1,11 +1,13 @@
 // A reading and the four bytes in which a charger's meter sends it (02, W9).
+#![tactic(auto)]
+
 ghost use Rattle.std.specs.Prelude.{[], ◌∷◌, ◌≡◌, ◌+◌, ◌*◌, ◌≤◌};
 ghost use Rattle.dial.specs.Dial.{byte_at, above_nine, upper, lower, pack_answer, pack_after, unpack_answer};
 
 use base::{EIGHT_DIGITS, Performed};
 
 // What `unpack` answers.
-#[derive(Drop)]
+#[derive(Clone, Copy)]
 pub enum Unpacked {
     Reading(u32),
     Refused(u8),

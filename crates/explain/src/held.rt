@@ -16,7 +16,7 @@ use rules::spans::{Scaling, Summary};
 use rules::{Head, opening, readings, spans, stretch};
 
 // Where nothing is scaled, E is 0.
-#[derive(Drop)]
+#[derive(Clone, Copy)]
 pub struct Held {
     pub span: Spanned,
     pub by: Scaling,

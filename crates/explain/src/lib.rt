@@ -1,4 +1,6 @@
 // The way of one slot through the book: its cause, the rule that filled it, its span, its scaling and its outcome.
+#![tactic(auto)]
+
 mod back;
 mod held;
 pub mod naming;
@@ -21,7 +23,7 @@ use rules::tests::Cause;
 use rules::{Head, Outcome, Quality, linear, opening, tests};
 
 // The rule that applied: a good slot is delivered; the others stand in the order in which they are tried.
-#[derive(Drop)]
+#[derive(Clone, Copy)]
 pub enum Rule {
     Delivered,
     Agreed,
@@ -32,7 +34,7 @@ pub enum Rule {
 }
 
 // The span that a slot lies in: its boundaries, lowest and highest advance, R, V and state.
-#[derive(Drop)]
+#[derive(Clone, Copy)]
 pub struct Spanned {
     pub inside: bool,
     pub first: u32,
@@ -45,7 +47,7 @@ pub struct Spanned {
 }
 
 // T, E, P and C of a slot that is scaled.
-#[derive(Drop)]
+#[derive(Clone, Copy)]
 pub struct Shares {
     pub scaled: bool,
     pub t: u64,
@@ -55,7 +57,7 @@ pub struct Shares {
 }
 
 // What does not apply is false and 0.
-#[derive(Drop)]
+#[derive(Clone, Copy)]
 pub struct Explanation {
     pub cause: Cause,
     pub rule: Rule,
@@ -68,7 +70,7 @@ pub struct Explanation {
 }
 
 // The refusal's number, or 0 and the explanation.
-#[derive(Drop)]
+#[derive(Clone, Copy)]
 pub struct Explained {
     pub refused: u8,
     pub explanation: Explanation,

@@ -5,13 +5,13 @@ ghost use Rattle.explain.specs.Naming.{slot_named};
 use rules::{Head, opening};
 
 // A day number and a minute of the day.
-#[derive(Drop)]
+#[derive(Clone, Copy)]
 pub struct Moment {
     pub day: u32,
     pub minute: u32,
 }
 
-#[derive(Drop)]
+#[derive(Clone, Copy)]
 pub enum Named {
     Slot(u32),
     Outside,

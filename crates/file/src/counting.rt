@@ -10,7 +10,7 @@ use crate::slots::SlotRecord;
 
 // Whether the records have their forms, but for the values of F, of which this is the highest; the counts of A, of S and F,
 // of F alone, and of N slots, and the sum of all values.
-#[derive(Drop)]
+#[derive(Clone, Copy)]
 pub struct Counted {
     pub formed: bool,
     pub highest: u32,

@@ -1,4 +1,6 @@
 // The format of the published file: its reader, and the writing of its records (01, The published file).
+#![tactic(auto)]
+
 mod counting;
 pub mod fields;
 mod slots;
@@ -14,7 +16,7 @@ ghost use Rattle.file.specs.Inner.Reading.{Ready, met_by, counted_in, count_test
 use crate::counting::Counted;
 
 // The figures of a file's trailer: first day number, D, L, M, counts of A, of S and F, and of N slots, sum, layout.
-#[derive(Drop)]
+#[derive(Clone, Copy)]
 pub struct Figures {
     pub first: u32,
     pub days: u32,
@@ -28,7 +30,7 @@ pub struct Figures {
 }
 
 // What the reader answers: the trailer's figures, or the refusal's number.
-#[derive(Drop)]
+#[derive(Clone, Copy)]
 pub enum Verdict {
     Accepted(Figures),
     Refused(u8),

@@ -9,7 +9,7 @@ ghost use Rattle.file.specs.Inner.Reading.{is_plain, is_kindless, is_kind, kind_
 use crate::fields;
 
 // A record of the slot table.
-#[derive(Drop)]
+#[derive(Clone, Copy)]
 pub struct SlotRecord {
     pub value: u32,
     pub letter: u8,
@@ -17,7 +17,7 @@ pub struct SlotRecord {
 }
 
 // The slots that are looked for: S, N, scaled, or S and not scaled.
-#[derive(Drop)]
+#[derive(Clone, Copy)]
 pub enum Kind {
     Substituted,
     None,
@@ -94,7 +94,7 @@ pub fn has_kind(file: &[u8], kind: Kind, a: usize, k: usize) -> bool
 }
 
 // Which kinds of slots a span has, and the sum of its values.
-#[derive(Drop)]
+#[derive(Clone, Copy)]
 pub struct Tally {
     pub none: bool,
     pub scaled: bool,

@@ -10,7 +10,7 @@ use crate::slots::Kind;
 use crate::{Figures, fields, slots, trailer};
 
 // A record of the span table; `blank` is its last byte.
-#[derive(Drop)]
+#[derive(Clone, Copy)]
 pub struct SpanRecord {
     pub first: u32,
     pub last: u32,

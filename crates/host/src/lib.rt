@@ -1,4 +1,6 @@
 // The public calls for hosts in C and Rust: numbers, word lists and byte lists, each list a pointer and a length.
+#![tactic(auto)]
+
 mod chargers;
 mod files;
 mod limits;

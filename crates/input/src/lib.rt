@@ -1,11 +1,13 @@
 // Standard input, read to its end.
+#![tactic(auto)]
+
 ghost use Rattle.std.specs.Prelude.{length};
 ghost use Rattle.input.specs.Reading.{AtMost};
 
 use libc::STDIN_FILENO;
 
 // What reading to the end of the input gave: so many bytes, or an error.
-#[derive(Drop)]
+#[derive(Clone, Copy)]
 pub enum Input {
     Bytes(usize),
     Failed,

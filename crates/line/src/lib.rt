@@ -1,4 +1,6 @@
 // The line that is written of a file (01, The published file: 'A program reads a file'), put into a lent buffer.
+#![tactic(auto)]
+
 pub mod writing;
 
 ghost use Rattle.std.specs.Prelude.{◌≡◌, ◌++◌, ◌<◌};
@@ -12,7 +14,7 @@ use file::{Figures, Verdict};
 use writing::{put_decimal, put_digits, put_text};
 
 // What putting the line of a file into a buffer of any length answers.
-#[derive(Drop)]
+#[derive(Clone, Copy)]
 pub enum LineWritten {
     Length(usize),
     Refused(u8),

@@ -4,14 +4,14 @@ ghost use Rattle.log.specs.Inner.Deliveries.{Joined, keyword};
 ghost use Rattle.log.specs.Inner.Deliveries.{DigitsAt, FieldAt, NumbersAt, DeliveryAt, DigitsTo, FieldTo, NumbersTo, DeliveryTo};
 
 // A row of digits, up to `end`, and its value.
-#[derive(Drop)]
+#[derive(Clone, Copy)]
 pub struct Digits {
     pub value: u32,
     pub end: usize,
 }
 
 // A number that a separator follows, and the place after that.
-#[derive(Drop)]
+#[derive(Clone, Copy)]
 pub struct Field {
     pub good: bool,
     pub value: u32,
@@ -19,7 +19,7 @@ pub struct Field {
 }
 
 // The four numbers of a delivery, and the place where the next line begins.
-#[derive(Drop)]
+#[derive(Clone, Copy)]
 pub struct Delivery {
     pub found: bool,
     pub slot: u32,

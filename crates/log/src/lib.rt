@@ -1,4 +1,6 @@
 // Text logs: one call a line.
+#![tactic(auto)]
+
 pub mod deliveries;
 pub mod limits;
 pub mod line;

@@ -12,7 +12,7 @@ use rules::limits as demand;
 use rules::limits::Loaded;
 
 // The first `count` values are a table; a count of 0 is none.
-#[derive(Drop)]
+#[derive(Clone, Copy)]
 pub struct Limits {
     pub values: [u32; 24],
     pub count: usize,

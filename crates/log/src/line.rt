@@ -13,7 +13,7 @@ use book::calls::Call;
 use rules::Head;
 
 // The figures of an opening. Its kind is a place in a table of demand limits.
-#[derive(Drop)]
+#[derive(Clone, Copy)]
 pub struct Opening {
     pub year: u32,
     pub month: u32,
@@ -25,7 +25,7 @@ pub struct Opening {
 }
 
 // What a line is.
-#[derive(Drop)]
+#[derive(Clone, Copy)]
 pub enum LogLine {
     Passed,
     Table,
@@ -35,7 +35,7 @@ pub enum LogLine {
 }
 
 // A line, and the table where it is one.
-#[derive(Drop)]
+#[derive(Clone, Copy)]
 pub struct Entry {
     pub line: LogLine,
     pub limits: Limits,

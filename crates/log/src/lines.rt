@@ -7,7 +7,7 @@ use crate::{deliveries, line};
 use book::calls::Call;
 
 // The end of a line, where its LF stands or the bytes end, and the place where the next line begins.
-#[derive(Drop)]
+#[derive(Clone, Copy)]
 pub struct Cut {
     pub end: usize,
     pub next: usize,
@@ -32,7 +32,7 @@ pub fn line_at(bytes: &[u8], at: usize) -> Cut
 }
 
 // What a line is, and the place where the next line begins.
-#[derive(Drop)]
+#[derive(Clone, Copy)]
 pub struct Found {
     pub line: LogLine,
     pub next: usize,

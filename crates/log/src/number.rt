@@ -3,14 +3,14 @@ ghost use Rattle.std.specs.Prelude.{◌≡◌};
 ghost use Rattle.log.specs.Numbers.{number_of, date_of_word};
 
 // What a word is as a number.
-#[derive(Drop)]
+#[derive(Clone, Copy)]
 pub enum Number {
     Is(u32),
     Not,
 }
 
 // What a word is as a date: year, month and day.
-#[derive(Drop)]
+#[derive(Clone, Copy)]
 pub enum Date {
     Is(u32, u32, u32),
     Not,

@@ -8,7 +8,7 @@ use crate::number::Number;
 use crate::{number, pieces};
 
 // The values of some words, where each of them is a number.
-#[derive(Drop)]
+#[derive(Clone, Copy)]
 pub struct Values {
     pub good: bool,
     pub values: [u32; 4],

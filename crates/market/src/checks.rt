@@ -8,7 +8,7 @@ ghost use Rattle.market.specs.declared.checks.Class.TheVariants.{Identifier, Pla
 use crate::Codes;
 
 // The bytes of an identifier, of another text, and of a creation time.
-#[derive(Drop)]
+#[derive(Clone, Copy)]
 pub enum Class {
     Identifier,
     Plain,

@@ -15,7 +15,7 @@ use file::fields;
 use line::writing::{put_digits, put_text};
 
 // The day `number` has the slots from slot `from` on.
-#[derive(Drop)]
+#[derive(Clone, Copy)]
 pub struct Day {
     pub number: u32,
     pub from: usize,

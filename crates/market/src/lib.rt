@@ -1,4 +1,6 @@
 // A file exported as NEM12, the market's meter data file (02, W8).
+#![tactic(auto)]
+
 mod checks;
 mod days;
 mod headers;
@@ -16,7 +18,7 @@ use file::{Figures, Verdict};
 use line::writing::put_text;
 
 // The method codes that the caller gives for the methods 2, 3, 5, 18 and 19.
-#[derive(Drop)]
+#[derive(Clone, Copy)]
 pub struct Codes {
     pub two: u32,
     pub three: u32,
@@ -26,7 +28,7 @@ pub struct Codes {
 }
 
 // What a call answers: the export's length, or the refusal's number.
-#[derive(Drop)]
+#[derive(Clone, Copy)]
 pub enum Exported {
     Length(usize),
     Refused(u8),

@@ -9,7 +9,7 @@ use crate::writing::put_field;
 use line::writing::{put_digits, put_text};
 
 // The letter, and the method code that is written with it; 0 where none is.
-#[derive(Drop)]
+#[derive(Clone, Copy)]
 pub struct Mark {
     pub letter: u8,
     pub code: u32,

@@ -1,4 +1,6 @@
 // A whole log in one call: what its bytes are, and the lists that its calls fill.
+#![tactic(auto)]
+
 mod filling;
 mod reading;
 
@@ -10,7 +12,7 @@ use crate::reading::OpeningFound;
 use rules::Head;
 
 // What the bytes of a log are.
-#[derive(Drop)]
+#[derive(Clone, Copy)]
 pub enum Checked {
     // its head, how many lines it has, and how many filling calls
     Log(Head, usize, usize),
@@ -22,7 +24,7 @@ pub enum Checked {
 }
 
 // What playing a log answers.
-#[derive(Drop)]
+#[derive(Clone, Copy)]
 pub enum Played {
     AsChecked(Checked),
     // 2: a list of the wrong length, or not a byte for each line

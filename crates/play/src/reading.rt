@@ -15,7 +15,7 @@ use rules::limits::Loaded;
 use rules::{Head, limits as demand, opening};
 
 // What a line before the opening comes to.
-#[derive(Drop)]
+#[derive(Clone, Copy)]
 pub enum Step {
     On,
     Opened(Head),
@@ -24,7 +24,7 @@ pub enum Step {
 }
 
 // The opening's head, the place after its line and that line's number; or what the log is without one.
-#[derive(Drop)]
+#[derive(Clone, Copy)]
 pub enum OpeningFound {
     Opened(Head, usize, usize),
     Without(Checked),
@@ -171,7 +171,7 @@ fn calls_at(line: LogLine) -> usize
 }
 
 // Whether a line cannot stand after the opening, how many calls it is, and where the next one begins.
-#[derive(Drop)]
+#[derive(Clone, Copy)]
 pub struct TestedLine {
     pub outside: bool,
     pub calls: usize,

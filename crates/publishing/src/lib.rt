@@ -1,4 +1,6 @@
 // Publishing: a book's outcomes written as a file (01, The published file).
+#![tactic(auto)]
+
 mod tables;
 
 ghost use Rattle.std.specs.Prelude.{true, ◌++◌, ◌≡◌, ◌+◌, ◌*◌, ◌≤◌, length, drop};
@@ -16,7 +18,7 @@ use file::{Figures, writer};
 use rules::{Head, opening, readings};
 
 // The length of the file, or the refusal's number.
-#[derive(Drop)]
+#[derive(Clone, Copy)]
 pub enum Published {
     Length(usize),
     Refused(u8),

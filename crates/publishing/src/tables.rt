@@ -17,7 +17,7 @@ use rules::walk::Walk;
 use rules::{Head, Outcome, Quality, filling, linear, opening, outage, pass, stretch, tests};
 
 // The counts of each quality and the sum of the slots so far.
-#[derive(Drop)]
+#[derive(Clone, Copy)]
 pub struct Totals {
     pub actual: u32,
     pub substituted: u32,
@@ -27,7 +27,7 @@ pub struct Totals {
 }
 
 // The pass before a slot, the spans written, and the totals.
-#[derive(Drop)]
+#[derive(Clone, Copy)]
 pub struct Progress {
     pub pass: Pass,
     pub spans: usize,
@@ -35,7 +35,7 @@ pub struct Progress {
 }
 
 // Where the records of direct slots end, whether outage zero applies to the last of them, and the totals with them.
-#[derive(Drop)]
+#[derive(Clone, Copy)]
 pub struct DirectPut {
     pub end: usize,
     pub outage: bool,

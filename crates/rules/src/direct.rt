@@ -7,7 +7,7 @@ ghost use Rattle.rules.specs.Inner.Walks.{direct_of, DirectFrom, DirectTo};
 use crate::{Head, outage, tests};
 
 // Where the direct slots end, whether outage zero applies to the last of them, and their sum.
-#[derive(Drop)]
+#[derive(Clone, Copy)]
 pub struct Added {
     pub end: usize,
     pub outage: bool,

@@ -13,7 +13,7 @@ use crate::linear::StraightLine;
 use crate::{Head, Outcome, Quality, linear, opening, tests, weeks};
 
 // Up to four values of the same position on earlier weeks, nearest first, and their days.
-#[derive(Drop)]
+#[derive(Clone, Copy)]
 pub struct References {
     pub days: [u32; 4],
     pub values: [u32; 4],
@@ -21,7 +21,7 @@ pub struct References {
 }
 
 // The mean of references rounded down, what their sum has beyond it, and their number.
-#[derive(Drop)]
+#[derive(Clone, Copy)]
 pub struct Mean {
     pub mean: u32,
     pub remainder: u32,
@@ -29,14 +29,14 @@ pub struct Mean {
 }
 
 // The outcome before scaling of a slot with a cause, and its shape.
-#[derive(Drop)]
+#[derive(Clone, Copy)]
 pub struct Shaped {
     pub outcome: Outcome,
     pub shape: u64,
 }
 
 // The same, and the slot's line.
-#[derive(Drop)]
+#[derive(Clone, Copy)]
 pub struct RuledSlot {
     pub outcome: Outcome,
     pub shape: u64,

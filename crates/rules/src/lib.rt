@@ -1,4 +1,6 @@
 // The rules of document 01: opening bounds, tests of a slot, filling, spans.
+#![tactic(auto)]
+
 pub mod direct;
 pub mod filling;
 pub mod limits;
@@ -29,7 +31,7 @@ pub const MOST_WIDTH: u32 = 9999;
 
 // The five figures of a book's opening, which every later call is given; the first day is three of these fields, and the demand
 // limit stands in the kind's stead.
-#[derive(Drop)]
+#[derive(Clone, Copy)]
 pub struct Head {
     pub year: u32,
     pub month: u32,
@@ -41,7 +43,7 @@ pub struct Head {
 }
 
 // Actual, substituted, agreed, none.
-#[derive(Drop)]
+#[derive(Clone, Copy)]
 pub enum Quality {
     A,
     S,
@@ -50,7 +52,7 @@ pub enum Quality {
 }
 
 // What is published of a slot.
-#[derive(Drop)]
+#[derive(Clone, Copy)]
 pub struct Outcome {
     pub value: u32,
     pub quality: Quality,
@@ -58,7 +60,7 @@ pub struct Outcome {
 }
 
 // What is published of a span: its two boundaries, its lowest and highest advance, and its state.
-#[derive(Drop)]
+#[derive(Clone, Copy)]
 pub struct Span {
     pub first: u32,
     pub last: u32,

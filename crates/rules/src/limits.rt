@@ -6,7 +6,7 @@ ghost use Rattle.rules.specs.Limits.{rises_at, table_ok, load_answer};
 use crate::MOST_LIMIT;
 
 // The demand limit in W, or the refusal's number.
-#[derive(Drop)]
+#[derive(Clone, Copy)]
 pub enum Loaded {
     Limit(u32),
     Refused(u8),

@@ -11,7 +11,7 @@ use crate::{Head, MOST_MINUTES, outage, tests};
 
 // A slot's place j in its run and, where the line fills the run, its length g and the values l and r beside it; a slot in no run
 // has place 0.
-#[derive(Drop)]
+#[derive(Clone, Copy)]
 pub struct StraightLine {
     pub place: u32,
     pub length: u32,

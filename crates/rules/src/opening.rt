@@ -9,7 +9,7 @@ use crate::{Head, MOST_DAYS, MOST_LIMIT, MOST_TOLERANCE};
 use calendar::DAY_COUNT;
 
 // A day of the book, counted from 0, and how many slots it has.
-#[derive(Drop)]
+#[derive(Clone, Copy)]
 pub struct Day {
     pub number: usize,
     pub slots: usize,

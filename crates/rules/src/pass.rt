@@ -9,7 +9,7 @@ use crate::walk::Walk;
 use crate::{linear, stretch};
 
 // What is known before a slot: of the runs that the slot before it lies in, and of its stretch.
-#[derive(Drop)]
+#[derive(Clone, Copy)]
 pub struct Pass {
     pub walk: Walk,
     pub stretch: Stretch,

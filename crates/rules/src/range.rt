@@ -5,7 +5,7 @@ ghost use Rattle.rules.specs.Spans.{range_of, least_in, is_near};
 
 use base::DIAL_MODULUS;
 
-#[derive(Drop)]
+#[derive(Clone, Copy)]
 pub struct Range {
     pub lowest: u32,
     pub highest: u32,

@@ -15,7 +15,7 @@ use crate::{Head, Outcome, Quality, direct, filling, linear, outage, range};
 use base::DIAL_MODULUS;
 
 // V, the sum and the number of the shapes, whether a slot is N, whether one is S.
-#[derive(Drop)]
+#[derive(Clone, Copy)]
 pub struct Summary {
     pub actual: u64,
     pub shapes: u64,
@@ -25,7 +25,7 @@ pub struct Summary {
 }
 
 // T, E, what is added to each e (1 where all are 0) and P. Where nothing is scaled, E is 0.
-#[derive(Drop)]
+#[derive(Clone, Copy)]
 pub struct Scaling {
     pub t: u64,
     pub whole: u64,
@@ -34,7 +34,7 @@ pub struct Scaling {
 }
 
 // Where the advance of a span lies, R and the state.
-#[derive(Drop)]
+#[derive(Clone, Copy)]
 pub struct Compared {
     pub range: Range,
     pub advance: u64,
@@ -42,7 +42,7 @@ pub struct Compared {
 }
 
 // A slot's new value, and the scaling one slot on.
-#[derive(Drop)]
+#[derive(Clone, Copy)]
 pub struct Scaled {
     pub value: u32,
     pub next: Scaling,

@@ -13,34 +13,34 @@ use crate::walk::Walk;
 use crate::{Head, Outcome, Quality, Span, opening, readings, spans};
 
 // Where the stretch ends, and how it is scaled.
-#[derive(Drop)]
+#[derive(Clone, Copy)]
 pub struct Stretch {
     pub until: usize,
     pub by: Scaling,
 }
 
-#[derive(Drop)]
+#[derive(Clone, Copy)]
 pub enum Begins {
     Span(Span),
     Nothing,
 }
 
 // A span's outcome, and the span before its first slot.
-#[derive(Drop)]
+#[derive(Clone, Copy)]
 pub struct Met {
     pub span: Span,
     pub stretch: Stretch,
 }
 
 // The span that begins at a slot, and the stretch that the slot lies in.
-#[derive(Drop)]
+#[derive(Clone, Copy)]
 pub struct Entered {
     pub begins: Begins,
     pub stretch: Stretch,
 }
 
 // A slot's outcome, and the stretch one slot on.
-#[derive(Drop)]
+#[derive(Clone, Copy)]
 pub struct InStretch {
     pub outcome: Outcome,
     pub next: Stretch,

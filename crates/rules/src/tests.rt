@@ -8,7 +8,7 @@ ghost use Rattle.rules.specs.Inner.Lent.{Fitted};
 use crate::Head;
 
 // The first test that applies to a slot; nothing, where the slot is good.
-#[derive(Drop)]
+#[derive(Clone, Copy)]
 pub enum Cause {
     Nothing,
     Gap,

@@ -10,7 +10,7 @@ use crate::linear::StraightLine;
 use crate::{Head, Outcome, filling, linear, outage, tests};
 
 // What is known at slot `at` of the slot before it: whether outage zero applies to it, and its line.
-#[derive(Drop)]
+#[derive(Clone, Copy)]
 pub struct Walk {
     pub at: usize,
     pub outage: bool,
@@ -18,7 +18,7 @@ pub struct Walk {
 }
 
 // The outcome of a slot before scaling, its shape, and the walk one slot on.
-#[derive(Drop)]
+#[derive(Clone, Copy)]
 pub struct Filled {
     pub outcome: Outcome,
     pub shape: u64,

@@ -7,14 +7,14 @@ ghost use Rattle.rules.specs.Inner.Ways.{InBook, four_gaps, GapsUpTo};
 use crate::{Head, opening};
 
 // The days back to the first week, and the number of weeks.
-#[derive(Drop)]
+#[derive(Clone, Copy)]
 pub struct Way {
     pub first: usize,
     pub weeks: usize,
 }
 
 // Where a search stands: a week behind the next slot that it looks at, and the weeks that are left.
-#[derive(Drop)]
+#[derive(Clone, Copy)]
 pub struct Place {
     pub at: usize,
     pub left: usize,

@@ -1,4 +1,6 @@
 // Reads a file of at most 65,536 bytes on standard input and writes one line of it (01, The published file).
+#![tactic(auto)]
+
 use input::Input;
 use libc::STDOUT_FILENO;
 

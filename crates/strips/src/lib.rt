@@ -1,4 +1,6 @@
 // A slot table laid out for a store that writes only the blocks that changed (02, W13).
+#![tactic(auto)]
+
 mod records;
 
 ghost use Rattle.std.specs.Prelude.{◌≡◌, ◌*◌, ◌<◌, ◌≤◌, length};
@@ -58,7 +60,7 @@ fn restore_slot(n: usize, strips: &[u8], out: &mut [u8], i: usize)
 }
 
 // What a call is given and what it lays in its output: a table and its strips, or strips and their table.
-#[derive(Drop)]
+#[derive(Clone, Copy)]
 enum Way {
     ToStrips,
     FromStrips,

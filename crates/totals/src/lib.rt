@@ -1,4 +1,6 @@
 // The totals of stays in a file (02, W11).
+#![tactic(auto)]
+
 mod days;
 mod pairs;
 
