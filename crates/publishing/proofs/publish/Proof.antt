@@ -17,8 +17,8 @@ entry-taken1 c = c.before.before.before.before.before.before.before.before.befor
 
 abbrev lent : tie.Start → Book
 lent c =
-    lent_book c.args.values c.args.versions c.args.statuses c.args.holidays c.args.readings c.args.read-versions
-    c.args.agreed c.args.agreed-versions c.args.counts c.args.widths
+    lent_book c.args.values.now c.args.versions.now c.args.statuses.now c.args.holidays.now c.args.readings.now c.args.read-versions.now
+    c.args.agreed.now c.args.agreed-versions.now c.args.counts.now c.args.widths.now
 
 -- ---- The tests that were passed
 

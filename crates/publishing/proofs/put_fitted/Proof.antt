@@ -26,16 +26,16 @@ book-ok-requires c κs = (entry c).requires
 returns : tie.Need-returns
 returns c = let start = entry c.before.before in
     let a = start.args in
-    let b = lent_book a.values a.versions a.statuses a.holidays a.readings a.read-versions a.agreed a.agreed-versions
-    a.counts a.widths in
+    let b = lent_book a.values.now a.versions.now a.statuses.now a.holidays.now a.readings.now a.read-versions.now a.agreed.now a.agreed-versions.now
+    a.counts.now a.widths.now in
     refused-11 a.head b a.out.now start.pre.0 start.pre.1 (sym c.before.book_ok_lem.ensures ∙ not-true _ c.if1.true)
 
 put-sound-requires : tie.Need-put-sound-requires
 unfolding book_ok
 put-sound-requires c κs = let start = entry c.before.before.before in
     let a = start.args in
-    let b = lent_book a.values a.versions a.statuses a.holidays a.readings a.read-versions a.agreed a.agreed-versions
-    a.counts a.widths in
+    let b = lent_book a.values.now a.versions.now a.statuses.now a.holidays.now a.readings.now a.read-versions.now a.agreed.now a.agreed-versions.now
+    a.counts.now a.widths.now in
     record {
       head = start.pre.0;
       fit = (fits_of a.head b start.pre.1).0;
@@ -46,8 +46,8 @@ returns-2 : tie.Need-returns-2
 returns-2 c = let at-else = passed1 c.before in
     let start = entry at-else.before.before in
     let a = start.args in
-    let b = lent_book a.values a.versions a.statuses a.holidays a.readings a.read-versions a.agreed a.agreed-versions
-    a.counts a.widths in
+    let b = lent_book a.values.now a.versions.now a.statuses.now a.holidays.now a.readings.now a.read-versions.now a.agreed.now a.agreed-versions.now
+    a.counts.now a.widths.now in
     put-left a.head b a.out.now start.pre.0 start.pre.1
     (sym at-else.before.book_ok_lem.ensures ∙ not-false _ at-else.if1.left)
     _ _ c.before.before.put-sound.ensures
