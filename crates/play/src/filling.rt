@@ -5,15 +5,15 @@ ghost use Rattle.book.specs.Lent.{lent_book};
 ghost use Rattle.book.specs.Answers.{answer_code, received_meant, opened_meant};
 ghost use Rattle.book.specs.Cells.{book_fits};
 ghost use Rattle.book.specs.Filling.{after_all};
-ghost use Rattle.log.specs.declared.limits.Limits.{Limits as limits_type};
-ghost use Rattle.log.specs.Log.{item_in, items, lines as lines_of};
+ghost use Rattle.text_log.specs.declared.limits.Limits.{Limits as limits_type};
+ghost use Rattle.text_log.specs.Log.{item_in, items, lines as lines_of};
 ghost use Rattle.play.specs.Playing.{item_code, after_item, codes, log_calls};
 ghost use Rattle.play.specs.Inner.Filling.{is_done};
 
 use base::Performed;
 use book::{Received, calls};
-use log::line::LogLine;
-use log::lines;
+use text_log::line::LogLine;
+use text_log::lines;
 use rules::Head;
 
 pub fn is_done(opened: Performed) -> bool

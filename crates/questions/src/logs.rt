@@ -6,7 +6,7 @@ ghost use Rattle.questions.specs.Logs.{check_code, check_line, log_figures, log_
 ghost use Rattle.questions.specs.Logs.{call_code, call_fields, line_code, line_fields, one_code, one_fields};
 
 use book::calls::Call;
-use log::line::LogLine;
+use text_log::line::LogLine;
 use play::{Checked, Played};
 
 // The nine figures of a log, and 0; else the number of what it is.
@@ -215,6 +215,6 @@ pub extern "C" fn sawmauve_call(line: &[u8], fields: &mut [u32]) -> u32
     if fields.len() != 7 {
         return 2;
     }
-    let found = log::line::line_of(line);
+    let found = text_log::line::line_of(line);
     tell_line(found, fields)
 }
