@@ -6,8 +6,8 @@ ghost use Rattle.questions.specs.Logs.{check_code, check_line, log_figures, log_
 ghost use Rattle.questions.specs.Logs.{call_code, call_fields, line_code, line_fields, one_code, one_fields};
 
 use book::calls::Call;
-use text_log::line::LogLine;
 use play::{Checked, Played};
+use text_log::line::LogLine;
 
 // The nine figures of a log, and 0; else the number of what it is.
 fn tell_log(found: Checked, figures: &mut [u64]) -> u32
