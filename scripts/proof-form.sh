@@ -1,6 +1,6 @@
 #!/bin/sh
-# The form of proofs, in every crate or in the one that is named. Refused, with file and line: a run of `.before` (a place has a name), a
-# part of an invariant by its number (`.invariant.2`), a line of over 140 columns.
+# The form of proofs, in every crate or in the one that is named. Refused, with file and line: a run of more than two `.before` (most of
+# what lies behind a place has a name there), a part of an invariant by its number (`.invariant.2`), a line of over 140 columns.
 cd "$(dirname "$0")/.." || exit 2
 LC_ALL=C.UTF-8
 export LC_ALL
@@ -14,7 +14,7 @@ find crates/"${1:-}" -name out -prune -o \( -name '*.antt' -o -name '*.rt' \) -p
     refuse '^.{141,}' 'over 140 columns'
     case $file in
         crates/*/proofs/*.antt)
-            refuse '\.before *\.before' 'a run of .before'
+            refuse '(\.before *){3}' 'a run of more than two .before'
             refuse '\.inv(ariant)? ?\.[0-9]' 'a part of an invariant by its number' ;;
     esac
 done > "$bad"
