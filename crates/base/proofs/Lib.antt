@@ -1,4 +1,3 @@
-pub mod Known
 pub mod Logic
 pub mod Sums
 pub mod Lists

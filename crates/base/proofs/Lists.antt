@@ -45,5 +45,6 @@ get_d_up_to f d a (suc k) (suc i) l = get_d_up_to f d (suc a) k i (le_of_suc-le-
 pub up_to_at : {X : Type 0} (f : ℕ → X) (d : X) (k i : ℕ) → i < k → get_or (up_to f 0 k) i d ≡ f i
 up_to_at f d k i l = get_d_up_to f d 0 k i l ∙ ap f (zero-add i)
 
-pub up_to_all : {X : Type 0} (f : ℕ → X) (d : X) (xs : List X) → ((i : ℕ) → i < length xs → f i ≡ get_or xs i d) → up_to f 0 (length xs) ≡ xs
+pub up_to_all : {X : Type 0} (f : ℕ → X) (d : X) (xs : List X) → ((i : ℕ) → i < length xs → f i ≡ get_or xs i d) → up_to f 0 (length xs) ≡
+    xs
 up_to_all f d xs h = up_to_list xs d f 0 (λ i l. ap f (zero-add i) ∙ h i l)

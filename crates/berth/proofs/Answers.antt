@@ -21,7 +21,7 @@ use Rattle.berth.specs.declared.Simulated.{Simulated}
 use Rattle.berth.specs.declared.Simulated.TheVariants.{Run, Refused}
 use Rattle.berth.specs.Run.{true_total, run_calls, report_of, run_rules, simulate_answer, simulate_lists, simulate_bytes}
 use Rattle.berth.specs.Inner.Refusing.{file_size}
-use Rattle.berth.proofs.Written.{file_size_lem, state-back, sum_back, sum_high}
+use Rattle.berth.proofs.Written.{file_size_lem, state_back, sum_back, sum_high}
 
 module _ (h : Head) (seed loss : ℕ) (good : head_ok h ≡ true) (out : List ℕ) (room : file_size h ≤ length out) where
   abbrev file : List ℕ
@@ -39,12 +39,13 @@ module _ (h : Head) (seed loss : ℕ) (good : head_ok h ≡ true) (out : List �
   total_written p = rw (p, sum_back h seed loss good (drop (length file) out)) (sum_high h seed loss good)
 
   pub reported : {r : Report} {e : List ℕ} {total : ℕ} → e ≡ left → total ≡ true_total h seed loss
-      → r ≡ record { state = num 1 e (6 * slot_count h + 12); difference = pos (num 8 e (6 * slot_count h + 34)) -ℤ pos total; total = total }
+      → r ≡ record { state = num 1 e (6 * slot_count h + 12); difference = pos (num 8 e (6 * slot_count h + 34)) -ℤ pos total; total = total
+          }
       → r ≡ report_of h seed loss
   unfolding report_of
   reported p t q =
       let rest = drop (length file) out in
-      q ∙ rw (p, t, state-back h seed loss good rest, sum_back h seed loss good rest)
+      q ∙ rw (p, t, state_back h seed loss good rest, sum_back h seed loss good rest)
 
 -- what the contract says
 pub record Meant (h : Head) (seed loss : ℕ) (b : Book) (out : List ℕ) (r : Simulated) (b' : Book) (out' : List ℕ) : Type 0 where

@@ -17,7 +17,8 @@ use Rattle.rules.specs.Spans.{is_read}
 use Rattle.rules.proofs.Bounds.{bounded}
 use Rattle.book.specs.Arguments.{Call}
 use Rattle.book.specs.Contents.{DialRead}
-use Rattle.book.specs.Plain.{Said, deliveries, kept_reads, highest_version, content_with, read_version, read_content, slot_version, slot_content}
+use Rattle.book.specs.Plain.{Said, deliveries, kept_reads, highest_version, content_with, read_version, read_content, slot_version}
+use Rattle.book.specs.Plain.{slot_content}
 use Rattle.book.specs.Plain.{book_of}
 use Rattle.claim.specs.Claim.{plain_of}
 use Rattle.berth.specs.Steps.{lost_at, value_at}
@@ -107,18 +108,18 @@ module _ (h : Head) (seed loss : ℕ) (good : head_ok h ≡ true) where
 
   -- a slot that is not lost has its true value as version 1, status 0
   module _ (i : ℕ) (lt : i < slot_count h) (kept : lost_at h seed loss i ≡ false) where
-    its-calls : deliveries i all ≡ record { version = 1; content = record { value = value_at h seed loss i; status = 0 } } ∷ []
+    its_calls : deliveries i all ≡ record { version = 1; content = record { value = value_at h seed loss i; status = 0 } } ∷ []
     unfolding deliveries
-    its-calls = (heard_all h seed loss good).before i lt ∙ rw kept
+    its_calls = (heard_all h seed loss good).before i lt ∙ rw kept
 
-    pub its-version : get_or book.slots.versions i 0 ≡ 1
+    pub its_version : get_or book.slots.versions i 0 ≡ 1
     unfolding book_of highest_version
-    its-version = up_to_at (slot_version all) 0 (slot_count h) i lt ∙ rw its-calls
+    its_version = up_to_at (slot_version all) 0 (slot_count h) i lt ∙ rw its_calls
 
-    pub its-value : get_or book.slots.values i 0 ≡ value_at h seed loss i
+    pub its_value : get_or book.slots.values i 0 ≡ value_at h seed loss i
     unfolding book_of highest_version content_with
-    its-value = up_to_at (λ k. (slot_content all k).value) 0 (slot_count h) i lt ∙ rw its-calls
+    its_value = up_to_at (λ k. (slot_content all k).value) 0 (slot_count h) i lt ∙ rw its_calls
 
-    pub its-status : get_or book.slots.statuses i 0 ≡ 0
+    pub its_status : get_or book.slots.statuses i 0 ≡ 0
     unfolding book_of highest_version content_with
-    its-status = up_to_at (λ k. (slot_content all k).status) 0 (slot_count h) i lt ∙ rw its-calls
+    its_status = up_to_at (λ k. (slot_content all k).status) 0 (slot_count h) i lt ∙ rw its_calls

@@ -75,9 +75,9 @@ module _ (h : Head) (seed loss : ℕ) where
   }
 
   module _ (good : head_ok h ≡ true) where
-    heard-next : (n : ℕ) (kept : List Call) → n < slot_count h → Heard n kept → Heard (suc n) (kept_of h kept (sent_at h seed loss n))
+    heard_next : (n : ℕ) (kept : List Call) → n < slot_count h → Heard n kept → Heard (suc n) (kept_of h kept (sent_at h seed loss n))
     unfolding sent_at kept_of keep
-    heard-next n kept lt k = go (lost_at h seed loss n) refl
+    heard_next n kept lt k = go (lost_at h seed loss n) refl
       where
         go : (t : Bool) → lost_at h seed loss n ≡ t
             → Heard (suc n) (kept_of h kept (cond t [] (delivery n 1 (value_at h seed loss n) 0 ∷ [])))
@@ -96,7 +96,7 @@ module _ (h : Head) (seed loss : ℕ) where
         }
     heard (suc n) le =
         rw (kept_append h [] (sent h seed loss n) (sent_at h seed loss n))
-        (heard-next n (kept_of h [] (sent h seed loss n)) (omega arith) (heard n (omega arith)))
+        (heard_next n (kept_of h [] (sent h seed loss n)) (omega arith) (heard n (omega arith)))
 
     -- the dial's reads come last
     abbrev pub slot_calls : List Call
@@ -111,12 +111,12 @@ module _ (h : Head) (seed loss : ℕ) where
     pub heard_all : Heard (slot_count h) slot_calls
     heard_all = heard (slot_count h) (omega arith)
 
-    days-some : 0 < h.days
-    days-some = omega (arith, (bounded h good).days_low)
+    days_some : 0 < h.days
+    days_some = omega (arith, (bounded h good).days_low)
 
-    unread-last : kept_reads h.days (register 0 1 0 0 ∷ slot_calls) ≡ []
+    unread_last : kept_reads h.days (register 0 1 0 0 ∷ slot_calls) ≡ []
     unfolding kept_reads
-    unread-last = rw (ne_eqb 0 h.days (λ e. omega (arith, days-some)), heard_all.unread h.days)
+    unread_last = rw (ne_eqb 0 h.days (λ e. omega (arith, days_some)), heard_all.unread h.days)
 
     pub kept_run : kept_of h [] (run_calls h seed loss) ≡ all_calls
     unfolding run_calls dial_reads kept_of keep
@@ -124,5 +124,5 @@ module _ (h : Head) (seed loss : ℕ) where
         kept_append h [] (sent h seed loss (slot_count h)) (dial_reads h (true_total h seed loss))
         ∙ rw (
           read_stored h slot_calls 0 0 good (omega arith) (omega arith) (heard_all.unread 0),
-          read_stored h (register 0 1 0 0 ∷ slot_calls) h.days reading good (omega arith) (omega arith) unread-last,
+          read_stored h (register 0 1 0 0 ∷ slot_calls) h.days reading good (omega arith) (omega arith) unread_last,
         )

@@ -47,16 +47,16 @@ module _ (h : Head) (seed loss : ℕ) (s₀ : Sent) where
 
   module _ (s : Sent) (b : Berth) (total slot : ℕ) (u : Under h seed loss s₀ s b total slot) where
     -- the total fits 64 bits
-    pub total-high : head_ok h ≡ true → total ≤ 57_600_000_000
-    total-high good =
+    pub total_high : head_ok h ≡ true → total ≤ 57_600_000_000
+    total_high good =
         let low = sum_small (value_at h seed loss) 500_000 (λ i. omega (arith, value_high h seed loss i, most_high h good)) 0 slot in
         omega (arith, slots_high h good, u.inside, u.total)
 
-    pub send-next : (most : ℕ) (b' : Berth) (s' : Sent) → slot < slot_count h → most ≡ most_of h → b' ≡ stepped loss most b
+    pub send_next : (most : ℕ) (b' : Berth) (s' : Sent) → slot < slot_count h → most ≡ most_of h → b' ≡ stepped loss most b
         → s' ≡ sent_one h s slot b'
         → Under h seed loss s₀ s' b' (total + b'.value) (slot + 1)
     unfolding berth_after sent_from sum value_at
-    send-next most b' s' lt m e f =
+    send_next most b' s' lt m e f =
         let next : b' ≡ berth_after h seed loss (slot + 1) = e ∙ rw (m, u.berth, add-one) in
         record {
           inside = omega arith;
@@ -65,9 +65,9 @@ module _ (h : Head) (seed loss : ℕ) (s₀ : Sent) where
           total = rw (add-one, ← u.total, zero-add) (ap (λ (c : Berth). total + c.value) (rw add-one at next));
         }
 
-    pub send-last : slot_count h ≤ slot → (total ≡ true_total h seed loss) × (s ≡ sent_from h seed loss s₀ (slot_count h))
+    pub send_last : slot_count h ≤ slot → (total ≡ true_total h seed loss) × (s ≡ sent_from h seed loss s₀ (slot_count h))
     unfolding true_total
-    send-last over =
+    send_last over =
         let e : slot ≡ slot_count h = omega (arith, u.inside) in
         (u.total ∙ ap (sum (value_at h seed loss) 0) e, u.lists ∙ ap (sent_from h seed loss s₀) e)
 

@@ -14,7 +14,8 @@ use Rattle.rules.specs.declared.Outcome.{Outcome}
 use Rattle.rules.specs.declared.Span.{Span}
 use Rattle.rules.specs.Opening.{head_ok, slots_per_day, slot_count, Cells}
 use Rattle.rules.specs.Tests.{time_change_bit, partial_bit, cause_of, cause_at, good_at}
-use Rattle.rules.specs.Spans.{is_s, is_n, advance, actual_in, filled, start, slots_in, G, actual_sum, state_of, in_span, span_of, outcome_at}
+use Rattle.rules.specs.Spans.{is_s, is_n, advance, actual_in, filled, start, slots_in, G, actual_sum, state_of, in_span, span_of}
+use Rattle.rules.specs.Spans.{outcome_at}
 use Rattle.rules.specs.Spans.{outcomes}
 use Rattle.rules.specs.Inner.Walks.{actual_of}
 use Rattle.rules.proofs.Bounds.{bounded}
@@ -28,7 +29,7 @@ use Rattle.berth.specs.Generator.{draw}
 use Rattle.berth.specs.Steps.{most_of, stepped, berth_after, lost_at, value_at}
 use Rattle.berth.specs.Run.{true_total, report_of}
 use Rattle.berth.specs.Lossless.{Lossless, WithoutLosses}
-use Rattle.berth.proofs.Booked.{book, book_run, ends, sharp, dial_first, dial_last, its-version, its-value, its-status}
+use Rattle.berth.proofs.Booked.{book, book_run, ends, sharp, dial_first, dial_last, its_version, its_value, its_status}
 use Rattle.berth.proofs.Differences.{none}
 use Rattle.berth.proofs.OneSpan.{all_inside}
 use Rattle.berth.proofs.Sends.{value_high}
@@ -53,15 +54,15 @@ module _ (h : Head) (seed : ℕ) (good : head_ok h ≡ true) where
   unfolding good_at cause_at cause_of time_change_bit partial_bit
   slot_good i lt =
       rw (
-        its-version h seed 0 good i lt (not_lost i),
-        its-value h seed 0 good i lt (not_lost i),
-        its-status h seed 0 good i lt (not_lost i),
+        its_version h seed 0 good i lt (not_lost i),
+        its_value h seed 0 good i lt (not_lost i),
+        its_status h seed 0 good i lt (not_lost i),
         le-ltb (h.limit * h.interval) (value_at h seed 0 i * 60) (within i),
       )
 
   slot_filled : (i : ℕ) → i < slot_count h → filled h b 0 D i ≡ actual_of (value_at h seed 0 i)
   slot_filled i lt =
-      sym (filled_good h b.slots b.agreed b.holidays i (slot_good i lt)) ∙ ap actual_of (its-value h seed 0 good i lt (not_lost i))
+      sym (filled_good h b.slots b.agreed b.holidays i (slot_good i lt)) ∙ ap actual_of (its_value h seed 0 good i lt (not_lost i))
 
   slot_outcome : (i : ℕ) → i < slot_count h → outcome_at h b i ≡ actual_of (value_at h seed 0 i)
   unfolding in_span
@@ -110,11 +111,11 @@ module _ (h : Head) (seed : ℕ) (good : head_ok h ≡ true) where
 
   -- the dial's whole turns of 100,000,000 are more than any tolerance
   state_zero : (n t : ℕ) → t ≤ 1_000_000 → (◌≡◌ {A = ℕ} (cond (leb (apart (n % 100_000_000) n) t) 0 3) 0) ↔ (n < 100_000_000)
-  state_zero n t low = (from-state (leb (apart (n % 100_000_000) n) t) refl, λ lt. rw (le-leb (apart (n % 100_000_000) n) t (omega arith)))
+  state_zero n t low = (from_state (leb (apart (n % 100_000_000) n) t) refl, λ lt. rw (le-leb (apart (n % 100_000_000) n) t (omega arith)))
     where
-      from-state : (x : Bool) → leb (apart (n % 100_000_000) n) t ≡ x → ◌≡◌ {A = ℕ} (cond x 0 3) 0 → n < 100_000_000
-      from-state true e z = omega (arith, leb-true (apart (n % 100_000_000) n) t e)
-      from-state false e z = absurd (omega arith)
+      from_state : (x : Bool) → leb (apart (n % 100_000_000) n) t ≡ x → ◌≡◌ {A = ℕ} (cond x 0 3) 0 → n < 100_000_000
+      from_state true e z = omega (arith, leb-true (apart (n % 100_000_000) n) t e)
+      from_state false e z = absurd (omega arith)
 
   of_run : Lossless h seed
   unfolding report_of figures_of published

@@ -83,9 +83,9 @@ module _ (h : Head) (seed loss : ℕ) (good : head_ok h ≡ true) where
       rw place (trailer_field_lem f 8 (lit< tt) (omega (arith, sum_high)))
 
   module _ (rest : List ℕ) where
-    pub state-back : num 1 (plain_file h cs ++ rest) (6 * slot_count h + 12) ≡ state_of h b 0 h.days
+    pub state_back : num 1 (plain_file h cs ++ rest) (6 * slot_count h + 12) ≡ state_of h b 0 h.days
     unfolding file_size
-    state-back = num_first (plain_file h cs) rest 1 (6 * slot_count h + 12) (omega (arith, file_size_lem)) ∙ state_in
+    state_back = num_first (plain_file h cs) rest 1 (6 * slot_count h + 12) (omega (arith, file_size_lem)) ∙ state_in
 
     pub sum_back : num 8 (plain_file h cs ++ rest) (6 * slot_count h + 34) ≡ (figures_of f).sum
     unfolding file_size

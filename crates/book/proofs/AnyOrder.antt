@@ -174,11 +174,13 @@ module _ (h : Head) where
     as_high : AsFar (kept_of h [] cs) (kept_of h [] ds)
     as_high = record {
       slots =
-          λ i. from (record { value = 0; status = 0 }) (deliveries i (kept_of h [] cs)) (λ v a. v ≤ slot_version (kept_of h [] ds) i) zero-le
+          λ i. from (record { value = 0; status = 0 }) (deliveries i (kept_of h [] cs)) (λ v a. v ≤ slot_version (kept_of h [] ds) i)
+          zero-le
           (λ s m. far _ (deliveries_from i (kept_of h [] cs) s m));
       days = λ d e. far (holiday d) (named_from d (kept_of h [] cs) e);
       boundaries =
-          λ d. from (record { reading = 0; width = 0 }) (kept_reads d (kept_of h [] cs)) (λ v a. v ≤ read_version (kept_of h [] ds) d) zero-le
+          λ d. from (record { reading = 0; width = 0 }) (kept_reads d (kept_of h [] cs)) (λ v a. v ≤ read_version (kept_of h [] ds) d)
+          zero-le
           (λ s m. far _ (reads_from d (kept_of h [] cs) s m));
       agreed = λ i. from 0 (agreements i (kept_of h [] cs)) (λ v a. v ≤ agreed_version (kept_of h [] ds) i) zero-le
           (λ s m. far _ (agreements_from i (kept_of h [] cs) s m));

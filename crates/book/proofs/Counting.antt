@@ -125,7 +125,8 @@ module _ (h : Head) (positive : 0 < slots_per_day h) (kept : List Call) (slot : 
   unfolding is_full
   not_full = go (eqb (slot_version kept slot) 0) refl
     where
-      go : (t : Bool) → eqb (slot_version kept slot) 0 ≡ t → (t && leb (slots_per_day h) (delivered_on h kept (slot / slots_per_day h))) ≡ false
+      go : (t : Bool) → eqb (slot_version kept slot) 0 ≡ t → (t && leb (slots_per_day h) (delivered_on h kept (slot / slots_per_day h))) ≡
+          false
       go false e = refl
       go true e = lt-leb _ _ (short (eqb-true (slot_version kept slot) 0 e))
 
@@ -135,7 +136,8 @@ module _ (h : Head) (kept : List Call) (slot version value status : ℕ) where
   more = delivery slot version value status ∷ kept
 
   abbrev found : Answer
-  found = by_version (slot_version kept slot) version (eqb (slot_content kept slot).value value && eqb (slot_content kept slot).status status)
+  found = by_version (slot_version kept slot) version (eqb (slot_content kept slot).value value && eqb (slot_content kept slot).status
+      status)
 
   other_slot : (i : ℕ) → (slot ≡ i → ⊥) → one (slot_version more i) ≡ one (slot_version kept i)
   unfolding deliveries
@@ -159,13 +161,15 @@ module _ (h : Head) (kept : List Call) (slot version value status : ℕ) where
 
   this_day : 0 < slots_per_day h → 0 < version → is_accepted found ≡ true → delivered_on h more (slot / slots_per_day h)
       ≡ cond (is_stored found)
-      (cond (eqb (slot_version kept slot) 0) (delivered_on h kept (slot / slots_per_day h) + 1) (delivered_on h kept (slot / slots_per_day h)))
+      (cond (eqb (slot_version kept slot) 0) (delivered_on h kept (slot / slots_per_day h) + 1)
+      (delivered_on h kept (slot / slots_per_day h)))
       (delivered_on h kept (slot / slots_per_day h))
   unfolding delivered_on
   this_day positive p ok =
       let place = in_day (slots_per_day h) slot positive in
       let sums =
-      sum_inside (λ i. one (slot_version kept i)) (λ i. one (slot_version more i)) (slot / slots_per_day h * slots_per_day h) slot other_slot
+      sum_inside (λ i. one (slot_version kept i)) (λ i. one (slot_version more i)) (slot / slots_per_day h * slots_per_day h) slot
+      other_slot
       (slots_per_day h) place.0 place.1 in
       one_more (slot_version kept slot) version _ _ (is_stored found) p (rw (this_slot ok) at sums)
 
@@ -174,7 +178,11 @@ module _ (h : Head) (kept : List Call) (slot version value status : ℕ) where
       → counts_of h more ≡ counts_with found (book_of h kept).slots.versions (counts_of h kept) slot (slot / slots_per_day h)
   unfolding counts_of book_of
   counts_next positive inside within p ok =
-      rw (up_to_at (slot_version kept) 0 (slot_count h) slot inside, up_to_at (delivered_on h kept) 0 h.days (slot / slots_per_day h) within)
+      rw (
+        up_to_at (slot_version kept) 0 (slot_count h) slot inside,
+        up_to_at (delivered_on h kept) 0 h.days (slot / slots_per_day h)
+            within,
+      )
       (up_to_filed (delivered_on h kept) (delivered_on h more) h.days (slot / slots_per_day h) _ other_day found (this_day positive p ok))
 
 -- a day's slots lie in the book

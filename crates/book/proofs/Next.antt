@@ -96,7 +96,8 @@ module _ (h : Head) (kept : List Call) (slot version value status : ℕ) where
       said_filed (record { value = 0; status = 0 }) (λ i. deliveries i kept) (λ i. deliveries i (delivery slot version value status ∷ kept))
       slot
       (record { version = version; content = record { value = value; status = status } }) same_slot
-      (same_measured_lem (slot_content kept slot) value status) ok (rw (eq-eqb slot slot refl)) (λ i ne. rw (ne_eqb slot i ne)) m (slot_count h)
+      (same_measured_lem (slot_content kept slot) value status) ok (rw (eq-eqb slot slot refl)) (λ i ne. rw (ne_eqb slot i ne)) m
+      (slot_count h)
 
 -- the lists of boundaries, when one accepted register read more is kept
 module _ (h : Head) (kept : List Call) (boundary version reading width : ℕ) where
@@ -114,7 +115,8 @@ module _ (h : Head) (kept : List Call) (boundary version reading width : ℕ) wh
       said_filed (record { reading = 0; width = 0 }) (λ d. kept_reads d kept)
       (λ d. kept_reads d (register boundary version reading width ∷ kept)) boundary
       (record { version = version; content = record { reading = reading; width = width } }) same_read
-      (same_read_lem (read_content kept boundary) reading width) ok (rw (eq-eqb boundary boundary refl)) (λ d ne. rw (ne_eqb boundary d ne)) m
+      (same_read_lem (read_content kept boundary) reading width) ok (rw (eq-eqb boundary boundary refl)) (λ d ne. rw (ne_eqb boundary d ne))
+      m
       (suc h.days)
 
 -- the list of holidays, when one holiday more is kept

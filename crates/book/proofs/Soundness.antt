@@ -11,7 +11,8 @@ use Rattle.rules.specs.declared.Head.{Head}
 use borrow.Author.Tests.{eq-eqb}
 use Rattle.rules.specs.Opening.{slot_count}
 use Rattle.book.specs.Arguments.{Call}
-use Rattle.book.specs.Cells.{reads_of, slot_fault_at, day_fault_at, read_fault_at, agreed_fault_at, count_fault_at, cells_ok, book_fits, book_ok}
+use Rattle.book.specs.Cells.{reads_of, slot_fault_at, day_fault_at, read_fault_at, agreed_fault_at, count_fault_at, cells_ok, book_fits}
+use Rattle.book.specs.Cells.{book_ok}
 use Rattle.book.specs.Opening.{opened}
 use Rattle.book.specs.Filling.{after_all}
 use Rattle.book.specs.Plain.{kept_of, book_of, delivered_on, counts_of, lists_of}

@@ -8,7 +8,8 @@ use borrow.Author.Tests.{le-leb}
 use lib.ListN.{get_or}
 use Rattle.base.specs.Lists.{sum}
 use Rattle.calendar.specs.declared.Date.{Date}
-use Rattle.calendar.specs.Calendar.{leap, month_lengths, month_length, year_length, days_before_month, days_before_year, day_number, is_date}
+use Rattle.calendar.specs.Calendar.{leap, month_lengths, month_length, year_length, days_before_month, days_before_year, day_number}
+use Rattle.calendar.specs.Calendar.{is_date}
 use Rattle.calendar.specs.Calendar.{date_of}
 use Rattle.calendar.proofs.Bounds.{bounded}
 use Rattle.calendar.proofs.Places.{within, below, found}

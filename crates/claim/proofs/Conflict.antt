@@ -5,7 +5,8 @@ use mathlib.Core.Path.{◌≡◌, refl, ap}
 use Prim.Native.Nat.{◌<◌}
 use native.Mathlib.Omega.{arith}
 use Rattle.base.specs.Lists.{sum, up_to}
-use Rattle.calendar.specs.Calendar.{leap, month_lengths, month_length, year_length, days_before_month, days_before_year, day_number, is_date}
+use Rattle.calendar.specs.Calendar.{leap, month_lengths, month_length, year_length, days_before_month, days_before_year, day_number}
+use Rattle.calendar.specs.Calendar.{is_date}
 use Rattle.rules.specs.declared.Head.{Head}
 use Rattle.rules.specs.declared.Outcome.{Outcome}
 use Rattle.rules.specs.Opening.{head_ok, interval_ok, first_day, slots_per_day, slot_count}
@@ -34,7 +35,8 @@ abbrev six : Call
 six = delivery 0 1 6 0
 
 opens : open_answer day (opened day) ≡ done
-unfolding open_answer opened book_fits cells_fit slots_fit days_fit reads_fit agreed_fits counts_fit all_long head_ok interval_ok first_day slots_per_day
+unfolding open_answer opened book_fits cells_fit slots_fit days_fit reads_fit agreed_fits counts_fit all_long head_ok interval_ok first_day
+    slots_per_day
     slot_count leap month_lengths month_length year_length days_before_month days_before_year day_number is_date sum
 opens = refl
 
@@ -47,8 +49,10 @@ turned a b x (Memᴰ.tail (Memᴰ.tail m)) = absurd (Memᴰ.not-nil m)
 -- what is published of slot 0, by computing it
 published_first : ((outcome_at day (plain_of day (five ∷ six ∷ [])) 0).value ≡ 5)
     × ((outcome_at day (plain_of day (six ∷ five ∷ [])) 0).value ≡ 6)
-unfolding outcome_at between last_read next_read is_read filled_at good_at cause_at cause_of is_gap time_change_bit partial_bit up_to book_of kept_of keep
-    plain_answer against_kept deliveries kept_reads highest_version content_with argument_rules by_version head_ok interval_ok first_day slots_per_day
+unfolding outcome_at between last_read next_read is_read filled_at good_at cause_at cause_of is_gap time_change_bit partial_bit up_to
+    book_of kept_of keep
+    plain_answer against_kept deliveries kept_reads highest_version content_with argument_rules by_version head_ok interval_ok first_day
+    slots_per_day
     slot_count leap month_lengths month_length year_length days_before_month days_before_year day_number is_date sum
 published_first = (refl, refl)
 

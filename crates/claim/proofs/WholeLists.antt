@@ -78,7 +78,8 @@ module _ (h g : Head) (b c : Cells) where
   unfolding outcomes
   slot_of k x i l = rw zero-add at (get_d_up_to (outcome_at k x) no_outcome 0 (slot_count k) i l)
 
-  same_slots : slot_count h ≡ slot_count g → ((i : ℕ) → i < slot_count h → outcome_at h b i ≡ outcome_at g c i) → outcomes h b ≡ outcomes g c
+  same_slots : slot_count h ≡ slot_count g → ((i : ℕ) → i < slot_count h → outcome_at h b i ≡ outcome_at g c i) → outcomes h b ≡ outcomes g
+      c
   unfolding outcomes
   same_slots n e =
       up_to_cong (outcome_at h b) (outcome_at g c) 0 (slot_count h) (λ i l. e i (omega arith)) ∙ ap (up_to (outcome_at g c) 0) n
@@ -143,7 +144,8 @@ module _ (h g : Head) (b c : Book) (cs ds : List Call) (p : open_answer h b ≡ 
   plain k x es e = rw (opens k x e).1 (answers_agree k es)
 
   -- 4
-  one_set : h ≡ g → ((x : Call) → AcceptedCall h (open_after h b) cs x ↔ AcceptedCall g (open_after g c) ds x) → plain_file h cs ≡ plain_file g
+  one_set : h ≡ g → ((x : Call) → AcceptedCall h (open_after h b) cs x ↔ AcceptedCall g (open_after g c) ds x) → plain_file h cs ≡
+      plain_file g
       ds
   one_set one same =
       let ours = kept_of_lem h (open_after h b) cs (plain h b cs p) in

@@ -106,7 +106,8 @@ packed_reading (b ∷ bs) e =
 -- ---- Four bytes
 
 -- the four bytes that `pack` computes
-pub form_bytes : (n : ℕ) {a b c d : ℕ} → a ≡ byte_at 0 n → b ≡ byte_at 0 (n / 100) → c ≡ byte_at 0 (n / 10_000) → d ≡ byte_at 0 (n / 1_000_000)
+pub form_bytes : (n : ℕ) {a b c d : ℕ} → a ≡ byte_at 0 n → b ≡ byte_at 0 (n / 100) → c ≡ byte_at 0 (n / 10_000) → d ≡ byte_at 0
+    (n / 1_000_000)
     → a ∷ b ∷ c ∷ d ∷ [] ≡ form n
 unfolding packed
 form_bytes n e f g h =

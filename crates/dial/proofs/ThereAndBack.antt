@@ -23,7 +23,8 @@ form_read reading h =
     rw (digits, back)
 
 -- what is read as a reading is the form of that reading
-read_form : (bytes : List ℕ) (reading : ℕ) → unpack_answer bytes ≡ unpacked.Reading reading → (reading ≤ 99_999_999) × (form reading ≡ bytes)
+read_form : (bytes : List ℕ) (reading : ℕ) → unpack_answer bytes ≡ unpacked.Reading reading → (reading ≤ 99_999_999) ×
+    (form reading ≡ bytes)
 unfolding unpack_answer
 read_form bytes reading e =
     let (same, kept) =

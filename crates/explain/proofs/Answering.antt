@@ -26,14 +26,14 @@ module _ (h : Head) (b : Book) (slot : ℕ) where
     refused_2 p = rw (good, p)
 
     module _ (fit : book_fits h b ≡ true) where
-      pub refused-3 : slot_count h ≤ slot → refused_by 3 ≡ explain_answer h b slot
+      pub refused_3 : slot_count h ≤ slot → refused_by 3 ≡ explain_answer h b slot
       unfolding explain_answer explain_refusal
-      refused-3 p = rw (good, fit, le-leb (slot_count h) slot p)
+      refused_3 p = rw (good, fit, le-leb (slot_count h) slot p)
 
       module _ (inside : slot < slot_count h) where
-        pub refused-11 : book_ok h b ≡ false → refused_by 11 ≡ explain_answer h b slot
+        pub refused_11 : book_ok h b ≡ false → refused_by 11 ≡ explain_answer h b slot
         unfolding explain_answer explain_refusal
-        refused-11 p = rw (good, fit, lt-leb (slot_count h) slot inside, p)
+        refused_11 p = rw (good, fit, lt-leb (slot_count h) slot inside, p)
 
         pub told : book_ok h b ≡ true → (e : Explanation) → e ≡ explanation_of h b.cells slot
             → record { refused = 0; explanation = e } ≡ explain_answer h b slot
@@ -41,6 +41,7 @@ module _ (h : Head) (b : Book) (slot : ℕ) where
         told ok e q = rw (good, fit, lt-leb (slot_count h) slot inside, ok, q)
 
 -- an explanation cannot disagree with the file
-pub as_published : (h : Head) (b : Cells) (i : ℕ) → i < slot_count h → get_or (published h b).slots i no_outcome ≡ (explanation_of h b i).outcome
+pub as_published : (h : Head) (b : Cells) (i : ℕ) → i < slot_count h → get_or (published h b).slots i no_outcome ≡
+    (explanation_of h b i).outcome
 unfolding published outcomes explanation_of
 as_published h b i l = get_d_up_to (outcome_at h b) no_outcome 0 (slot_count h) i l ∙ ap (outcome_at h b) (zero-add i)

@@ -65,14 +65,14 @@ between_read h w r i first last p q =
 -- its figures and scaling, from the sums of its slots
 module _ (h : Head) (b : Cells) (first last : ℕ) where
   module _ (m : Summary) (p : m ≡ summary h b first last (slots_in h b first last)) where
-    pub spanned-found : spanned_with h b.readings b.widths first last m ≡ spanned_by h b (some first) (some last)
+    pub spanned_found : spanned_with h b.readings b.widths first last m ≡ spanned_by h b (some first) (some last)
     unfolding spanned_with spanned_by actual_sum summary_of
-    spanned-found = rw (compared_is h b first last m p, p)
+    spanned_found = rw (compared_is h b first last m p, p)
 
     module _ (i : ℕ) (before : Summary) (q : before ≡ summary h b first last (i - start h b first last)) where
-      scaling-before : scaling_with 1 m before (R h b first last) ≡ scaling_at h b first last i
+      scaling_before : scaling_with 1 m before (R h b first last) ≡ scaling_at h b first last i
       unfolding scaling_with T actual_sum all_zero E e P summary_of
-      scaling-before =
+      scaling_before =
           rw (
             p,
             q,
@@ -80,17 +80,17 @@ module _ (h : Head) (b : Cells) (first last : ℕ) where
             weights h b first last (all_zero h b first last) (i - start h b first last),
           )
 
-      pub held-scaling : (s : Spanned) → s ≡ spanned_with h b.readings b.widths first last m
+      pub held_scaling : (s : Spanned) → s ≡ spanned_with h b.readings b.widths first last m
           → scaling_with s.state m before s.advance ≡ (span_stretch h b first last i).by
       unfolding span_stretch spanned_by scaling_with
-      held-scaling s f =
-          let state : s.state ≡ state_of h b first last = ap (λ (x : Spanned). x.state) (f ∙ spanned-found) in
-          let r : s.advance ≡ R h b first last = ap (λ (x : Spanned). x.advance) (f ∙ spanned-found) in
+      held_scaling s f =
+          let state : s.state ≡ state_of h b first last = ap (λ (x : Spanned). x.state) (f ∙ spanned_found) in
+          let r : s.advance ≡ R h b first last = ap (λ (x : Spanned). x.advance) (f ∙ spanned_found) in
           rw (state, r) (go (eqb (state_of h b first last) 1) refl)
         where
           go : (t : Bool) → eqb (state_of h b first last) 1 ≡ t
               → scaling_with (state_of h b first last) m before (R h b first last) ≡ (span_stretch h b first last i).by
-          go true t = rw t scaling-before
+          go true t = rw t scaling_before
           go false t = rw t
 
 -- a scaling with the P of a slot

@@ -17,7 +17,7 @@ use Rattle.rules.specs.Tests.{good_at}
 use Rattle.rules.specs.Inner.Walks.{zero_at, zero_before, bare_line, line_at, line_before, walk_at}
 use Rattle.rules.proofs.Outages.{zero_none, good_delivered}
 use Rattle.rules.proofs.Lines.{line_none}
-use Rattle.rules.proofs.Runs.{run-good}
+use Rattle.rules.proofs.Runs.{run_good}
 
 module _ (h : Head) (s : Slots) where
   -- one slot further back
@@ -38,16 +38,16 @@ module _ (h : Head) (s : Slots) where
     none_before (suc k) good =
         let z : suc k - 1 ≡ k = omega arith in
         let g : good_at h s k ≡ true = ap (good_at h s) (sym z) ∙ good (λ e. omega arith) in
-        (sym (zero_none s.versions s.statuses n k (good_delivered h s k g)), line_none h s v k (run-good h s v k g))
+        (sym (zero_none s.versions s.statuses n k (good_delivered h s k g)), line_none h s v k (run_good h s v k g))
 
     -- one slot on
-    pub zero-next : (k : ℕ) → zero_at s.versions s.statuses n k ≡ zero_before s.versions s.statuses n (k + 1)
+    pub zero_next : (k : ℕ) → zero_at s.versions s.statuses n k ≡ zero_before s.versions s.statuses n (k + 1)
     unfolding zero_before
-    zero-next k = rw add-one
+    zero_next k = rw add-one
 
-    pub line-next : (k : ℕ) → line_at h s v k ≡ line_before h s v (k + 1)
+    pub line_next : (k : ℕ) → line_at h s v k ≡ line_before h s v (k + 1)
     unfolding line_before
-    line-next k = rw add-one
+    line_next k = rw add-one
 
   pub walk_are : (v : List ℕ) (i : ℕ) (outage : Bool) (line : StraightLine) → outage ≡ zero_before s.versions s.statuses (slot_count h)
       i

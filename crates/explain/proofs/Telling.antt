@@ -27,7 +27,7 @@ use Rattle.rules.proofs.Bounds.{Bounded}
 use Rattle.rules.proofs.Lines.{walk_line}
 use Rattle.rules.proofs.Places.{span_end}
 use Rattle.rules.proofs.Scaling.{running}
-use Rattle.rules.proofs.Steps.{weight, whole_low, step-outcome, step-scalable}
+use Rattle.rules.proofs.Steps.{weight, whole_low, step_outcome, step_scalable}
 use Rattle.explain.specs.declared.Rule.{Rule}
 use Rattle.rules.specs.declared.filling.References.{References}
 use Rattle.explain.specs.declared.Shares.{Shares}
@@ -37,7 +37,7 @@ use Rattle.explain.specs.Explain.{explanation_of}
 use Rattle.explain.specs.Inner.Holding.{shares_with}
 use Rattle.explain.specs.Inner.Telling.{rule_of, scaled_to, told_with}
 use Rattle.explain.proofs.Holding.{between_read}
-use Rattle.explain.proofs.Passing.{line-next}
+use Rattle.explain.proofs.Passing.{line_next}
 
 -- the rule that applied, and its line
 module _ (h : Head) (s : Slots) (a : Agreed) (holidays : List ℕ) (i : ℕ) where
@@ -83,21 +83,21 @@ module _ (h : Head) (w : Bounded h) (b : Cells) (i : ℕ) where
   pub outcome_is : fit_outcome o x (scaled_to (stretch_at h b i).by) ≡ outcome_at h b i
   unfolding fit_outcome
   outcome_is =
-      step-outcome h w b i o x (stretch_at h b i) refl refl refl
+      step_outcome h w b i o x (stretch_at h b i) refl refl refl
 
   pub fits_are : WidthsLow b.widths → Scalable o x (scaled_to (stretch_at h b i).by)
   fits_are wide =
-      let f = step-scalable h w b i o x (stretch_at h b i) refl refl refl wide in
+      let f = step_scalable h w b i o x (stretch_at h b i) refl refl refl wide in
       record { method_low = f.method_low; scales = f.scales }
 
   -- in a scaled span
   module _ (first last : ℕ) (l : start h b first last ≤ i) (m : i < start h b first last + slots_in h b first last)
       (q : is_s o.quality ≡ true) where
-    whole-some : E h b first last ≡ 0 → ⊥
-    whole-some z = omega (arith, whole_low h w b i first last l m q)
+    whole_some : E h b first last ≡ 0 → ⊥
+    whole_some z = omega (arith, whole_low h w b i first last l m q)
 
-    reached-is : P h b first last i + (x + cond (all_zero h b first last) 1 0) ≡ C h b first last i
-    reached-is = rw (← weight h w b i first last l m q) (sym (running h b first last i l))
+    reached_is : P h b first last i + (x + cond (all_zero h b first last) 1 0) ≡ C h b first last i
+    reached_is = rw (← weight h w b i first last l m q) (sym (running h b first last i l))
 
   -- C stands in the scaling one slot on
   abbrev told : Scaling → Shares
@@ -114,7 +114,7 @@ module _ (h : Head) (w : Bounded h) (b : Cells) (i : ℕ) where
     where
       go : (q t : Bool) → is_s o.quality ≡ q → eqb (state_of h b first last) 1 ≡ t
           → told (span_stretch h b first last i).by ≡ shares_by h b (some first) (some last) i
-      go true true q t = rw (q, t, ne_eqb _ _ (whole-some first last l m q), reached-is first last l m q)
+      go true true q t = rw (q, t, ne_eqb _ _ (whole_some first last l m q), reached_is first last l m q)
       go true false q t = rw (q, t)
       go false t q u = rw q
 
@@ -141,11 +141,11 @@ module _ (h : Head) (w : Bounded h) (b : Cells) (i : ℕ) where
     applied = ap rule_of outcome ∙ rule_is h b.slots b.agreed b.holidays i
 
     lined : new.next.line ≡ line_at h b.slots b.agreed.versions i
-    lined = walk_line h b.slots b.agreed.versions new.next (i + 1) next ∙ sym (line-next h b.slots b.agreed.versions 0 i)
+    lined = walk_line h b.slots b.agreed.versions new.next (i + 1) next ∙ sym (line_next h b.slots b.agreed.versions 0 i)
 
-    line-told : cond (is_line (rule_of new.outcome)) new.next.line no_line
+    line_told : cond (is_line (rule_of new.outcome)) new.next.line no_line
         ≡ line_of (rule_at h b.slots b.agreed b.holidays i) h b.slots b.agreed.versions i
-    line-told = rw (applied, lined) (line_is h b.slots b.agreed b.holidays i)
+    line_told = rw (applied, lined) (line_is h b.slots b.agreed b.holidays i)
 
     pub told_is : told_with cause new found held ≡ explanation_of h b i
     unfolding told_with explanation_of
@@ -153,7 +153,7 @@ module _ (h : Head) (w : Bounded h) (b : Cells) (i : ℕ) where
       cause = c t;
       rule = applied t;
       filled = outcome t;
-      line = line-told t;
+      line = line_told t;
       found = (f ∙ ap (λ (r : Rule). found_of r h b.slots b.holidays i) applied) t;
       span = span t;
       shares =

@@ -148,4 +148,5 @@ module _ (f : Content) (w : WellFormed f) where
   tables_back =
       let end : length (file_of f) - 32 ≡ length (tables_of f) =
       omega (arith, length-append (tables_of f) (row (trailer_row (figures_of f))), length_row (trailer_row (figures_of f))) in
-      ap (λ v. part_of v (file_of f)) accepted ∙ take_at (tables_of f) (row (trailer_row (figures_of f))) (length (file_of f) - 32) (sym end)
+      ap (λ v. part_of v (file_of f)) accepted ∙ take_at (tables_of f) (row (trailer_row (figures_of f))) (length (file_of f) - 32)
+      (sym end)

@@ -9,7 +9,8 @@ use Rattle.base.proofs.Sums.{sum_cong, any_cong, all_at, at_all}
 use Rattle.rules.specs.declared.Quality.{Quality}
 use Rattle.rules.specs.declared.Quality.TheVariants.{S, N}
 use Rattle.file.specs.declared.slots.SlotRecord.{SlotRecord}
-use Rattle.file.specs.Reader.{Tables, of_quality, scaled, unscaled, record_ok, count_of, start_of, slots_of, has, span_ok, state_ok, lies_in}
+use Rattle.file.specs.Reader.{Tables, of_quality, scaled, unscaled, record_ok, count_of, start_of, slots_of, has, span_ok, state_ok}
+use Rattle.file.specs.Reader.{lies_in}
 use Rattle.file.specs.Reader.{outside_ok, table_tests}
 use Rattle.file.proofs.Inside.{ends}
 
@@ -35,35 +36,35 @@ module _ (T U : Tables) (e : Agree T U) where
   sum_agree = rw (e.per_day, e.days) (values_agree 0 n (omega arith))
 
   module _ (j : ℕ) (l : j < U.spans) where
-    start-agree : start_of T j ≡ start_of U j
-    start-agree = rw (e.span j l, e.per_day)
+    start_agree : start_of T j ≡ start_of U j
+    start_agree = rw (e.span j l, e.per_day)
 
-    slots-agree : slots_of T j ≡ slots_of U j
-    slots-agree = rw (e.span j l, e.per_day)
+    slots_agree : slots_of T j ≡ slots_of U j
+    slots_agree = rw (e.span j l, e.per_day)
 
     pub span_agree : span_ok T j ≡ span_ok U j
     unfolding span_ok
     span_agree = rw (e.span j l, e.span (j - 1) (omega arith), e.days)
 
     module _ (ok : span_ok U j ≡ true) where
-      has-agree : (p : SlotRecord → Bool) → has T p j ≡ has U p j
-      has-agree p =
-          rw (start-agree, slots-agree) (any_cong _ _ (start_of U j) (slots_of U j) (λ i _ m. ap p (e.slot i (omega (arith, ends U j ok)))))
+      has_agree : (p : SlotRecord → Bool) → has T p j ≡ has U p j
+      has_agree p =
+          rw (start_agree, slots_agree) (any_cong _ _ (start_of U j) (slots_of U j) (λ i _ m. ap p (e.slot i (omega (arith, ends U j ok)))))
 
-      value-agree : sum (λ i. (T.slot i).value) (start_of T j) (slots_of T j) ≡ sum (λ i. (U.slot i).value) (start_of U j) (slots_of U j)
-      value-agree = rw (start-agree, slots-agree) (values_agree (start_of U j) (slots_of U j) (ends U j ok))
+      value_agree : sum (λ i. (T.slot i).value) (start_of T j) (slots_of T j) ≡ sum (λ i. (U.slot i).value) (start_of U j) (slots_of U j)
+      value_agree = rw (start_agree, slots_agree) (values_agree (start_of U j) (slots_of U j) (ends U j ok))
 
-      pub state-agree : state_ok T j ≡ state_ok U j
+      pub state_agree : state_ok T j ≡ state_ok U j
       unfolding state_ok
-      state-agree = rw (has-agree (of_quality N), has-agree scaled, has-agree unscaled, has-agree (of_quality S), value-agree, e.span j l)
+      state_agree = rw (has_agree (of_quality N), has_agree scaled, has_agree unscaled, has_agree (of_quality S), value_agree, e.span j l)
 
   module _ (ok : every (table_tests U) ≡ true) where
     each_span_lem : (j : ℕ) → j < U.spans → span_ok U j ≡ true
     each_span_lem j l = all_at _ U.spans (passed (table_tests U) ok 1) j l
 
-    outside-agree : (i : ℕ) → i < n → outside_ok T i ≡ outside_ok U i
+    outside_agree : (i : ℕ) → i < n → outside_ok T i ≡ outside_ok U i
     unfolding outside_ok
-    outside-agree i l =
+    outside_agree i l =
         let same : any (lies_in T i) 0 U.spans ≡ any (lies_in U i) 0 U.spans =
         any_cong _ _ 0 U.spans (λ j _ m. rw (e.span j (omega arith), e.per_day)) in
         rw (e.slot i l, e.spans, same)
@@ -78,8 +79,8 @@ module _ (T U : Tables) (e : Agree T U) where
         subst (λ (k : ℕ). all (span_ok T) 0 k ≡ true) (sym e.spans) (at_all _ U.spans (λ j l. span_agree j l ∙ each_span_lem j l)) in
         let states : all (state_ok T) 0 T.spans ≡ true =
         subst (λ (k : ℕ). all (state_ok T) 0 k ≡ true) (sym e.spans)
-        (at_all _ U.spans (λ j l. state-agree j l (each_span_lem j l) ∙ all_at _ U.spans (passed (table_tests U) ok 2) j l)) in
+        (at_all _ U.spans (λ j l. state_agree j l (each_span_lem j l) ∙ all_at _ U.spans (passed (table_tests U) ok 2) j l)) in
         let outside : all (outside_ok T) 0 (T.per_day * T.days) ≡ true =
         subst (λ (k : ℕ). all (outside_ok T) 0 k ≡ true) whole
-        (at_all _ n (λ i l. outside-agree i l ∙ all_at _ n (passed (table_tests U) ok 3) i l)) in
+        (at_all _ n (λ i l. outside_agree i l ∙ all_at _ n (passed (table_tests U) ok 3) i l)) in
         rw (records, spans, states, outside)

@@ -204,7 +204,8 @@ module _ (bs : List ℕ) (b : Bytes bs) (p : Passed bs (figures bs)) where
   part_same =
       let slots : up_to (λ i. outcome_of (slot_at (take t bs) i)) 0 n ≡ up_to (λ i. outcome_of (slot_at bs i)) 0 n =
       up_to_cong _ _ 0 n (λ i l. ap outcome_of (slot_same i (omega arith))) in
-      let spans : up_to (λ j. span_of_record (span_at r (take t bs) (6 * n) j)) 0 m ≡ up_to (λ j. span_of_record (span_at r bs (6 * n) j)) 0 m =
+      let spans : up_to (λ j. span_of_record (span_at r (take t bs) (6 * n) j)) 0 m ≡ up_to (λ j. span_of_record (span_at r bs (6 * n) j)) 0
+      m =
       up_to_cong _ _ 0 m (λ j l. ap span_of_record (span_same j (omega arith))) in
       λ k. record { layout = g.layout; first = g.first; days = g.days; interval = g.interval; slots = slots k; spans = spans k }
 

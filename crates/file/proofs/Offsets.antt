@@ -14,7 +14,12 @@ module _ (bs : List ℕ) where
   first_at : (k at : ℕ) → num k bs (at + 0) ≡ num k bs at
   first_at k at = ap (num k bs) (add-zero at)
 
-  pub slot_at_lem : (i : ℕ) → slot_at bs i ≡ record { value = num 4 bs (6 * i); letter = get_or bs (6 * i + 4) 0; method = get_or bs (6 * i + 5) 0 }
+  pub slot_at_lem : (i : ℕ) → slot_at bs i ≡ record {
+    value = num 4 bs (6 * i);
+    letter = get_or bs (6 * i + 4) 0;
+    method = get_or bs
+        (6 * i + 5) 0;
+  }
   unfolding slot_at
   slot_at_lem i =
       λ k. record { value = first_at 4 (6 * i) k; letter = num_one bs (6 * i + 4) k; method = num_one bs (6 * i + 5) k }

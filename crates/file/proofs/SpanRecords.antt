@@ -80,7 +80,8 @@ module _ (bs : List ℕ) (p : ℕ) where
       ap (λ (x : ℕ). row (fields_of (span_widths false) (f 0 ∷ f 1 ∷ f 2 ∷ f 3 ∷ x ∷ []))) (sym z) ∙ row_reads bs b (span_widths false) p l
   span_written b true l z =
       let f = field_at (span_widths true) bs p in
-      ap (λ (x : ℕ). row (fields_of (span_widths true) (f 0 ∷ f 1 ∷ f 2 ∷ f 3 ∷ f 4 ∷ x ∷ []))) (sym z) ∙ row_reads bs b (span_widths true) p l
+      ap (λ (x : ℕ). row (fields_of (span_widths true) (f 0 ∷ f 1 ∷ f 2 ∷ f 3 ∷ f 4 ∷ x ∷ []))) (sym z) ∙ row_reads bs b (span_widths true)
+      p l
 
 -- record j of a file that is not refused with 8 lies in the file
 pub record_in : (bs : List ℕ) (g : Figures) → Ready bs g → (r : Bool) → ranged g.layout ≡ r → (j : ℕ) → j < g.spans

@@ -1,5 +1,6 @@
 -- What the reader answers (01, The published file: 'It accepts exactly'; Numbers of a refusal, 8 and 9).
-use Rattle.std.specs.Prelude.{Bool, true, false, not, ◌&&◌, ◌||◌, List, [], ◌∷◌, ℕ, zero, suc, ◌+◌, ◌-◌, ◌*◌, ◌/◌, leb, ltb, eqb, length, get_or, take}
+use Rattle.std.specs.Prelude.{Bool, true, false, not, ◌&&◌, ◌||◌, List, [], ◌∷◌, ℕ, zero, suc, ◌+◌, ◌-◌, ◌*◌, ◌/◌, leb, ltb, eqb, length}
+use Rattle.std.specs.Prelude.{get_or, take}
 use Rattle.base.specs.Numbers.{eight_digits}
 use Rattle.calendar.specs.Calendar.{day_count}
 use Rattle.rules.specs.Numbers.{day_minutes, most_days}

@@ -76,10 +76,10 @@ stored_capped d n t fits =
 -- where the buffer reaches far enough, all of it stands there
 pub stored_all : (s d : List ℕ) → length s ≤ length d → stored d 0 s ≡ s ++ drop (length s) d
 unfolding stored
-stored_all s d l = sets-eq s d 0 (omega arith) ∙ rw zero-plus
+stored_all s d l = sets-eq s d 0 (omega arith) ∙ rw zero_plus
   where
-    zero-plus : 0 + length s ≡ length s
-    zero-plus = omega arith
+    zero_plus : 0 + length s ≡ length s
+    zero_plus = omega arith
 
 -- ---- Texts one behind another
 
@@ -118,7 +118,8 @@ text_more d out next text at i l e n =
     let size : length (take i text) ≡ i = length-take-le i text (omega arith) in
     n ∙ ap (λ (x : List ℕ). set x (at + i) (get_or text i 0)) e
     ∙ sym (rw (add-one i, take-suc text i 0 l)
-    (stored_append (take i text) (get_or text i 0 ∷ []) d at ∙ ap (λ (k : ℕ). set (stored d at (take i text)) (at + k) (get_or text i 0)) size))
+    (stored_append (take i text) (get_or text i 0 ∷ []) d at ∙ ap (λ (k : ℕ). set (stored d at (take i text)) (at + k) (get_or text i 0))
+    size))
 
 pub digits_less : (whole out next : List ℕ) (at j rest : ℕ) → 0 < j → stored out at (digits j rest) ≡ whole
     → next ≡ set out (at + (j - 1)) (48 + rest % 10)

@@ -77,14 +77,14 @@ room_for n room l =
 
 module _ (bs : List ℕ) (g : Figures) (e : read_file bs ≡ verdict.Accepted g) where
   module _ (t : Texts) (codes : Codes) (out : List ℕ) where
-    pub refused-14 : identifier_ok t.identifier ≡ false → (Refused 14 ≡ export_answer bs t codes out) × (out ≡ export_after bs t codes out)
+    pub refused_14 : identifier_ok t.identifier ≡ false → (Refused 14 ≡ export_answer bs t codes out) × (out ≡ export_after bs t codes out)
     unfolding export_after export_answer
-    refused-14 p = rw (e, p) (refl, refl)
+    refused_14 p = rw (e, p) (refl, refl)
 
     module _ (identifier : identifier_ok t.identifier ≡ true) where
-      pub refused-15 : supplied_ok t codes ≡ false → (Refused 15 ≡ export_answer bs t codes out) × (out ≡ export_after bs t codes out)
+      pub refused_15 : supplied_ok t codes ≡ false → (Refused 15 ≡ export_answer bs t codes out) × (out ≡ export_after bs t codes out)
       unfolding export_after export_answer
-      refused-15 p = rw (e, identifier, p) (refl, refl)
+      refused_15 p = rw (e, identifier, p) (refl, refl)
 
       module _ (supplied : supplied_ok t codes ≡ true) where
         long : length (export_of t (content_of codes bs)) ≡ length (body_of t (content_of codes bs)) + 5
@@ -102,7 +102,8 @@ module _ (bs : List ℕ) (g : Figures) (e : read_file bs ≡ verdict.Accepted g)
         unfolding export_after export_answer
         exported after r p added =
             let x : List ℕ = export_of t (content_of codes bs) in
-            let fits : length x ≤ length out = omega (arith, long, leb-true (length (body_of t (content_of codes bs)) + 5) (length out) p) in
+            let fits : length x ≤ length out = omega (arith, long, leb-true (length (body_of t (content_of codes bs)) + 5) (length out) p)
+            in
             let small : 0 + length x < 2 ^ 64 = omega (arith, fits, added.fits) in
             let plain : 0 + length x ≡ length x = omega arith in
             let size : r ≡ length x = added.next ∙ capped_low (0 + length x) small ∙ plain in

@@ -11,7 +11,7 @@ use Rattle.base.proofs.Sums.{all_at}
 use Rattle.market.specs.declared.marks.Mark.{Mark}
 use Rattle.market.specs.Fields.{joined, varies, alike, one_mark}
 use Rattle.market.specs.Records.{record300, record900, runs, day_records}
-use Rattle.market.proofs.Joining.{day-alike, day-varies, day_within, start_none}
+use Rattle.market.proofs.Joining.{day_alike, day_varies, day_within, start_none}
 use Rattle.market.proofs.Splits.{Plainly, alike_same, joined_front, Told300, split_300}
 use Rattle.market.proofs.RunSplits.{AlikeFrom, runs_split}
 
@@ -43,39 +43,39 @@ module _
     (r r' : List ℕ)
     (e : day_records reason created day v mark a n ++ r ≡ day_records reason created day' w other a n ++ r')
   where
-    told-300 : (m m' : Mark) → Plainly m → Plainly m' → (s s' : List ℕ)
+    told_300 : (m m' : Mark) → Plainly m → Plainly m' → (s s' : List ℕ)
         → record300 reason created day v a n m ++ s ≡ record300 reason created day' w a n m' ++ s' → Told300 day day' v w a n m m' s s'
-    told-300 m m' o o' s s' x = split_300 reason created day day' l l' v w a n p.value q.value m m' o o' s s' x
+    told_300 m m' o o' s s' x = split_300 reason created day day' l l' v w a n p.value q.value m m' o o' s s' x
 
     first_plain : Plainly (mark a)
     first_plain = p.plain a (omega arith)
 
-    other-plain : Plainly (other a)
-    other-plain = q.plain a (omega arith)
+    other_plain : Plainly (other a)
+    other_plain = q.plain a (omega arith)
 
     -- the records of a day whose slots are alike, and of one whose slots are not
     one_left : one_mark mark a n ≡ true → record300 reason created day v a n (mark a) ++ r ≡ day_records reason created day v mark a n ++ r
-    one_left t = ap (λ (x : List ℕ). x ++ r) (day-alike mark a n reason created day v true (mark a) (sym t) refl refl)
+    one_left t = ap (λ (x : List ℕ). x ++ r) (day_alike mark a n reason created day v true (mark a) (sym t) refl refl)
 
     one_right : one_mark other a n ≡ true
         → record300 reason created day' w a n (other a) ++ r' ≡ day_records reason created day' w other a n ++ r'
-    one_right t = ap (λ (x : List ℕ). x ++ r') (day-alike other a n reason created day' w true (other a) (sym t) refl refl)
+    one_right t = ap (λ (x : List ℕ). x ++ r') (day_alike other a n reason created day' w true (other a) (sym t) refl refl)
 
     more_left : one_mark mark a n ≡ false
         → record300 reason created day v a n varies ++ (runs reason mark a n ++ r) ≡ day_records reason created day v mark a n ++ r
     more_left t =
         sym (append_assoc (record300 reason created day v a n varies) (runs reason mark a n) r)
-        ∙ ap (λ (x : List ℕ). x ++ r) (day-varies mark a n reason created day v false varies (sym t) refl refl)
+        ∙ ap (λ (x : List ℕ). x ++ r) (day_varies mark a n reason created day v false varies (sym t) refl refl)
 
-    more-right : one_mark other a n ≡ false
+    more_right : one_mark other a n ≡ false
         → record300 reason created day' w a n varies ++ (runs reason other a n ++ r') ≡ day_records reason created day' w other a n ++ r'
-    more-right t =
+    more_right t =
         sym (append_assoc (record300 reason created day' w a n varies) (runs reason other a n) r')
-        ∙ ap (λ (x : List ℕ). x ++ r') (day-varies other a n reason created day' w false varies (sym t) refl refl)
+        ∙ ap (λ (x : List ℕ). x ++ r') (day_varies other a n reason created day' w false varies (sym t) refl refl)
 
     both_one : one_mark mark a n ≡ true → one_mark other a n ≡ true → ToldDay day day' v w mark other a n r r'
     both_one t u =
-        let told = told-300 (mark a) (other a) first_plain other-plain r r' (one_left t ∙ e ∙ sym (one_right u)) in
+        let told = told_300 (mark a) (other a) first_plain other_plain r r' (one_left t ∙ e ∙ sym (one_right u)) in
         record {
           day_same = told.day_same;
           values = told.values;
@@ -87,11 +87,11 @@ module _
           rest = told.rest;
         }
 
-    both-vary : one_mark mark a n ≡ false → one_mark other a n ≡ false → ToldDay day day' v w mark other a n r r'
+    both_vary : one_mark mark a n ≡ false → one_mark other a n ≡ false → ToldDay day day' v w mark other a n r r'
     unfolding runs
-    both-vary t u =
-        let told = told-300 varies varies plain_varies plain_varies (runs reason mark a n ++ r) (runs reason other a n ++ r')
-        (more_left t ∙ e ∙ sym (more-right u)) in
+    both_vary t u =
+        let told = told_300 varies varies plain_varies plain_varies (runs reason mark a n ++ r) (runs reason other a n ++ r')
+        (more_left t ∙ e ∙ sym (more_right u)) in
         let tail : AlikeFrom mark other a n r r' 0 =
         runs_split reason mark other a n few (λ j k. p.plain (a + j) (omega arith)) (λ j k. q.plain (a + j) (omega arith)) n 0
         (omega arith)
@@ -105,25 +105,25 @@ module _
           rest = tail.1;
         }
 
-    pub day-split : ToldDay day day' v w mark other a n r r'
-    day-split =
+    pub day_split : ToldDay day day' v w mark other a n r r'
+    day_split =
         ⊎_elim
         (λ t.
         ⊎_elim (λ u. both_one t u)
         (λ u.
         absurd (p.letter a (omega arith)
         (ap (λ (m : Mark). m.letter)
-        (told-300 (mark a) varies first_plain plain_varies r (runs reason other a n ++ r')
-        (one_left t ∙ e ∙ sym (more-right u))).mark_same)))
+        (told_300 (mark a) varies first_plain plain_varies r (runs reason other a n ++ r')
+        (one_left t ∙ e ∙ sym (more_right u))).mark_same)))
         (either (one_mark other a n)))
         (λ t.
         ⊎_elim
         (λ u.
         absurd (q.letter a (omega arith)
         (ap (λ (m : Mark). m.letter)
-        (sym (told-300 varies (other a) plain_varies other-plain (runs reason mark a n ++ r) r'
+        (sym (told_300 varies (other a) plain_varies other_plain (runs reason mark a n ++ r) r'
         (more_left t ∙ e ∙ sym (one_right u))).mark_same))))
-        (λ u. both-vary t u)
+        (λ u. both_vary t u)
         (either (one_mark other a n)))
         (either (one_mark mark a n))
 
@@ -154,32 +154,32 @@ module _
     (reason created : List ℕ) (first first' : ℕ) (v w : ℕ → ℕ) (mark other : ℕ → Mark) (n D D' : ℕ) (few : n ≤ 288) (some : 1 ≤ n)
     (p : Slots v mark (n * D)) (q : Slots w other (n * D')) (dates : first + D ≤ 36525) (dates' : first' + D' ≤ 36525)
   where
-    pub days-split : (k k' a : ℕ) → a + k ≡ D → a + k' ≡ D'
+    pub days_split : (k k' a : ℕ) → a + k ≡ D → a + k' ≡ D'
         → joined (records_at reason created first v mark n) a k ++ record900
         ≡ joined (records_at reason created first' w other n) a k' ++ record900
         → (D ≡ D') × ((d : ℕ) → a ≤ d → d < D → Told first first' v w mark other n d)
-    days-split zero zero a e e' x = (omega arith, λ d l m. absurd (omega arith))
-    days-split zero (suc k') a e e' x =
+    days_split zero zero a e e' x = (omega arith, λ d l m. absurd (omega arith))
+    days_split zero (suc k') a e e' x =
         absurd (starts_300 reason created (first' + a) w other (a * n) n
         (joined (records_at reason created first' w other n) (suc a) k' ++ record900)
         (sym (days_none (records_at reason created first v mark n) a record900) ∙ x
         ∙ days_front (records_at reason created first' w other n) a k' record900))
-    days-split (suc k) zero a e e' x =
+    days_split (suc k) zero a e e' x =
         absurd (starts_300 reason created (first + a) v mark (a * n) n
         (joined (records_at reason created first v mark n) (suc a) k ++ record900)
         (sym (days_none (records_at reason created first' w other n) a record900) ∙ sym x
         ∙ days_front (records_at reason created first v mark n) a k record900))
-    days-split (suc k) (suc k') a e e' x =
+    days_split (suc k) (suc k') a e e' x =
         let here : a < D = omega arith in
         let here' : a < D' = omega arith in
         let told =
-        day-split reason created (first + a) (first' + a) (omega arith) (omega arith) v w mark other (a * n) n (n * D) (n * D') few some
+        day_split reason created (first + a) (first' + a) (omega arith) (omega arith) v w mark other (a * n) n (n * D) (n * D') few some
         (day_within n a D here) (day_within n a D' here') p q
         (joined (records_at reason created first v mark n) (suc a) k ++ record900)
         (joined (records_at reason created first' w other n) (suc a) k' ++ record900)
         (sym (days_front (records_at reason created first v mark n) a k record900) ∙ x
         ∙ days_front (records_at reason created first' w other n) a k' record900) in
-        let next = days-split k k' (suc a) (omega arith) (omega arith) told.rest in (
+        let next = days_split k k' (suc a) (omega arith) (omega arith) told.rest in (
           next.0,
           λ d l m.
               ⊎_elim (λ z. subst (Told first first' v w mark other n) z (told.day_same, λ i j h. (told.values i j h, told.marks i j h)))

@@ -32,7 +32,7 @@ use Rattle.file.proofs.Answers.{figures_are, tabled, dates_le}
 use Rattle.market.proofs.Answers.{answer_is}
 use Rattle.market.proofs.Numerals.{decimal_split}
 use Rattle.market.proofs.Splits.{Plainly}
-use Rattle.market.proofs.DaySplits.{Slots, Told, days-split}
+use Rattle.market.proofs.DaySplits.{Slots, Told, days_split}
 use Rattle.market.proofs.SameText.{content_same}
 
 -- ---- The record 200 tells L
@@ -41,7 +41,8 @@ front_parts : (a b c d e f g h x r : List ℕ)
     → (a ++ (b ++ (c ++ (d ++ (e ++ (f ++ (g ++ (h ++ x)))))))) ++ r ≡ (a ++ (b ++ (c ++ (d ++ (e ++ (f ++ (g ++ h))))))) ++ (x ++ r)
 front_parts a b c d e f g h x r = simp append_assoc
 
-split_200 : (identifier configuration register suffix stream serial next_read : List ℕ) (l m : ℕ) → l < 2 ^ 32 → m < 2 ^ 32 → (r r' : List ℕ)
+split_200 : (identifier configuration register suffix stream serial next_read : List ℕ) (l m : ℕ) → l < 2 ^ 32 → m < 2 ^ 32 →
+    (r r' : List ℕ)
     → record200 identifier configuration register suffix stream serial l next_read ++ r
     ≡ record200 identifier configuration register suffix stream serial m next_read ++ r'
     → (l ≡ m) × (r ≡ r')
@@ -111,7 +112,7 @@ content_told t c d p q e =
     let others : Slots d.value d.mark (n * d.days) =
     subst (λ (x : ℕ). Slots d.value d.mark (1440 / x * d.days)) (sym split.0) q.slots in
     let told =
-    days-split t.reason t.created c.first d.first c.value d.value c.mark d.mark n c.days d.days p.few
+    days_split t.reason t.created c.first d.first c.value d.value c.mark d.mark n c.days d.days p.few
     p.some p.slots others p.dates
     q.dates c.days d.days 0 (omega arith) (omega arith) same in
     let slot = by_slot c.first d.first c.value d.value c.mark d.mark n c.days p.some told.1 in

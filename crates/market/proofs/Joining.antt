@@ -75,14 +75,14 @@ module _ (mark : ℕ → Mark) (a n : ℕ) where
 
   module _ (reason created : List ℕ) (day : ℕ) (value : ℕ → ℕ) (one : Bool) (m : Mark) (e : one ≡ one_mark mark a n)
       (k : m ≡ day_mark one (mark a)) where
-    pub day-alike : one ≡ true → record300 reason created day value a n m ≡ day_records reason created day value mark a n
+    pub day_alike : one ≡ true → record300 reason created day value a n m ≡ day_records reason created day value mark a n
     unfolding day_records
-    day-alike t = rw (k, ← e, t) (sym (append-nil _))
+    day_alike t = rw (k, ← e, t) (sym (append-nil _))
 
-    pub day-varies : one ≡ false
+    pub day_varies : one ≡ false
         → record300 reason created day value a n m ++ runs reason mark a n ≡ day_records reason created day value mark a n
     unfolding day_records
-    day-varies t = rw (k, ← e, t)
+    day_varies t = rw (k, ← e, t)
 
 -- ---- The record 200
 

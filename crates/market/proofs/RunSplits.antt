@@ -136,8 +136,8 @@ module _
         alike_more mark other a n r r' j marks.0
         (onward (start_after mark a n j t ∙ sym (start_after other a n j u)) (append_cancel_left (fields []) rest rest' marks.1))
 
-    both-go-on : ends_run mark a n j ≡ false → ends_run other a n j ≡ false → AlikeFrom mark other a n r r' j
-    both-go-on t u =
+    both_go_on : ends_run mark a n j ≡ false → ends_run other a n j ≡ false → AlikeFrom mark other a n r r' j
+    both_go_on t u =
         let rest : List ℕ = joined (piece_at reason mark a n) (suc j) k ++ r in
         let rest' : List ℕ = joined (piece_at reason other a n) (suc j) k ++ r' in
         let texts = sym (ap (λ (x : List ℕ). x ++ rest) (piece_goes_on reason mark a n j t)) ∙ flat
@@ -155,7 +155,7 @@ module _
         (λ u. absurd (apart reason mark other a n few j k e (joined (piece_at reason mark a n) (suc j) k ++ r) r' t u flat))
         (either (ends_run other a n j)))
         (λ t. ⊎_elim (λ u. absurd
-        (apart reason other mark a n few j k e (joined (piece_at reason other a n) (suc j) k ++ r') r u t (sym flat))) (λ u. both-go-on t u)
+        (apart reason other mark a n few j k e (joined (piece_at reason other a n) (suc j) k ++ r') r u t (sym flat))) (λ u. both_go_on t u)
         (either (ends_run other a n j)))
         (either (ends_run mark a n j))
 

@@ -144,7 +144,8 @@ fn export_in(
     codes: Codes,
     out: &mut [u8],
 ) -> Exported
-    requires { let texts = lent_texts identifier.now from.now to.now configuration.now register.now suffix.now stream.now serial.now next_read.now reason.now created.now in
+    requires { let texts = lent_texts identifier.now from.now to.now configuration.now register.now suffix.now
+        stream.now serial.now next_read.now reason.now created.now in
         (read_file file.now ≡ Accepted g)
         × (identifier_ok identifier.now ≡ true)
         × (supplied_ok texts codes ≡ true) }

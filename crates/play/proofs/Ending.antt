@@ -21,7 +21,8 @@ use Rattle.book.specs.Opening.{opened, open_answer, opened_in, open_after}
 use Rattle.book.specs.Filling.{after_all}
 use Rattle.book.proofs.Soundness.{book_sound}
 use Rattle.text_log.specs.declared.line.Opening.{Opening}
-use Rattle.text_log.specs.Log.{lines, Item, items, Reading, read_open, head_with, or_built_in, with_table, with_opening, read_closed, read_log}
+use Rattle.text_log.specs.Log.{lines, Item, items, Reading, read_open, head_with, or_built_in, with_table, with_opening, read_closed}
+use Rattle.text_log.specs.Log.{read_log}
 use Rattle.text_log.specs.Log.Item.{passed, table, opening, call, neither}
 use Rattle.text_log.specs.Log.Reading.{log as log-, no_opening as no_opening_, not_a_call as not_a_call_, refused as refused-}
 use Rattle.play.specs.declared.Checked.{Checked}
@@ -135,9 +136,9 @@ module _ (bytes : List ℕ) {found : Checked} (e : found ≡ checked bytes) (h :
     new : {a : Answer} {o : Book} → a ≡ open_answer h b → is_done a ≡ true → o ≡ open_after h b → o ≡ opened h
     new f on first = first ∙ after_where_fits h b found_head ∙ rw (fits f on)
 
-    pub opened-fits : {a : Answer} {o : Book} → a ≡ open_answer h b → is_done a ≡ true → o ≡ open_after h b → book_fits h o ≡ true
+    pub opened_fits : {a : Answer} {o : Book} → a ≡ open_answer h b → is_done a ≡ true → o ≡ open_after h b → book_fits h o ≡ true
     unfolding after_all
-    opened-fits f on first = rw (new f on first) (book_sound h []).0
+    opened_fits f on first = rw (new f on first) (book_sound h []).0
 
     module _ (answers : List ℕ) where
       refuse : lengths_ok bytes h b answers ≡ false → Meant bytes b answers Lengths b answers
@@ -145,9 +146,9 @@ module _ (bytes : List ℕ) {found : Checked} (e : found ≡ checked bytes) (h :
       refuse f = record { answer = rw (both.0, f); lists = rw (both.0, f); told = rw (both.0, f) }
 
       -- not a byte for each line
-      pub few-answers : (length answers ≡ n → ⊥) → Meant bytes b answers Lengths b answers
+      pub few_answers : (length answers ≡ n → ⊥) → Meant bytes b answers Lengths b answers
       unfolding lengths_ok
-      few-answers other = refuse (fails (book_fits h b))
+      few_answers other = refuse (fails (book_fits h b))
         where
           fails : (t : Bool) → t && eqb (length answers) (length (lines bytes)) ≡ false
           fails true = rw both.1 (ne_eqb _ _ other)

@@ -18,7 +18,8 @@ use Rattle.text_log.specs.declared.line.LogLine.{LogLine}
 use Rattle.text_log.specs.declared.line.LogLine.TheVariants as line
 use Rattle.text_log.specs.declared.line.Opening.{Opening}
 use Rattle.text_log.specs.declared.lines.Cut.{Cut}
-use Rattle.text_log.specs.Log.{lines, Item, item_in, item_of, items, calls_in, Reading, read_open, head_with, or_built_in, with_table, with_opening}
+use Rattle.text_log.specs.Log.{lines, Item, item_in, item_of, items, calls_in, Reading, read_open, head_with, or_built_in, with_table}
+use Rattle.text_log.specs.Log.{with_opening}
 use Rattle.text_log.specs.Log.{read_closed, read_log}
 use Rattle.text_log.specs.Log.Item.{passed, table, opening, call, neither}
 use Rattle.text_log.specs.Log.Reading.{not_a_call, refused}
@@ -211,20 +212,20 @@ module _ {bytes t : List ℕ} {at n : ℕ} (w : Leading bytes t at n) where
     further : (s : Step) → s ≡ step_of t x → (s ≡ NotACall → ⊥) → Reached bytes r.next (n + 1) 0
     further s e other = reached_next w.reached (item_at cut) 0 (not_counted t x (λ f. other (e ∙ f)) ∙ ap count_of is)
 
-    pub leading-next : (s : Step) → s ≡ step_of t x → goes_on s ≡ true → Leading bytes (table_after t x) r.next (n + 1)
+    pub leading_next : (s : Step) → s ≡ step_of t x → goes_on s ≡ true → Leading bytes (table_after t x) r.next (n + 1)
     unfolding closed_as
-    leading-next On e g = record { reached = further On e (λ f. let z : ◌≡◌ {A = ℕ} 0 1 = cc in omega arith); read = rw add-one (by On e) }
-    leading-next (Opened h) e g = absurd (false≢true g)
-    leading-next NotACall e g = absurd (false≢true g)
-    leading-next (Refused k) e g = absurd (false≢true g)
+    leading_next On e g = record { reached = further On e (λ f. let z : ◌≡◌ {A = ℕ} 0 1 = cc in omega arith); read = rw add-one (by On e) }
+    leading_next (Opened h) e g = absurd (false≢true g)
+    leading_next NotACall e g = absurd (false≢true g)
+    leading_next (Refused k) e g = absurd (false≢true g)
 
-    pub leading-ends : (s : Step) → s ≡ step_of t x → goes_on s ≡ false → OpeningMeant bytes (opening_at s r.next (n + 1))
+    pub leading_ends : (s : Step) → s ≡ step_of t x → goes_on s ≡ false → OpeningMeant bytes (opening_at s r.next (n + 1))
     unfolding closed_as opening_at checked checked_of
-    leading-ends On e g = absurd (true≢false g)
-    leading-ends (Opened h) e g =
+    leading_ends On e g = absurd (true≢false g)
+    leading_ends (Opened h) e g =
         (further (Opened h) e (λ f. let z : ◌≡◌ {A = ℕ} 0 1 = cc in omega arith), rw add-one (by (Opened h) e))
-    leading-ends NotACall e g = rw (by NotACall e, add-one)
-    leading-ends (Refused k) e g = rw (by (Refused k) e, add-one)
+    leading_ends NotACall e g = rw (by NotACall e, add-one)
+    leading_ends (Refused k) e g = rw (by (Refused k) e, add-one)
 
   pub leading_none : length bytes ≤ at → coded.NoOpening ≡ checked bytes
   unfolding read_closed items lines checked checked_of
@@ -283,15 +284,16 @@ following_first reached = record { reached = reached; read = refl }
 
 module _ {bytes : List ℕ} {h : Head} {from before at n calls : ℕ} (w : Following bytes h from before at n calls) where
   module _ {l : LogLine} {next : ℕ} (found : FoundAt bytes at l next) where
-    pub following-next : is_outside l ≡ false → (k : ℕ) → k ≡ calls_at l → Following bytes h from before next (n + 1) (calls + k)
-    following-next e k f = record {
+    pub following_next : is_outside l ≡ false → (k : ℕ) → k ≡ calls_at l → Following bytes h from before next (n + 1) (calls + k)
+    following_next e k f = record {
       reached = reached_next w.reached found.item k (f ∙ count_line l found.limits);
       read = rw add-one (w.read ∙ rw found.item.first (open_goes_on h (suc n) (items (drop next bytes)) l found.limits e));
     }
 
-    pub following-ends : is_outside l ≡ true → coded.NotACall (n + 1) ≡ checked_of bytes (read_open h (suc before) (items (drop from bytes)))
+    pub following_ends : is_outside l ≡ true → coded.NotACall (n + 1) ≡ checked_of bytes
+        (read_open h (suc before) (items (drop from bytes)))
     unfolding checked_of
-    following-ends e =
+    following_ends e =
         let out : read_open h (suc before) (items (drop from bytes)) ≡ not_a_call (suc n) =
         w.read ∙ rw found.item.first (open_ends h (suc n) (items (drop next bytes)) l found.limits e) in
         rw (out, add-one)

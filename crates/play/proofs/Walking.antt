@@ -40,7 +40,8 @@ pub record Walked (h : Head) (bytes : List ℕ) (first : Book) (answers : List �
   pub left : after_all h b (log_calls (drop at bytes)) ≡ after_all h first (log_calls bytes)
 
 -- an item's call, if it is one, goes first
-call_first : (h : Head) (b : Book) (x : Item) (xs : List Item) → after_all h b (calls_in (x ∷ xs)) ≡ after_all h (after_item h b x) (calls_in xs)
+call_first : (h : Head) (b : Book) (x : Item) (xs : List Item) → after_all h b (calls_in (x ∷ xs)) ≡ after_all h (after_item h b x)
+    (calls_in xs)
 unfolding calls_in after_all after_item
 call_first h b passed xs = refl
 call_first h b (table t) xs = refl
@@ -54,8 +55,8 @@ module _ (h : Head) (bytes : List ℕ) (first : Book) where
 
   module _ {answers : List ℕ} {b : Book} {at i : ℕ} (w : Walked h bytes first answers b at i) where
     module _ {l : LogLine} {next : ℕ} (found : FoundAt bytes at l next) where
-      pub walk-room : i < length answers
-      walk-room = omega (arith, w.line_count, lines_first found.item)
+      pub walk_room : i < length answers
+      walk_room = omega (arith, w.line_count, lines_first found.item)
 
       pub walk_next : (code : ℕ) (b' : Book)
           → ((limits : Limits) → (code ≡ item_code h b (item_in l limits)) × (b' ≡ after_item h b (item_in l limits)))
@@ -71,14 +72,14 @@ module _ (h : Head) (bytes : List ℕ) (first : Book) where
             inside = found.item.inside;
             line_count = rw length-set (omega (arith, w.line_count, lines_first found.item));
             told =
-                rw (add-one, take-suc-set answers i code walk-room, append_assoc, lists, code_is)
+                rw (add-one, take-suc-set answers i code walk_room, append_assoc, lists, code_is)
                 (ap (λ (xs : List Item). take i answers ++ codes h b xs) (sym cut) ∙ w.told);
             left = rw lists (sym (call_first h b x rest) ∙ ap (λ (xs : List Item). after_all h b (calls_in xs)) (sym cut) ∙ w.left);
           }
 
-    pub walk-last : length bytes ≤ at → (answers ≡ codes h first (items bytes)) × (b ≡ after_all h first (log_calls bytes))
+    pub walk_last : length bytes ≤ at → (answers ≡ codes h first (items bytes)) × (b ≡ after_all h first (log_calls bytes))
     unfolding items lines codes calls_in after_all
-    walk-last over =
+    walk_last over =
         let none = none_left bytes at w.inside over in
         let e : length answers ≡ i = sym w.line_count ∙ rw none (omega arith) in
         let all : take i answers ++ [] ≡ answers = append-nil (take i answers) ∙ rw (← e) (take-length answers) in

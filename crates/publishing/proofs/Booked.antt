@@ -22,8 +22,8 @@ use Rattle.rules.proofs.Qualities.{Form}
 use Rattle.rules.proofs.Qualities.Filled.{delivered, agreed, outage, linear, same_day, nothing}
 use Rattle.rules.proofs.Qualities.Form.{unscaled, scaled_linear, scaled_same_day}
 use Rattle.rules.proofs.Neighbours.{Neighbours, each_span_lem, side_by_side}
-use Rattle.rules.proofs.Outcomes.{outcome-form, scaled_inside}
-use Rattle.rules.proofs.States.{state_low, range_ordered, range_low, open_exactly, scaled_exactly, scaled-whole, scaled-within, agreed_no_s}
+use Rattle.rules.proofs.Outcomes.{outcome_form, scaled_inside}
+use Rattle.rules.proofs.States.{state_low, range_ordered, range_low, open_exactly, scaled_exactly, scaled_whole, scaled_within, agreed_no_s}
 use Rattle.file.specs.Reader.{Tables, of_quality, scaled, unscaled as is_unscaled, start_of, slots_of, has, record_ok, in_range, state_rule}
 use Rattle.file.specs.Reader.{span_ok, state_ok, outside_ok, table_tests}
 use Rattle.file.specs.Contents.{slot_record, span_record}
@@ -51,7 +51,8 @@ same_own true = refl
 same_own false = refl
 
 -- the rule of a span's state, from what a book says of it
-rule_ok : (state : ℕ) (has_n has_scaled has_unscaled has_s : Bool) (lowest values highest : ℕ) → eqb state 2 ≡ has_n → eqb state 1 ≡ has_scaled
+rule_ok : (state : ℕ) (has_n has_scaled has_unscaled has_s : Bool) (lowest values highest : ℕ) → eqb state 2 ≡ has_n → eqb state 1 ≡
+    has_scaled
     → (state ≡ 1 → has_unscaled ≡ false) → (state ≡ 1 → (lowest ≤ values) × (values ≤ highest)) → (state ≡ 0 → has_s ≡ false)
     → every (state_rule state has_n has_scaled has_unscaled has_s (in_range lowest values highest)) ≡ true
 rule_ok state has_n has_scaled has_unscaled has_s lowest values highest n s u v a =
@@ -87,20 +88,20 @@ module _ (h : Head) (bounds : Bounded h) (b : Cells) (narrow : WidthsLow b.width
     here : Neighbours h b s
     here = each_span_lem h b j l
 
-    state-fits : s.state ≤ 3
+    state_fits : s.state ≤ 3
     unfolding span_of
-    state-fits = rw (ap (λ (x : Span). x.state) here.figures) (state_low h b s.first s.last)
+    state_fits = rw (ap (λ (x : Span). x.state) here.figures) (state_low h b s.first s.last)
 
-    span-ok : span_ok t j ≡ true
+    span_ok_lem : span_ok t j ≡ true
     unfolding span_ok
-    span-ok =
+    span_ok_lem =
         rw (
           lt-ltb _ _ here.ordered,
           le-leb _ _ here.within,
           follows j l,
           le-leb _ _ (range_ordered h bounds b s here),
           le-leb _ _ (range_low h bounds b s here narrow),
-          le-leb _ _ state-fits,
+          le-leb _ _ state_fits,
         )
       where
         -- each begins where the one before ended
@@ -111,28 +112,28 @@ module _ (h : Head) (bounds : Bounded h) (b : Cells) (narrow : WidthsLow b.width
             let e : suc k - 1 ≡ k = omega arith in
             rw (e, eq-eqb _ _ (side_by_side h b k m), or-true)
 
-    has-is : (q : Quality) (p : Quality → Bool) → Tests q p
+    has_is : (q : Quality) (p : Quality → Bool) → Tests q p
         → has t (of_quality q) j
         ≡ any (λ i. p (outcome_at h b i).quality) (start h b s.first s.last) (slots_in h b s.first s.last)
     unfolding start slots_in
-    has-is q p tests = any_cong _ _ _ _ (λ i _ _. tests.same (outcome_at h b i).quality)
+    has_is q p tests = any_cong _ _ _ _ (λ i _ _. tests.same (outcome_at h b i).quality)
 
-    state-ok : state_ok t j ≡ true
+    state_ok_lem : state_ok t j ≡ true
     unfolding state_ok start slots_in
-    state-ok =
+    state_ok_lem =
         rule_ok s.state (has t (of_quality N) j) (has t scaled j) (has t is_unscaled j) (has t (of_quality S) j)
         s.lowest (sum (λ i. (outcome_at h b i).value) (start_of t j) (slots_of t j)) s.highest
-        (open_exactly h bounds b s here ∙ sym (has-is N is_n tests_n))
+        (open_exactly h bounds b s here ∙ sym (has_is N is_n tests_n))
         (scaled_exactly h bounds b s here)
         (λ z.
         any_cong _ _ _ _ (λ i _ _. ap (λ (q : Bool). q && not (is_scaled (outcome_at h b i).method))
         (tests_s.same (outcome_at h b i).quality))
-        ∙ scaled-whole h bounds b s here z)
-        (scaled-within h bounds b s here)
-        (λ z. has-is S is_s tests_s ∙ agreed_no_s h bounds b s here z)
+        ∙ scaled_whole h bounds b s here z)
+        (scaled_within h bounds b s here)
+        (λ z. has_is S is_s tests_s ∙ agreed_no_s h bounds b s here z)
 
   spans_ok_lem : all (span_ok t) 0 (length (spans h b)) ≡ true
-  spans_ok_lem = at_all (span_ok t) (length (spans h b)) span-ok
+  spans_ok_lem = at_all (span_ok t) (length (spans h b)) span_ok_lem
 
   outside_ok_lem : (i : ℕ) → outside_ok t i ≡ true
   outside_ok_lem i =
@@ -143,8 +144,9 @@ module _ (h : Head) (bounds : Bounded h) (b : Cells) (narrow : WidthsLow b.width
   pub book_ok_lem : AgreedLow b.agreed → every (table_tests t) ≡ true
   book_ok_lem low =
       rw (
-        at_all (λ i. record_ok (slot_record (outcome_at h b i))) (slots_per_day h * h.days) (λ i _. form_ok (outcome-form h bounds b low i)),
+        at_all (λ i. record_ok (slot_record (outcome_at h b i))) (slots_per_day h * h.days)
+            (λ i _. form_ok (outcome_form h bounds b low i)),
         spans_ok_lem,
-        at_all (state_ok t) (length (spans h b)) state-ok,
+        at_all (state_ok t) (length (spans h b)) state_ok_lem,
         at_all (outside_ok t) (slots_per_day h * h.days) (λ i _. outside_ok_lem i),
       )

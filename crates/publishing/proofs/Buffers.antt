@@ -134,7 +134,8 @@ module _ (h : Head) (b : Cells) where
 
   -- the trailer behind both tables ends the file
   file_written : (w : Bounded h) (d : List ℕ) → file_length h b ≤ length d
-      → written (buffer_at h b d (slot_count h)) (6 * slot_count h + 14 * length (spans h b)) (row (trailer_row (figures_of (published h b))))
+      → written (buffer_at h b d (slot_count h)) (6 * slot_count h + 14 * length (spans h b))
+      (row (trailer_row (figures_of (published h b))))
       ≡ file_of (published h b) ++ drop (file_length h b) d
   unfolding buffer_at buffer_of file_of tables_of file_length published outcomes
   file_written w d k =
@@ -155,5 +156,6 @@ module _ (h : Head) (b : Cells) where
 
   pub file_put : (w : Bounded h) (d d₁ d₂ : List ℕ) (place : ℕ) (g : Figures) → file_length h b ≤ length d
       → d₁ ≡ buffer_at h b d (slot_count h) → place ≡ 6 * slot_count h + 14 * length (spans h b)
-      → g ≡ figures_of (published h b) → d₂ ≡ written d₁ place (row (trailer_row g)) → d₂ ≡ file_of (published h b) ++ drop (file_length h b) d
+      → g ≡ figures_of (published h b) → d₂ ≡ written d₁ place (row (trailer_row g)) → d₂ ≡ file_of (published h b) ++ drop
+      (file_length h b) d
   file_put w d d₁ d₂ place g k x y z e = e ∙ (rw (x, y, z) (file_written w d k))

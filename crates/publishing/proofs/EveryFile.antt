@@ -19,7 +19,7 @@ use Rattle.rules.specs.Spans.{start, slots_in}
 use Rattle.rules.proofs.Bounds.{bounded}
 use Rattle.rules.proofs.Neighbours.{Neighbours, each_span_lem}
 use Rattle.rules.proofs.Places.{span_end}
-use Rattle.rules.proofs.States.{scaled-sum, scaled-within}
+use Rattle.rules.proofs.States.{scaled_sum, scaled_within}
 use Rattle.book.specs.Cells.{Book, cells_ok, book_fits, book_ok}
 use Rattle.book.proofs.Fits.{fits_of}
 use Rattle.file.specs.Layout.{file_of}
@@ -31,7 +31,7 @@ use Rattle.publishing.specs.declared.Published.TheVariants.{Length, Refused}
 use Rattle.publishing.specs.Publishing.{published, file_length, publish_rules, publish_answer, bytes_after, publish_after}
 use Rattle.publishing.specs.Claim.{SumsToR, EveryFile}
 use Rattle.publishing.specs.Inner.Publishing.{Sound}
-use Rattle.publishing.proofs.Files.{slots_own, slot_own, well_formed, published-accepted}
+use Rattle.publishing.proofs.Files.{slots_own, slot_own, well_formed, published_accepted}
 
 -- what is published soundly: a good head, lists that fit, and cells that calls could leave
 pub sound_book : (h : Head) (b : Book) → head_ok h ≡ true → book_fits h b ≡ true → book_ok h b ≡ true → Sound h b.cells
@@ -75,8 +75,8 @@ module _ (h : Head) (ok : head_ok h ≡ true) (b : Cells) (s : Span) (n : Neighb
 
   sums_to_r : SumsToR h b (published h b) s
   sums_to_r =
-      let total = scaled-sum h (bounded h ok) b s n one in
-      let (low, high) = scaled-within h (bounded h ok) b s n one in
+      let total = scaled_sum h (bounded h ok) b s n one in
+      let (low, high) = scaled_within h (bounded h ok) b s n one in
       record {
         sums = sum_cong _ _ _ _ (λ i l m. ap (λ (o : Outcome). o.value) (slot_own h b i (inside i m))) ∙ total;
         lowest = omega (arith, total);
@@ -86,7 +86,7 @@ module _ (h : Head) (ok : head_ok h ≡ true) (b : Cells) (s : Span) (n : Neighb
 pub every_file : EveryFile
 every_file h b out n e =
     let s = sound h b out n e in
-    let (accepts, tables) = published-accepted h b.cells s in
+    let (accepts, tables) = published_accepted h b.cells s in
     let neighbours : (j : ℕ) → j < length (published h b.cells).spans → Neighbours h b.cells (span (published h b.cells) j) =
     unfold published in each_span_lem h b.cells in
     rw (file_left h b out n e) (record {

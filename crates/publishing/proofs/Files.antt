@@ -44,16 +44,16 @@ module _ (h : Head) (b : Cells) where
     ok : head_ok h ≡ true
     ok = s.head
 
-    head-own : every (head_field_tests (first_day h) h.days h.interval) ≡ true
+    head_own : every (head_field_tests (first_day h) h.days h.interval) ≡ true
     unfolding head_ok
-    head-own =
+    head_own =
         let days = passed (head_tests h) ok 1 in
         rw (passed (head_tests h) ok 0, passed (day_tests h) days 1, passed (day_tests h) days 2, passed (day_tests h) days 3)
 
     pub well_formed : WellFormed (published h b)
     unfolding published slot_count slots_per_day
     well_formed = record {
-      head = head-own;
+      head = head_own;
       slots = slots_own;
       values =
           λ i l. rw (slot_own i (rw slots_own at l))
@@ -66,14 +66,14 @@ module _ (h : Head) (b : Cells) where
       exact = λ e. absurd (false≢true (sym e));
     }
 
-    pub published-fits : Fitting (published h b)
-    published-fits = fitting (published h b) well_formed
+    pub published_fits : Fitting (published h b)
+    published_fits = fitting (published h b) well_formed
 
     -- the reader accepts it, with its figures and its tables
-    pub published-accepted : (read_file (file_of (published h b)) ≡ Accepted (figures_of (published h b)))
+    pub published_accepted : (read_file (file_of (published h b)) ≡ Accepted (figures_of (published h b)))
         × (tables_part (file_of (published h b)) ≡ tables_of (published h b))
-    published-accepted = (accepted (published h b) well_formed, tables_back (published h b) well_formed)
+    published_accepted = (accepted (published h b) well_formed, tables_back (published h b) well_formed)
 
 pub files_equal : (h g : Head) (b c : Cells) → Sound h b → Sound g c
     → (file_of (published h b) ≡ file_of (published g c)) ↔ (published h b ≡ published g c)
-files_equal h g b c p q = (injective (published h b) (published g c) (published-fits h b p) (published-fits g c q), ap file_of)
+files_equal h g b c p q = (injective (published h b) (published g c) (published_fits h b p) (published_fits g c q), ap file_of)

@@ -24,9 +24,9 @@ use Rattle.rules.specs.Inner.Walks.{zero_at, zero_before, line_at, line_before, 
 use Rattle.rules.specs.Inner.Stretches.{stretch_at, carried_at, begins_at, fit_outcome, fit_next}
 use Rattle.rules.specs.Inner.Passes.{pass_at, list_of, begun_before}
 use Rattle.rules.proofs.Bounds.{Bounded}
-use Rattle.rules.proofs.SpansInOrder.{begun-room}
+use Rattle.rules.proofs.SpansInOrder.{begun_room}
 use Rattle.rules.proofs.Directs.{direct_filled, direct_shape}
-use Rattle.rules.proofs.Steps.{step-outcome, step-carried, fit_until}
+use Rattle.rules.proofs.Steps.{step_outcome, step_carried, fit_until}
 use Rattle.rules.proofs.Stretches.{carried_on}
 use Rattle.file.specs.Layout.{row, table, slot_row, span_row}
 use Rattle.file.specs.Inner.Writing.{written}
@@ -61,7 +61,7 @@ module _ (h : Head) (w : Bounded h) (b : Cells) where
   pub begun_low : (i : ℕ) → i < slot_count h → length (begun_before h b (i + 1)) ≤ length (spans h b)
   begun_low i l =
       let e = ap length (begun_next h b i) ∙ length-append (begun_before h b i) (list_of (begins_at h b i)) in
-      omega (arith, e, begun-room h b w i l)
+      omega (arith, e, begun_room h b w i l)
 
   -- the record of slot i in a buffer that holds those before it
   slot_more : (d : List ℕ) (i k : ℕ) → i < slot_count h → 6 * slot_count h + 14 * length (begun_before h b k) ≤ length d
@@ -79,16 +79,16 @@ module _ (h : Head) (w : Bounded h) (b : Cells) (d₀ : List ℕ) (from until : 
       (slot : Outcome) (x : ℕ) (filled : slot ≡ filled_at h b.slots b.agreed b.holidays i)
       (shaped : x ≡ shape_at h b.slots b.agreed b.holidays i) where
     outcome : fit_outcome slot x here ≡ outcome_at h b i
-    outcome = step-outcome h w b i slot x here (held.stretch inside) filled shaped
+    outcome = step_outcome h w b i slot x here (held.stretch inside) filled shaped
 
-    on-carried : fit_next slot x here ≡ carried_at h b (i + 1)
-    on-carried = step-carried h w b i slot x here (held.stretch inside) filled shaped
+    on_carried : fit_next slot x here ≡ carried_at h b (i + 1)
+    on_carried = step_carried h w b i slot x here (held.stretch inside) filled shaped
 
-    on-end : (fit_next slot x here).until ≡ until
-    on-end = fit_until slot x here ∙ held.end
+    on_end : (fit_next slot x here).until ≡ until
+    on_end = fit_until slot x here ∙ held.end
 
-    on-begun : begun_before h b (i + 1) ≡ begun_before h b (from + 1)
-    on-begun = ⊎_elim (λ e. ap (λ (k : ℕ). begun_before h b (k + 1)) (sym e)) later (eq-or-lt_of_le held.further)
+    on_begun : begun_before h b (i + 1) ≡ begun_before h b (from + 1)
+    on_begun = ⊎_elim (λ e. ap (λ (k : ℕ). begun_before h b (k + 1)) (sym e)) later (eq-or-lt_of_le held.further)
       where
         later : from < i → begun_before h b (i + 1) ≡ begun_before h b (from + 1)
         later l =
@@ -97,11 +97,11 @@ module _ (h : Head) (w : Bounded h) (b : Cells) (d₀ : List ℕ) (from until : 
             let none = (carried_on h w b i (omega arith) ends).0 in
             begun_next h b i ∙ ap (λ (g : Begins). begun_before h b i ++ list_of g) none ∙ append-nil _ ∙ held.begun l
 
-    on-stretch : i + 1 < until → fit_next slot x here ≡ stretch_at h b (i + 1)
-    on-stretch l =
+    on_stretch : i + 1 < until → fit_next slot x here ≡ stretch_at h b (i + 1)
+    on_stretch l =
         let ends : i + 1 ≡ (carried_at h b (i + 1)).until
-        → ⊥ = λ e. omega (arith, e ∙ ap (λ (r : Stretch). r.until) (sym on-carried) ∙ on-end) in
-        on-carried ∙ (carried_on h w b (i + 1) (omega arith) ends).1
+        → ⊥ = λ e. omega (arith, e ∙ ap (λ (r : Stretch). r.until) (sym on_carried) ∙ on_end) in
+        on_carried ∙ (carried_on h w b (i + 1) (omega arith) ends).1
 
     inside_on : (o' : Bool) (l' : StraightLine) (out : List ℕ) → o' ≡ zero_at b.slots.versions b.slots.statuses (slot_count h) i
         → l' ≡ line_at h b.slots b.agreed.versions i → 6 * slot_count h + 14 * length (spans h b) ≤ length d₀
@@ -116,10 +116,10 @@ module _ (h : Head) (w : Bounded h) (b : Cells) (d₀ : List ℕ) (from until : 
           inside = omega arith;
           outage = rw (add-one i) z;
           line = rw (add-one i) m;
-          end = on-end;
-          stretch = on-stretch;
-          carried = λ k. on-carried;
-          begun = λ k. on-begun;
+          end = on_end;
+          stretch = on_stretch;
+          carried = λ k. on_carried;
+          begun = λ k. on_begun;
           totals = (λ k. added_to (held.totals k) (outcome k)) ∙ sym (totals_next h b i);
           long =
               ap length e ∙ length_written d (6 * i) r (omega (arith, held.long, length_row (slot_row (fit_outcome slot x here))))
@@ -129,11 +129,12 @@ module _ (h : Head) (w : Bounded h) (b : Cells) (d₀ : List ℕ) (from until : 
               ∙ slot_more h w b y i (from + 1) (omega arith) (omega (arith, begun));
         }
 
-    pub inside-next : (o' : Bool) (l' : StraightLine) (y : Outcome) (on : Stretch) (t' : Totals) (out : List ℕ)
+    pub inside_next : (o' : Bool) (l' : StraightLine) (y : Outcome) (on : Stretch) (t' : Totals) (out : List ℕ)
         → o' ≡ zero_at b.slots.versions b.slots.statuses (slot_count h) i → l' ≡ line_at h b.slots b.agreed.versions i
-        → 6 * slot_count h + 14 * length (spans h b) ≤ length d₀ → y ≡ fit_outcome slot x here → on ≡ fit_next slot x here → t' ≡ added_to t y
+        → 6 * slot_count h + 14 * length (spans h b) ≤ length d₀ → y ≡ fit_outcome slot x here → on ≡ fit_next slot x here → t' ≡ added_to t
+        y
         → out ≡ written d (6 * i) (row (slot_row y)) → Inside h b d₀ from until o' l' on t' out (i + 1)
-    inside-next o' l' y on t' out z m room e f g u =
+    inside_next o' l' y on t' out z m room e f g u =
         rw (f, g, e) (inside_on o' l' out z m room (u ∙ (λ k. written d (6 * i) (row (slot_row (e k))))))
 
 -- a stretch leaves a direct slot as it is, and goes on as it was
@@ -231,7 +232,7 @@ module _ (h : Head) (w : Bounded h) (b : Cells) (i : ℕ) (inside : i < slot_cou
   bytes_begun x d e place room held p u =
       let first = length_first h b i in
       let more = buffer_spans h b x (first_slots h b i) (begun_before h b i) (list_of (begins_at h b i)) (omega arith)
-      (omega (arith, begun-room h b w i inside)) in
+      (omega (arith, begun_room h b w i inside)) in
       u ∙ (rw (held, p, known, begins, begun_next h b i) more)
 
 -- behind a stretch, where k slots' spans have begun

@@ -21,7 +21,8 @@ use Rattle.rules.specs.Inner.Stretches.{read_count}
 use Rattle.rules.proofs.Bounds.{bounded}
 use Rattle.rules.proofs.Counts.{span_count_lem}
 use Rattle.rules.proofs.Neighbours.{spans_few}
-use Rattle.book.specs.Cells.{slot_fault_at, day_fault_at, number_fault, read_fault, read_fault_at, agreed_fault_at, reads_of, cells_ok, Book, book_fits}
+use Rattle.book.specs.Cells.{slot_fault_at, day_fault_at, number_fault, read_fault, read_fault_at, agreed_fault_at, reads_of, cells_ok}
+use Rattle.book.specs.Cells.{Book, book_fits}
 use Rattle.book.specs.Cells.{book_ok}
 use Rattle.book.proofs.Fits.{lengths_of}
 use Rattle.publishing.specs.Publishing.{published, file_length, publish_answer, publish_after}
@@ -109,15 +110,15 @@ module _ (h : Head) (b : Cells) (s : Sound h b) where
 
   -- the spans and the length as publishing computes them
   module _ (m : ℕ) (e : m ≡ read_count b.read_versions (length b.read_versions) - 1) where
-    pub spans-found : m ≡ length (spans h b)
-    spans-found = e ∙ sym (span_count_lem h b (lengths_of h b s.fit).read_versions)
+    pub spans_found : m ≡ length (spans h b)
+    spans_found = e ∙ sym (span_count_lem h b (lengths_of h b s.fit).read_versions)
 
-    pub spans-low : m ≤ 400
-    spans-low = omega (arith, spans-found, spans_few h b, (bounded h s.head).days_high)
+    pub spans_low : m ≤ 400
+    spans_low = omega (arith, spans_found, spans_few h b, (bounded h s.head).days_high)
 
     pub length_found : (n : ℕ) → n ≡ 6 * slot_count h + 14 * m + 32 → n ≡ file_length h b
     unfolding file_length outcomes
-    length_found n f = omega (arith, spans-found, length_up_to (outcome_at h b) 0 (slot_count h))
+    length_found n f = omega (arith, spans_found, length_up_to (outcome_at h b) 0 (slot_count h))
 
 -- each case of the answer, and of the buffer
 module _ (h : Head) (b : Book) (d : List ℕ) where
@@ -130,13 +131,13 @@ module _ (h : Head) (b : Book) (d : List ℕ) where
     unfolding publish_after publish_answer
     refused_2 p = rw (good, p) (refl, refl)
 
-    pub refused-11 : book_fits h b ≡ true → book_ok h b ≡ false → Left h b d (Refused 11) d
+    pub refused_11 : book_fits h b ≡ true → book_ok h b ≡ false → Left h b d (Refused 11) d
     unfolding publish_after publish_answer
-    refused-11 fit p = rw (good, fit, p) (refl, refl)
+    refused_11 fit p = rw (good, fit, p) (refl, refl)
 
-    pub put-left : book_fits h b ≡ true → book_ok h b ≡ true → (p : Published) (e : List ℕ) → Put h b.cells d p e → Left h b d p e
+    pub put_left : book_fits h b ≡ true → book_ok h b ≡ true → (p : Published) (e : List ℕ) → Put h b.cells d p e → Left h b d p e
     unfolding publish_after publish_answer
-    put-left fit ok p e put = rw (good, fit, ok) put
+    put_left fit ok p e put = rw (good, fit, ok) put
 
 module _ (h : Head) (b : Cells) (d : List ℕ) (n : ℕ) (found : n ≡ file_length h b) where
   pub refused_7 : length d < n → Put h b d (Refused 7) d

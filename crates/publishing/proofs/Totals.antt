@@ -106,12 +106,12 @@ module _ (h : Head) (b : Cells) (i : ℕ) where
 
   -- where a progress stands
   module _ (p : Progress) (e : p ≡ progress_at h b i) where
-    pub progress-place : p.pass.walk.at ≡ i
+    pub progress_place : p.pass.walk.at ≡ i
     unfolding progress_at pass_at walk_at
-    progress-place = ap (λ (q : Progress). q.pass.walk.at) e
+    progress_place = ap (λ (q : Progress). q.pass.walk.at) e
 
-    pub progress-here : p ≡ progress_at h b p.pass.walk.at
-    progress-here = e ∙ ap (progress_at h b) (sym progress-place)
+    pub progress_here : p ≡ progress_at h b p.pass.walk.at
+    progress_here = e ∙ ap (progress_at h b) (sym progress_place)
 
 -- before slot 0
 pub progress_first : (h : Head) (b : Cells) (p : Pass) → p ≡ pass_at h b 0

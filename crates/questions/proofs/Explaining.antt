@@ -61,8 +61,8 @@ module _ (h : Head) (b : Book) (slot : ℕ) (held : List ℕ) (r : Explained) (e
     unfolding explain_code explain_refusal
     same = rw (eq-eqb _ _ l) (sym number)
 
-    pub refused-rest : (r.refused ≡ 0 → ⊥) → (r.refused ≡ explain_code h b slot held) × (held ≡ fields_after h b slot held)
-    refused-rest z = left r.refused same z
+    pub refused_rest : (r.refused ≡ 0 → ⊥) → (r.refused ≡ explain_code h b slot held) × (held ≡ fields_after h b slot held)
+    refused_rest z = left r.refused same z
 
     pub explained : r.refused ≡ 0 → (0 ≡ explain_code h b slot held) × (fields_of r.explanation ≡ fields_after h b slot held)
     unfolding fields_after explain_answer

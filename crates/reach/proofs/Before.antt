@@ -12,7 +12,7 @@ use Rattle.rules.specs.Opening.{Slots, slot_count}
 use Rattle.rules.specs.Tests.{good_at}
 use Rattle.rules.specs.Filling.{outage_before, outage_after, is_outage_zero, in_run, run_before, run_from, run_start, run_length, is_linear}
 use Rattle.rules.specs.Filling.{linear_value}
-use Rattle.rules.proofs.Runs.{run-good, before_low}
+use Rattle.rules.proofs.Runs.{run_good, before_low}
 use Rattle.reach.proofs.Alike.{SameAt, cond_same, and_same, gap_same, outage_same, good_same, short_of_gap}
 
 module _ (h : Head) (s t : Slots) (v : List ℕ) (m : ℕ) (same : (k : ℕ) → k ≤ m → SameAt s t k) (g : good_at h s m ≡ true) where
@@ -43,7 +43,7 @@ module _ (h : Head) (s t : Slots) (v : List ℕ) (m : ℕ) (same : (k : ℕ) →
   -- a slot of a run before m is not m
   short_of_run : (k : ℕ) → in_run h s v k ≡ true → k ≤ m → k < m
   short_of_run k e l =
-      ⊎_elim (λ z. absurd (false≢true (sym (run-good h s v m g) ∙ rw (← z) e))) (λ n. n) (eq-or-lt_of_le l)
+      ⊎_elim (λ z. absurd (false≢true (sym (run_good h s v m g) ∙ rw (← z) e))) (λ n. n) (eq-or-lt_of_le l)
 
   run_before_lem : (j : ℕ) → j ≤ m → run_before h s v j ≡ run_before h t v j
   unfolding run_before
@@ -65,13 +65,13 @@ module _ (h : Head) (s t : Slots) (v : List ℕ) (m : ℕ) (same : (k : ℕ) →
       ⊎_elim (λ e. rw e (let r = ends n (suc j) (short_of_run j e l) in omega arith)) (λ e. rw e (omega arith)) (either (in_run h s v j))
 
   module _ (j : ℕ) (l : j ≤ m) where
-    start-same : run_start h s v j ≡ run_start h t v j
+    start_same : run_start h s v j ≡ run_start h t v j
     unfolding run_start
-    start-same = ap (λ (x : ℕ). j - x) (run_before_lem j l)
+    start_same = ap (λ (x : ℕ). j - x) (run_before_lem j l)
 
-    length-same : run_length h s v j ≡ run_length h t v j
+    length_same : run_length h s v j ≡ run_length h t v j
     unfolding run_length
-    length-same = ap₂ (λ (x y : ℕ). x + y) (run_before_lem j l) (run_from_lem (slot_count h - j) j l)
+    length_same = ap₂ (λ (x y : ℕ). x + y) (run_before_lem j l) (run_from_lem (slot_count h - j) j l)
 
     high : run_start h s v j + run_length h s v j ≤ m
     unfolding run_start run_length
@@ -83,11 +83,11 @@ module _ (h : Head) (s t : Slots) (v : List ℕ) (m : ℕ) (same : (k : ℕ) →
     right : SameAt s t (run_start h s v j + run_length h s v j)
     right = same (run_start h s v j + run_length h s v j) high
 
-    pub linear-before : is_linear h s v j ≡ is_linear h t v j
+    pub linear_before : is_linear h s v j ≡ is_linear h t v j
     unfolding is_linear
-    linear-before =
-        rw (good_same h s t _ left, good_same h s t _ right, start-same, length-same)
+    linear_before =
+        rw (good_same h s t _ left, good_same h s t _ right, start_same, length_same)
 
     pub value_before : linear_value h s v j ≡ linear_value h t v j
     unfolding linear_value
-    value_before = rw (left.value, right.value, start-same, length-same, run_before_lem j l)
+    value_before = rw (left.value, right.value, start_same, length_same, run_before_lem j l)

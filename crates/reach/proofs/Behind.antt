@@ -12,7 +12,7 @@ use Rattle.rules.specs.Opening.{Slots, slot_count}
 use Rattle.rules.specs.Tests.{good_at}
 use Rattle.rules.specs.Filling.{outage_before, outage_after, is_outage_zero, in_run, run_before, run_from, run_start, run_length, is_linear}
 use Rattle.rules.specs.Filling.{linear_value}
-use Rattle.rules.proofs.Runs.{run-good}
+use Rattle.rules.proofs.Runs.{run_good}
 use Rattle.reach.proofs.Alike.{SameAt, cond_same, and_same, gap_same, outage_same, good_same, past_gap}
 
 module _ (h : Head) (s t : Slots) (v : List ℕ) (m : ℕ) (same : (k : ℕ) → m ≤ k → SameAt s t k) (g : good_at h s m ≡ true) where
@@ -42,7 +42,7 @@ module _ (h : Head) (s t : Slots) (v : List ℕ) (m : ℕ) (same : (k : ℕ) →
   -- a slot of a run behind m is not m
   past_run : (k : ℕ) → in_run h s v k ≡ true → m ≤ k → m < k
   past_run k e l =
-      ⊎_elim (λ z. absurd (false≢true (sym (run-good h s v m g) ∙ rw z e))) (λ n. n) (eq-or-lt_of_le l)
+      ⊎_elim (λ z. absurd (false≢true (sym (run_good h s v m g) ∙ rw z e))) (λ n. n) (eq-or-lt_of_le l)
 
   run_before_lem : (j : ℕ) → m < j → run_before h s v j ≡ run_before h t v j
   unfolding run_before
@@ -65,13 +65,13 @@ module _ (h : Head) (s t : Slots) (v : List ℕ) (m : ℕ) (same : (k : ℕ) →
   run_from_lem (suc n) j l = cond_same _ _ (run_behind j l) (λ e. ap suc (run_from_lem n (suc j) (omega arith))) refl
 
   module _ (j : ℕ) (l : m < j) where
-    start-same : run_start h s v j ≡ run_start h t v j
+    start_same : run_start h s v j ≡ run_start h t v j
     unfolding run_start
-    start-same = ap (λ (x : ℕ). j - x) (run_before_lem j l)
+    start_same = ap (λ (x : ℕ). j - x) (run_before_lem j l)
 
-    length-same : run_length h s v j ≡ run_length h t v j
+    length_same : run_length h s v j ≡ run_length h t v j
     unfolding run_length
-    length-same = ap₂ (λ (x y : ℕ). x + y) (run_before_lem j l) (run_from_lem (slot_count h - j) j (omega arith))
+    length_same = ap₂ (λ (x y : ℕ). x + y) (run_before_lem j l) (run_from_lem (slot_count h - j) j (omega arith))
 
     low : m ≤ run_start h s v j - 1
     unfolding run_start
@@ -83,11 +83,11 @@ module _ (h : Head) (s t : Slots) (v : List ℕ) (m : ℕ) (same : (k : ℕ) →
     right : SameAt s t (run_start h s v j + run_length h s v j)
     right = same (run_start h s v j + run_length h s v j) (omega (arith, low))
 
-    pub linear-behind : is_linear h s v j ≡ is_linear h t v j
+    pub linear_behind : is_linear h s v j ≡ is_linear h t v j
     unfolding is_linear
-    linear-behind =
-        rw (good_same h s t _ left, good_same h s t _ right, start-same, length-same)
+    linear_behind =
+        rw (good_same h s t _ left, good_same h s t _ right, start_same, length_same)
 
-    pub value-behind : linear_value h s v j ≡ linear_value h t v j
+    pub value_behind : linear_value h s v j ≡ linear_value h t v j
     unfolding linear_value
-    value-behind = rw (left.value, right.value, start-same, length-same, run_before_lem j l)
+    value_behind = rw (left.value, right.value, start_same, length_same, run_before_lem j l)

@@ -9,7 +9,8 @@ use lib.Dec.{lit<, lit≤}
 use lib.ListN.{get_or, take}
 use Rattle.base.specs.Lists.{sum}
 use Rattle.base.proofs.Lists.{up_to_at}
-use Rattle.calendar.specs.Calendar.{leap, month_lengths, month_length, year_length, days_before_month, days_before_year, day_number, is_date}
+use Rattle.calendar.specs.Calendar.{leap, month_lengths, month_length, year_length, days_before_month, days_before_year, day_number}
+use Rattle.calendar.specs.Calendar.{is_date}
 use Rattle.calendar.specs.Calendar.{to_sunday}
 use Rattle.rules.specs.declared.Head.{Head}
 use Rattle.rules.specs.declared.Outcome.{Outcome}
@@ -22,7 +23,7 @@ use Rattle.rules.specs.Spans.{outcome_at}
 use Rattle.book.specs.Arguments.{Call}
 use Rattle.book.specs.Arguments.Call.{delivery, holiday}
 use Rattle.book.specs.Plain.{deliveries, kept_reads, agreements, named, highest_version, content_with, slot_content, book_of}
-use Rattle.reach.proofs.Sparse.{Sparse, good_in, status-at, good-at, outcome-last}
+use Rattle.reach.proofs.Sparse.{Sparse, good_in, status_at, good_at_lem, outcome_last}
 
 -- a day of the book
 holiday_at : (h : Head) (kept : List Call) (d : ℕ) → d < h.days → get_or (book_of h kept).holidays d 0 ≡ cond (named d kept) 1 0
@@ -35,7 +36,8 @@ reference_at : (h : Head) (kept : List Call) (k : ℕ) (t : Bool) → k < slot_c
     → good_in h kept k ≡ true → outage_bit (slot_content kept k).status ≡ t
     → is_reference h (book_of h kept).slots (book_of h kept).holidays k ≡ not t
 unfolding is_reference
-reference_at h kept k t l d e g o = rw (good-at h kept k l ∙ g, status-at h kept k l, o, holiday_at h kept (k / slots_per_day h) d, e) (go t)
+reference_at h kept k t l d e g o = rw (good_at_lem h kept k l ∙ g, status_at h kept k l, o, holiday_at h kept (k / slots_per_day h) d, e)
+    (go t)
   where
     go : (t : Bool) → (not t && true) ≡ not t
     go true = refl
@@ -139,7 +141,8 @@ weeks_first kept e = rw (holiday_at year kept 364 (lit< tt), e) (refl, refl)
 feast_first : (kept : List Call) → named 370 kept ≡ true
     → (first_back more (book_of more kept).holidays (17_807 / slots_per_day more) ≡ 6)
     × (weeks_within 6 (farthest_back (book_of more kept).holidays (17_807 / slots_per_day more)) ≡ 53)
-unfolding slots_per_day first_back farthest_back weeks_within first_day leap month_lengths month_length year_length days_before_month days_before_year
+unfolding slots_per_day first_back farthest_back weeks_within first_day leap month_lengths month_length year_length days_before_month
+    days_before_year
     day_number is_date to_sunday sum
 feast_first kept e = rw (holiday_at more kept 370 (lit< tt), e) (refl, refl)
 
@@ -150,7 +153,7 @@ last_method : (h : Head) (kept : List Call) (p j first k : ℕ) (t : Bool) → S
     → j ≡ 47 + (first + 7 * k) * 48 → 1 ≤ first → is_reference h (book_of h kept).slots (book_of h kept).holidays 47 ≡ t
     → (outcome_at h (book_of h kept) j).method ≡ cond t 3 0
 last_method h kept p j first k t x f far later e =
-    ap (λ (o : Outcome). o.method) (outcome-last h kept 47 p j x first k f.0 f.1 far later)
+    ap (λ (o : Outcome). o.method) (outcome_last h kept 47 p j x first k f.0 f.1 far later)
     ∙ rw e (method_of t (get_or (book_of h kept).slots.values 47 0))
 
 -- without and with the outage bit at slot 47

@@ -18,9 +18,9 @@ use Rattle.rules.specs.Filling.{is_outage_zero, is_linear, linear_value, filled_
 use Rattle.rules.proofs.Shapes.{shape_good}
 use Rattle.reach.specs.Reach.{HasCause, InRunAt, DaysLater}
 use Rattle.reach.proofs.Alike.{SameAt, good_same}
-use Rattle.reach.proofs.Behind.{zero_behind, linear-behind, value-behind}
-use Rattle.reach.proofs.Before.{zero_before_lem, linear-before, value_before}
-use Rattle.reach.proofs.Weeks.{references-same}
+use Rattle.reach.proofs.Behind.{zero_behind, linear_behind, value_behind}
+use Rattle.reach.proofs.Before.{zero_before_lem, linear_before, value_before}
+use Rattle.reach.proofs.Weeks.{references_same}
 
 -- a good slot among the k from a, or a cause at each
 good_or_causes : (h : Head) (s : Slots) (a k : ℕ)
@@ -50,8 +50,8 @@ module _ (h : Head) (s t : Slots) (i : ℕ) (in_book : i < slot_count h) (same :
         let n : m < j = ⊎_elim (λ z. absurd (not_good m g z)) (λ x. x) (eq-or-lt_of_le {n = m} {m = j} (omega arith)) in
         record {
           zeroed = zero_behind h s t v m from g j (omega arith);
-          linear = linear-behind h s t v m from g j n;
-          value = value-behind h s t v m from g j n;
+          linear = linear_behind h s t v m from g j n;
+          value = value_behind h s t v m from g j n;
         })
         (λ causes.
         absurd (clear (record {
@@ -71,7 +71,7 @@ module _ (h : Head) (s t : Slots) (i : ℕ) (in_book : i < slot_count h) (same :
         let to : (k : ℕ) → k ≤ m → SameAt s t k = λ k p. same k (λ z. absurd (omega arith)) in
         record {
           zeroed = zero_before_lem h s t v m to g j low;
-          linear = linear-before h s t v m to g j low;
+          linear = linear_before h s t v m to g j low;
           value = value_before h s t v m to g j low;
         })
         (λ causes.
@@ -97,9 +97,9 @@ module _ (h : Head) (s t : Slots) (i : ℕ) (in_book : i < slot_count h) (same :
     Fills j =
         (filled_at h s a holidays j ≡ filled_at h t a holidays j) × (shape_at h s a holidays j ≡ shape_at h t a holidays j)
 
-    fills-good : (j : ℕ) → (j ≡ i → ⊥) → good_at h s j ≡ true → Fills j
+    fills_good : (j : ℕ) → (j ≡ i → ⊥) → good_at h s j ≡ true → Fills j
     unfolding filled_at
-    fills-good j apart g =
+    fills_good j apart g =
         let e = same j apart in
         let g' : good_at h t j ≡ true = sym (good_same h s t j e) ∙ g in
         (rw (g, g', e.value), sym (shape_good h s a holidays j g) ∙ shape_good h t a holidays j g')
@@ -107,10 +107,10 @@ module _ (h : Head) (s t : Slots) (i : ℕ) (in_book : i < slot_count h) (same :
     pub fills_same : (j : ℕ) → j < slot_count h → (j ≡ i → ⊥) → (InRunAt h s i j → ⊥) → (DaysLater h s holidays i j → ⊥) → Fills j
     unfolding filled_at shape_at
     fills_same j lt apart clear far =
-        ⊎_elim (fills-good j apart)
+        ⊎_elim (fills_good j apart)
         (λ cause.
         let x = alike j lt apart clear cause a.versions in
-        let refs = references-same h s t holidays i same pos j
+        let refs = references_same h s t holidays i same pos j
         (λ days (p, w). far (record { days = days; place = p; cause = cause; within = w })) in
         let c' : HasCause h t j = sym (good_same h s t j (same j apart)) ∙ cause in
         (rw (cause, c', x.zeroed, x.linear, x.value, refs), rw (cause, c', x.zeroed, x.linear, x.value, refs)))

@@ -76,25 +76,25 @@ module _ (h : Head) (s : Slots) (holidays : List ℕ) (i : ℕ) where
   module _ (a : Agreed) (p j : ℕ) (next : j ≡ suc p) (end : slot_count h ≡ suc j) (gap : is_gap s.versions j ≡ true)
       (cause : good_at h s j ≡ false) (free : is_agreed a.versions j ≡ false) (left : good_at h s p ≡ true)
       (calm : outage_at s.versions s.statuses p ≡ false) where
-    not-zeroed : is_outage_zero h s j ≡ false
+    not_zeroed : is_outage_zero h s j ≡ false
     unfolding is_outage_zero outage_before outage_after
-    not-zeroed =
+    not_zeroed =
         let one : slot_count h - j ≡ 1 = omega arith in
         rw (gap, one, gap, next, good_delivered h s p left, calm)
 
-    in-run : in_run h s a.versions j ≡ true
+    in_run_lem : in_run h s a.versions j ≡ true
     unfolding in_run
-    in-run = rw (cause, free, not-zeroed)
+    in_run_lem = rw (cause, free, not_zeroed)
 
     -- its run reaches the end of the book
-    at-end : slot_count h ≤ run_start h s a.versions j + run_length h s a.versions j
+    at_end : slot_count h ≤ run_start h s a.versions j + run_length h s a.versions j
     unfolding run_start run_length
-    at-end = omega (arith, from_on h s a.versions j (omega arith) in-run, before_low h s a.versions j)
+    at_end = omega (arith, from_on h s a.versions j (omega arith) in_run_lem, before_low h s a.versions j)
 
     no_line : is_linear h s a.versions j ≡ false
     unfolding is_linear
-    no_line = simp (le-ltb _ _ at-end, and-false)
+    no_line = simp (le-ltb _ _ at_end, and-false)
 
-    pub filled-last : filled_at h s a holidays j ≡ from_references (references h s holidays j)
+    pub filled_last : filled_at h s a holidays j ≡ from_references (references h s holidays j)
     unfolding filled_at
-    filled-last = rw (cause, free, not-zeroed, no_line)
+    filled_last = rw (cause, free, not_zeroed, no_line)

@@ -5,7 +5,8 @@ use mathlib.Core.Path.{◌≡◌, refl, ap, ◌∙◌}
 use Prim.Native.Nat.{ℕ, ◌+◌, ◌*◌, ◌≤◌}
 use native.Mathlib.Omega.{arith}
 use Rattle.base.specs.Lists.{sum}
-use Rattle.calendar.specs.Calendar.{leap, month_lengths, month_length, year_length, days_before_month, days_before_year, day_number, is_date}
+use Rattle.calendar.specs.Calendar.{leap, month_lengths, month_length, year_length, days_before_month, days_before_year, day_number}
+use Rattle.calendar.specs.Calendar.{is_date}
 use Rattle.rules.specs.declared.Head.{Head}
 use Rattle.rules.specs.declared.Outcome.{Outcome}
 use Rattle.rules.specs.Opening.{head_ok, interval_ok, first_day, slots_per_day, slot_count}
@@ -35,9 +36,9 @@ record KeptAre (h : Head) (calls kept : List Call) : Type 0 where
 
 module _ (h : Head) (calls kept : List Call) (p j d : ℕ) (x : Sparse h kept 47 p j) (far : j ≡ 47 + d * 48) (are : KeptAre h calls kept)
   where
-    last-moves : ((outcome_at h (book_of h kept) j).method ≡ 3) × ((outcome_at h (book_of h (again ∷ kept)) j).method ≡ 0)
+    last_moves : ((outcome_at h (book_of h kept) j).method ≡ 3) × ((outcome_at h (book_of h (again ∷ kept)) j).method ≡ 0)
         → Moves (last_of h calls j)
-    last-moves m = record {
+    last_moves m = record {
       answered = answer_plain h calls again ∙ rw are.was are.new;
       inside = omega (arith, x.end);
       differs = λ e.
@@ -46,8 +47,8 @@ module _ (h : Head) (calls kept : List Call) (p j d : ℕ) (x : Sparse h kept 47
           omega (arith, m);
     }
 
-    last-only : OnlyLater d (last_of h calls j)
-    last-only =
+    last_only : OnlyLater d (last_of h calls j)
+    last_only =
         let low : 47 ≤ p = omega (arith, x.apart) in
         let high : p ≤ j = omega (arith, x.next) in
         record {
@@ -64,12 +65,14 @@ module _ (h : Head) (calls kept : List Call) (p j d : ℕ) (x : Sparse h kept 47
         }
 
 weeks_kept_lem : KeptAre year (delivery 47 1 100 0 ∷ delivery 17_518 1 5 0 ∷ []) weeks_kept
-unfolding kept_of keep plain_answer against_kept deliveries named highest_version content_with argument_rules by_version slot_count slots_per_day
+unfolding kept_of keep plain_answer against_kept deliveries named highest_version content_with argument_rules by_version slot_count
+    slots_per_day
     head_ok interval_ok first_day leap month_lengths month_length year_length days_before_month days_before_year day_number is_date sum
 weeks_kept_lem = record { was = refl; is = refl; new = refl }
 
 feast_kept_lem : KeptAre more (delivery 47 1 100 0 ∷ delivery 17_806 1 5 0 ∷ holiday 370 ∷ []) feast_kept
-unfolding kept_of keep plain_answer against_kept deliveries named highest_version content_with argument_rules by_version slot_count slots_per_day
+unfolding kept_of keep plain_answer against_kept deliveries named highest_version content_with argument_rules by_version slot_count
+    slots_per_day
     head_ok interval_ok first_day leap month_lengths month_length year_length days_before_month days_before_year day_number is_date sum
 feast_kept_lem = record { was = refl; is = refl; new = refl }
 
@@ -79,13 +82,13 @@ needed = record {
   second = second_needed;
   third = (
     _,
-    last-moves year _ weeks_kept 17_518 17_519 364 weeks_before refl weeks_kept_lem weeks_method,
-    last-only year _ weeks_kept 17_518 17_519 364 weeks_before refl weeks_kept_lem,
+    last_moves year _ weeks_kept 17_518 17_519 364 weeks_before refl weeks_kept_lem weeks_method,
+    last_only year _ weeks_kept 17_518 17_519 364 weeks_before refl weeks_kept_lem,
   );
   holiday = (
     _,
-    last-moves more _ feast_kept 17_806 17_807 370 feast_before refl feast_kept_lem feast_method,
-    last-only more _ feast_kept 17_806 17_807 370 feast_before refl feast_kept_lem,
+    last_moves more _ feast_kept 17_806 17_807 370 feast_before refl feast_kept_lem feast_method,
+    last_only more _ feast_kept 17_806 17_807 370 feast_before refl feast_kept_lem,
   );
   fourth = fourth_needed;
 }

@@ -10,7 +10,8 @@ use lib.ListN.{length, get_or}
 use borrow.Author.Tests.{eqb-true}
 use Rattle.base.specs.Lists.{every, sum, any, up_to, sum_of}
 use Rattle.base.proofs.Logic.{passed}
-use Rattle.calendar.specs.Calendar.{leap, month_lengths, month_length, year_length, days_before_month, days_before_year, day_number, is_date}
+use Rattle.calendar.specs.Calendar.{leap, month_lengths, month_length, year_length, days_before_month, days_before_year, day_number}
+use Rattle.calendar.specs.Calendar.{is_date}
 use Rattle.calendar.specs.Calendar.{to_sunday}
 use Rattle.rules.specs.declared.Head.{Head}
 use Rattle.rules.specs.declared.Outcome.{Outcome}
@@ -18,10 +19,13 @@ use Rattle.reach.proofs.Heads.{head_on}
 use Rattle.rules.specs.Opening.{Cells, head_ok, interval_ok, first_day, slots_per_day, slot_count}
 use Rattle.rules.specs.Tests.{is_gap, time_change_bit, outage_bit, partial_bit, cause_of, cause_at, good_at}
 use Rattle.rules.specs.Weeks.{first_back, farthest_back, weeks_within}
-use Rattle.rules.specs.Filling.{outage_at, outage_before, outage_after, is_outage_zero, is_agreed, in_run, run_before, run_from, run_start, run_length}
-use Rattle.rules.specs.Filling.{is_linear, line_value, linear_value, is_reference, week_back, weeks_back, references, mean_of, from_references}
+use Rattle.rules.specs.Filling.{outage_at, outage_before, outage_after, is_outage_zero, is_agreed, in_run, run_before, run_from}
+use Rattle.rules.specs.Filling.{run_start, run_length}
+use Rattle.rules.specs.Filling.{is_linear, line_value, linear_value, is_reference, week_back, weeks_back, references, mean_of}
+use Rattle.rules.specs.Filling.{from_references}
 use Rattle.rules.specs.Filling.{filled_at}
-use Rattle.rules.specs.Spans.{is_read, last_read, next_read, advance, range_of, least_in, is_near, state_by, start, slots_in, G, range, actual_sum}
+use Rattle.rules.specs.Spans.{is_read, last_read, next_read, advance, range_of, least_in, is_near, state_by, start, slots_in, G, range}
+use Rattle.rules.specs.Spans.{actual_sum}
 use Rattle.rules.specs.Spans.{R, state_of, in_span, between, outcome_at, span_of, span_to, span_from, spans_from, spans}
 use Rattle.book.specs.Answers.{Answer, is_stored, by_version}
 use Rattle.book.specs.Arguments.{argument_rules}
@@ -79,12 +83,17 @@ tests =
     ∷ []
 
 computed : every tests ≡ true
-unfolding outcome_at between last_read next_read is_read filled_at from_references references sum_of mean_of week_back weeks_back is_reference is_linear
-    linear_value line_value run_start run_length run_from run_before in_run is_agreed is_outage_zero outage_after outage_before outage_at good_at cause_at
-    cause_of is_gap time_change_bit outage_bit partial_bit first_back farthest_back weeks_within slot_count slots_per_day up_to book_of kept_of keep
-    plain_answer against_kept named agreements kept_reads deliveries highest_version content_with argument_rules by_version head_ok interval_ok
+unfolding outcome_at between last_read next_read is_read filled_at from_references references sum_of mean_of week_back weeks_back
+    is_reference is_linear
+    linear_value line_value run_start run_length run_from run_before in_run is_agreed is_outage_zero outage_after outage_before outage_at
+    good_at cause_at
+    cause_of is_gap time_change_bit outage_bit partial_bit first_back farthest_back weeks_within slot_count slots_per_day up_to book_of
+    kept_of keep
+    plain_answer against_kept named agreements kept_reads deliveries highest_version content_with argument_rules by_version head_ok
+    interval_ok
     first_day
-    leap month_lengths month_length year_length days_before_month days_before_year day_number is_date to_sunday sum in_span state_of state_by range
+    leap month_lengths month_length year_length days_before_month days_before_year day_number is_date to_sunday sum in_span state_of
+    state_by range
     range_of G advance R least_in actual_sum is_near start slots_in any spans spans_from span_from span_to span_of
 computed = refl
 
@@ -103,7 +112,8 @@ first_needed = (
   itself,
   moves_by itself (λ o. o.value) 100 90 (told 14) (within 10 (lit< tt)) (eqb-true _ _ (told 2)) (eqb-true _ _ (told 3)) (λ e. omega arith),
   ⊎_elim (⊎_elim (cut day _ 10 10 10 (lit≤ tt) (lit≤ tt) (inr refl) (told 5)) (cut day _ 10 10 10 (lit≤ tt) (lit≤ tt) (inr refl) (told 6)))
-      (⊎_elim (⊎_elim (same_day_lem day _ _ 10 half_hours) (same_day_lem day _ _ 10 half_hours)) (no_span_lem day _ _ 10 10 (eqb-true _ _ (told 4)))),
+      (⊎_elim (⊎_elim (same_day_lem day _ _ 10 half_hours) (same_day_lem day _ _ 10 half_hours))
+      (no_span_lem day _ _ 10 10 (eqb-true _ _ (told 4)))),
 )
 
 pub second_needed : (l : Late) × Moves l × OnlyBeside l

@@ -28,7 +28,7 @@ use Rattle.reach.specs.Reach.{SameRecords, Unmoved, Reach}
 use Rattle.reach.proofs.Alike.{SameAt}
 use Rattle.book.specs.Cells.{with_slots}
 use Rattle.reach.proofs.Boundaries.{same_count, same_boundaries}
-use Rattle.reach.proofs.Outcomes.{outcome-kept, each_span_kept}
+use Rattle.reach.proofs.Outcomes.{outcome_kept, each_span_kept}
 use Rattle.reach.proofs.Records.{slot_record_lem, span_record_lem, slot_in_buffer, span_in_buffer}
 
 -- two books that differ at slot i alone
@@ -38,7 +38,7 @@ unfolding span_of
 unmoved h w b t i lt same =
     let c = with_slots b t in
     record {
-      slots = λ j l free. outcome-kept h w b t i lt same j l free;
+      slots = λ j l free. outcome_kept h w b t i lt same j l free;
       span_count = same_count h b t;
       boundaries = λ k l.
           let p = same_boundaries h b t k l in (
@@ -48,7 +48,7 @@ unmoved h w b t i lt same =
       each_span = each_span_kept h w b t i lt same;
       records = record {
         slot_records = λ j l free.
-            slot_record_lem h b j l ∙ ap (λ (o : Outcome). row (slot_row o)) (outcome-kept h w b t i lt same j l free)
+            slot_record_lem h b j l ∙ ap (λ (o : Outcome). row (slot_row o)) (outcome_kept h w b t i lt same j l free)
             ∙ sym (slot_record_lem h c j l);
         span_records = λ k l free.
             span_record_lem h b k l ∙ ap (λ (s : Span). row (span_row true s)) (each_span_kept h w b t i lt same k l free)

@@ -17,7 +17,7 @@ use Rattle.reach.specs.Reach.{Met, Reached, Clear}
 use Rattle.reach.proofs.Alike.{SameAt}
 use Rattle.reach.proofs.Fillings.{fills_same}
 use Rattle.book.specs.Cells.{with_slots}
-use Rattle.reach.proofs.Spans.{Kept, span_same, in-span-same}
+use Rattle.reach.proofs.Spans.{Kept, span_same, in_span_same}
 use Rattle.reach.proofs.Boundaries.{same_boundaries}
 
 module _ (h : Head) (w : Bounded h) (b : Cells) (t : Slots) (i : ℕ) (in_book : i < slot_count h)
@@ -43,11 +43,11 @@ module _ (h : Head) (w : Bounded h) (b : Cells) (t : Slots) (i : ℕ) (in_book :
     all_kept : (j : ℕ) → first * n ≤ j → j < first * n + (last - first) * n → Kept h b t j
     all_kept j l m = slot_kept j (omega (arith, slots_within h first last ordered within)) (free j l (omega (arith, end)))
 
-    span-kept : span_of h b first last ≡ span_of h c first last
-    span-kept = span_same h b t first last all_kept
+    span_kept : span_of h b first last ≡ span_of h c first last
+    span_kept = span_same h b t first last all_kept
 
-    in-span-kept : (j : ℕ) → first * n ≤ j → j < last * n → in_span h b first last j ≡ in_span h c first last j
-    in-span-kept j l m = in-span-same h b t first last all_kept j l (omega (arith, end))
+    in_span_kept : (j : ℕ) → first * n ≤ j → j < last * n → in_span h b first last j ≡ in_span h c first last j
+    in_span_kept j l m = in_span_same h b t first last all_kept j l (omega (arith, end))
 
   pub each_span_kept : (k : ℕ) → k < length (spans h b)
       → Clear h b c i (get_or (spans h b) k no_span)
@@ -59,34 +59,34 @@ module _ (h : Head) (w : Bounded h) (b : Cells) (t : Slots) (i : ℕ) (in_book :
       let first : (get_or (spans h b) k no_span).first ≡ p.first = ap (λ (x : Span). x.first) p.here in
       let last : (get_or (spans h b) k no_span).last ≡ p.last = ap (λ (x : Span). x.last) p.here in
       p.here
-      ∙ span-kept p.first p.last (omega (arith, s.ordered)) (omega (arith, s.within)) (λ m x y. free m (rw (first, last) (x, y)))
+      ∙ span_kept p.first p.last (omega (arith, s.ordered)) (omega (arith, s.within)) (λ m x y. free m (rw (first, last) (x, y)))
       ∙ sym p.there
 
   -- a span that the readings of either book make: neighbouring boundaries with a reading
   module _ (j : ℕ) (lt : j < slot_count h) (free : Reached h b c i j → ⊥) where
-    span-clear : (s : Span) → Neighbours h b s → s.first * n ≤ j → j < s.last * n → (m : ℕ) → s.first * n ≤ m → m < s.last * n
+    span_clear : (s : Span) → Neighbours h b s → s.first * n ≤ j → j < s.last * n → (m : ℕ) → s.first * n ≤ m → m < s.last * n
         → Met h b c i m → ⊥
     unfolding span_of
-    span-clear s x l r m low high met =
+    span_clear s x l r m low high met =
         let (k, in_List, is) = span_found h b s.first s.last (omega (arith, x.ordered, x.within)) x.first_read x.next in
         free (inr (record { span = k; spanned = in_List; slot = m; held = rw is (low, high); met = met; holds = rw is (l, r) }))
 
-    inside-kept : (s : Span) → Neighbours h b s → s.first * n ≤ j → j < s.last * n
+    inside_kept : (s : Span) → Neighbours h b s → s.first * n ≤ j → j < s.last * n
         → in_span h b s.first s.last j ≡ in_span h c s.first s.last j
-    inside-kept s x l r =
-        in-span-kept s.first s.last (omega (arith, x.ordered)) x.within (span-clear s x l r) j l r
+    inside_kept s x l r =
+        in_span_kept s.first s.last (omega (arith, x.ordered)) x.within (span_clear s x l r) j l r
 
-    pub outcome-kept : outcome_at h b j ≡ outcome_at h c j
+    pub outcome_kept : outcome_at h b j ≡ outcome_at h c j
     unfolding span_of
-    outcome-kept = go (place h w b j) (place h w c j) refl refl
+    outcome_kept = go (place h w b j) (place h w c j) refl refl
       where
         go : {x y : Outcome} → Place h b j x → Place h c j y → outcome_at h b j ≡ x → outcome_at h c j ≡ y → x ≡ y
         go outside outside p q = (slot_kept j lt (λ met. free (inl met))).0
         go (inside s x l r) y p q =
-            inside-kept s x l r
+            inside_kept s x l r
             ∙ sym (in_span_lem h w c (span_of h c s.first s.last) (neighbours h c s.first s.last x.first_read x.next) j l r)
             ∙ q
         go outside (inside s x l r) p q =
             let s' = span_of h b s.first s.last in
             let x' = neighbours h b s.first s.last x.first_read x.next in
-            sym p ∙ in_span_lem h w b s' x' j l r ∙ inside-kept s' x' l r
+            sym p ∙ in_span_lem h w b s' x' j l r ∙ inside_kept s' x' l r

@@ -16,7 +16,7 @@ use Rattle.rules.proofs.References.{references_searched}
 use Rattle.book.specs.Arguments.{Call}
 use Rattle.book.specs.Plain.{deliveries, kept_reads, agreements, highest_version, slot_version, slot_content, read_version, agreed_version}
 use Rattle.book.specs.Plain.{book_of}
-use Rattle.reach.proofs.LastSlot.{outside, no_spans, weeks_one, filled-last}
+use Rattle.reach.proofs.LastSlot.{outside, no_spans, weeks_one, filled_last}
 
 -- the slot's kept delivery is good
 abbrev pub good_in : Head → List Call → ℕ → Bool
@@ -40,42 +40,42 @@ module _ (h : Head) (kept : List Call) where
   b = book_of h kept
 
   module _ (k : ℕ) (l : k < slot_count h) where
-    pub version-at : get_or b.slots.versions k 0 ≡ slot_version kept k
+    pub version_at : get_or b.slots.versions k 0 ≡ slot_version kept k
     unfolding book_of
-    version-at = up_to_at (slot_version kept) 0 (slot_count h) k l
+    version_at = up_to_at (slot_version kept) 0 (slot_count h) k l
 
     pub value_at_lem : get_or b.slots.values k 0 ≡ (slot_content kept k).value
     unfolding book_of
     value_at_lem = up_to_at (λ i. (slot_content kept i).value) 0 (slot_count h) k l
 
-    pub status-at : get_or b.slots.statuses k 0 ≡ (slot_content kept k).status
+    pub status_at : get_or b.slots.statuses k 0 ≡ (slot_content kept k).status
     unfolding book_of
-    status-at = up_to_at (λ i. (slot_content kept i).status) 0 (slot_count h) k l
+    status_at = up_to_at (λ i. (slot_content kept i).status) 0 (slot_count h) k l
 
-    pub good-at : good_at h b.slots k ≡ good_in h kept k
+    pub good_at_lem : good_at h b.slots k ≡ good_in h kept k
     unfolding good_at cause_at
-    good-at = rw (version-at, value_at_lem, status-at)
+    good_at_lem = rw (version_at, value_at_lem, status_at)
 
-    calm-at : outage_bit (slot_content kept k).status ≡ false → outage_at b.slots.versions b.slots.statuses k ≡ false
+    calm_at : outage_bit (slot_content kept k).status ≡ false → outage_at b.slots.versions b.slots.statuses k ≡ false
     unfolding outage_at
-    calm-at e = rw (status-at, e, and-false)
+    calm_at e = rw (status_at, e, and-false)
 
     -- a slot that has not come
-    gap-version : deliveries k kept ≡ [] → get_or b.slots.versions k 0 ≡ 0
+    gap_version : deliveries k kept ≡ [] → get_or b.slots.versions k 0 ≡ 0
     unfolding highest_version
-    gap-version e = version-at ∙ rw e
+    gap_version e = version_at ∙ rw e
 
     gap_at : deliveries k kept ≡ [] → is_gap b.slots.versions k ≡ true
     unfolding is_gap
-    gap_at e = rw (gap-version e)
+    gap_at e = rw (gap_version e)
 
-    cause-at : deliveries k kept ≡ [] → good_at h b.slots k ≡ false
+    cause_at_lem : deliveries k kept ≡ [] → good_at h b.slots k ≡ false
     unfolding good_at cause_at cause_of
-    cause-at e = rw (gap-version e)
+    cause_at_lem e = rw (gap_version e)
 
-    free-at : agreements k kept ≡ [] → is_agreed b.agreed.versions k ≡ false
+    free_at : agreements k kept ≡ [] → is_agreed b.agreed.versions k ≡ false
     unfolding is_agreed book_of highest_version
-    free-at e = rw (up_to_at (agreed_version kept) 0 (slot_count h) k l, e)
+    free_at e = rw (up_to_at (agreed_version kept) 0 (slot_count h) k l, e)
 
   read_none : ((d : ℕ) → kept_reads d kept ≡ []) → (d : ℕ) → d ≤ h.days → is_read b.read_versions d ≡ false
   unfolding is_read book_of highest_version
@@ -86,7 +86,7 @@ module _ (h : Head) (kept : List Call) where
     in_book = omega (arith, x.end, x.next)
 
     pub left_good : good_at h b.slots p ≡ true
-    left_good = good-at p in_book ∙ x.left
+    left_good = good_at_lem p in_book ∙ x.left
 
     pub spanless : length (spans h b) ≡ 0
     spanless = no_spans h b (read_none x.unread)
@@ -95,27 +95,27 @@ module _ (h : Head) (kept : List Call) where
     module _ (first k : ℕ) (starts : first_back h b.holidays (j / slots_per_day h) ≡ first)
         (weeks : weeks_within first (farthest_back b.holidays (j / slots_per_day h)) ≡ suc k) (far : j ≡ i + (first + 7 * k) * 48)
         (later : 1 ≤ first) where
-      no-reference : (r : ℕ) → r < k → is_reference h b.slots b.holidays (j - (first + 7 * r) * slots_per_day h) ≡ false
+      no_reference : (r : ℕ) → r < k → is_reference h b.slots b.holidays (j - (first + 7 * r) * slots_per_day h) ≡ false
       unfolding is_reference
-      no-reference r l =
+      no_reference r l =
           let w : (first + 7 * r) * slots_per_day h ≡ (first + 7 * r) * 48 = ap (λ (n : ℕ). (first + 7 * r) * n) x.days in
           let e : deliveries (j - (first + 7 * r) * slots_per_day h) kept ≡ [] =
           x.empty _ (λ z. omega arith) (λ z. omega (arith, x.next)) in
-          rw (cause-at (j - (first + 7 * r) * slots_per_day h) (omega (arith, x.end)) e)
+          rw (cause_at_lem (j - (first + 7 * r) * slots_per_day h) (omega (arith, x.end)) e)
 
-      one-reference : references h b.slots b.holidays j
+      one_reference : references h b.slots b.holidays j
           ≡ take 4 (cond (is_reference h b.slots b.holidays i) (get_or b.slots.values i 0 ∷ []) [])
-      one-reference =
+      one_reference =
           let e : j ≡ i + (first + 7 * k) * slots_per_day h = far ∙ ap (λ (n : ℕ). i + (first + 7 * k) * n) (sym x.days) in
           references_searched h b.slots b.holidays j
-          ∙ rw (starts, weeks) (ap (take 4) (weeks_one h b.slots b.holidays i k first j e no-reference))
+          ∙ rw (starts, weeks) (ap (take 4) (weeks_one h b.slots b.holidays i k first j e no_reference))
 
-      pub outcome-last : outcome_at h b j
+      pub outcome_last : outcome_at h b j
           ≡ from_references (take 4 (cond (is_reference h b.slots b.holidays i) (get_or b.slots.values i 0 ∷ []) []))
-      outcome-last =
+      outcome_last =
           let last : j < slot_count h = omega (arith, x.end) in
           let none : deliveries j kept ≡ [] = x.empty j (λ z. omega (arith, x.next, x.apart)) (λ z. omega (arith, x.next)) in
           outside h b (read_none x.unread) j x.day
-          ∙ filled-last h b.slots b.holidays i b.agreed p j x.next x.end (gap_at j last none) (cause-at j last none)
-          (free-at j last x.unagreed) left_good (calm-at p in_book x.calm)
-          ∙ ap from_references one-reference
+          ∙ filled_last h b.slots b.holidays i b.agreed p j x.next x.end (gap_at j last none) (cause_at_lem j last none)
+          (free_at j last x.unagreed) left_good (calm_at p in_book x.calm)
+          ∙ ap from_references one_reference

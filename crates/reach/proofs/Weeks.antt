@@ -58,18 +58,18 @@ module _ (h : Head) (s t : Slots) (holidays : List ℕ) (i : ℕ) (same : (k : �
     abbrev Within : ℕ → Type 0
     Within days = (j ≡ i + days * n) × (Weeks days ⊎ FromSunday h holidays days i j)
 
-    day-of : (days : ℕ) → j ≡ i + days * n → d ≡ i / n + days
-    day-of days e = rw e (add-mul-div_right i days pos)
+    day_of_lem : (days : ℕ) → j ≡ i + days * n → d ≡ i / n + days
+    day_of_lem days e = rw e (add-mul-div_right i days pos)
 
-    on-sunday : (r : ℕ) → j ≡ i + (to_sunday (first_day h + d) + 7 * r) * n → weekday (first_day h + i / n) ≡ 0
-    on-sunday r e =
-        let x = day-of (to_sunday (first_day h + d) + 7 * r) e in
+    on_sunday : (r : ℕ) → j ≡ i + (to_sunday (first_day h + d) + 7 * r) * n → weekday (first_day h + i / n) ≡ 0
+    on_sunday r e =
+        let x = day_of_lem (to_sunday (first_day h + d) + 7 * r) e in
         let z = on_a_sunday (first_day h + d) (omega arith) in
         omega arith
 
-    pub references-same : ((days : ℕ) → Within days → ⊥) → references h s holidays j ≡ references h t holidays j
+    pub references_same : ((days : ℕ) → Within days → ⊥) → references h s holidays j ≡ references h t holidays j
     unfolding first_back farthest_back
-    references-same far =
+    references_same far =
         references_searched h s holidays j
         ∙ ap (take 4) (weeks_same (weeks_within (first_back h holidays d) (farthest_back holidays d)) (first_back h holidays d) j
         (λ r l e. go (eqb (get_or holidays d 0) 0) refl r l e))
@@ -88,7 +88,7 @@ module _ (h : Head) (s t : Slots) (holidays : List ℕ) (i : ℕ) (same : (k : �
               p,
               inr (record {
                 holiday = eqb-false _ _ x;
-                sunday = on-sunday r p;
+                sunday = on_sunday r p;
                 later = omega (arith, one_to_seven (first_day h + d));
                 most = f;
               }),

@@ -107,7 +107,8 @@ span_bytes h file k = take 14 (drop (6 * slot_count h + 14 * k) file)
 -- the records of two files that are not reached have the same bytes
 pub record SameRecords (h : Head) (b c : Cells) (i : ℕ) (file later : List ℕ) : Type 0 where
   pub slot_records : (j : ℕ) → j < slot_count h → (Reached h b c i j → ⊥) → slot_bytes file j ≡ slot_bytes later j
-  pub span_records : (k : ℕ) → k < length (spans h b) → Clear h b c i (get_or (spans h b) k no_span) → span_bytes h file k ≡ span_bytes h later k
+  pub span_records : (k : ℕ) → k < length (spans h b) → Clear h b c i (get_or (spans h b) k no_span) → span_bytes h file k ≡ span_bytes h
+      later k
 
 -- what does not move
 pub record Unmoved (h : Head) (b c : Cells) (i : ℕ) : Type 0 where
@@ -129,7 +130,8 @@ pub record BeforeAndAfter (h : Head) (calls more : List Call) (i : ℕ) : Type 0
   pub plain : Unmoved h (plain_of h calls) (plain_of h more) i
   pub written : (out later : List ℕ) (n m : ℕ)
       → publish_answer h (left_by h calls) out ≡ Length n → publish_answer h (left_by h more) later ≡ Length m
-      → SameRecords h (plain_of h calls) (plain_of h more) i (publish_after h (left_by h calls) out) (publish_after h (left_by h more) later)
+      → SameRecords h (plain_of h calls) (plain_of h more) i (publish_after h (left_by h calls) out)
+      (publish_after h (left_by h more) later)
 
 -- for every list of calls after an opening and one more delivery that is stored at slot i
 abbrev pub Reach : Type 0

@@ -73,7 +73,8 @@ module _ (h : Head) (b : Cells) where
   counted (suc k) d e =
       let f : h.days - d ≡ suc k = omega arith in
       let p = counted k (suc d) (omega arith) in
-      let q : sum (one r) (suc d) (suc k) ≡ sum (one r) (d + 1) (h.days - d) = ap (λ (x : ℕ). sum (one r) x (suc k)) (sym (add-one d)) ∙ ap (sum (one r) (d + 1)) (sym f) in
+      let q : sum (one r) (suc d) (suc k) ≡ sum (one r) (d + 1) (h.days - d) = ap (λ (x : ℕ). sum (one r) x (suc k)) (sym (add-one d)) ∙ ap
+      (sum (one r) (d + 1)) (sym f) in
       rw (length-append, p) (from (sum (one r) (suc d) (suc k)) q ∙ ap (λ (x : ℕ). x - 1) (sym (sum_first (one r) d (suc k))))
     where
       from : (rest : ℕ) → rest ≡ sum (one r) (d + 1) (h.days - d) → length (span_from h b d) + (rest - 1) ≡ one r d + rest - 1

@@ -21,7 +21,7 @@ use Rattle.rules.specs.Inner.Walks.{zero_at, zero_before, direct_at, direct_of, 
 use Rattle.rules.proofs.Fillings.{filled_agreed}
 use Rattle.rules.proofs.Lines.{line_none}
 use Rattle.rules.proofs.Outages.{filled_good}
-use Rattle.rules.proofs.Runs.{run-good, run-agreed}
+use Rattle.rules.proofs.Runs.{run_good, run_agreed}
 use Rattle.rules.proofs.Shapes.{shape_filled}
 use Rattle.rules.proofs.Summaries.{added_actual, added_agreed, summary_on}
 
@@ -89,7 +89,7 @@ module _ (h : Head) (s : Slots) (a : Agreed) (i : ℕ) (d : direct_at h s a i �
   unfolding line_before is_agreed
   direct_line =
       line_none h s a.versions i
-      (cases (λ p. run-good h s a.versions i p) (λ p q. run-agreed h s a.versions i (ltb-true _ _ q)))
+      (cases (λ p. run_good h s a.versions i p) (λ p q. run_agreed h s a.versions i (ltb-true _ _ q)))
 
 -- the sum of the direct slots from `from` as far as `at`, and outage zero before that slot
 pub record Summed (h : Head) (s : Slots) (a : Agreed) (from to : ℕ) (n : ℕ) (last : Bool) (at : ℕ) : Type 0 where
@@ -118,10 +118,10 @@ module _ (h : Head) (s : Slots) (a : Agreed) (from to total : ℕ) (outage : Boo
         }
 
     -- where the slots end
-    pub summed-end : (at < to → direct_at h s a at ≡ false)
+    pub summed_end : (at < to → direct_at h s a at ≡ false)
         → DirectTo h s a from to at outage × (total ≡ sum (λ i. (direct_of h s a i).value) from (at - from))
         × (total ≤ (at - from) * 4_294_967_295)
-    summed-end stops = (
+    summed_end stops = (
       record { further = held.further; inside = held.inside; direct = held.direct; stops = stops; outage = held.outage },
       held.total,
       held.low,
@@ -136,11 +136,11 @@ module _ (h : Head) (s : Slots) (a : Agreed) (from end : ℕ) (direct : (i : ℕ
 
   -- the sums of a stretch with the next j slots, which are direct
   module _ (holidays : List ℕ) (start k : ℕ) (at : from ≡ start + k) (m : Summary) (e : m ≡ summary_of h s a holidays start k) where
-    summary-direct : (j : ℕ) → from + j ≤ end
+    summary_direct : (j : ℕ) → from + j ≤ end
         → actual_added m (sum (λ i. (direct_of h s a i).value) from j) ≡ summary_of h s a holidays start (k + j)
     unfolding sum
-    summary-direct zero l = simp add-zero e
-    summary-direct (suc j) l =
+    summary_direct zero l = simp add-zero e
+    summary_direct (suc j) l =
         let i : from + j ≡ start + (k + j) = omega arith in
         let d = direct (from + j) (omega arith) (omega arith) in
         let before = sum (λ x. (direct_of h s a x).value) from j in
@@ -154,16 +154,16 @@ module _ (h : Head) (s : Slots) (a : Agreed) (from end : ℕ) (direct : (i : ℕ
           filled = m.filled;
         } in
         rw (add-suc, ← add-one (k + j))
-        (summary_on h s a holidays start (k + j) (actual_added m before) _ o 0 (summary-direct j (omega arith))
+        (summary_on h s a holidays start (k + j) (actual_added m before) _ o 0 (summary_direct j (omega arith))
         (parts ∙ direct_added h s a (from + j) d (actual_added m before))
         (direct_filled h s a (from + j) d holidays ∙ ap (filled_at h s a holidays) i)
         (direct_shape h s a (from + j) d holidays ∙ ap (shape_at h s a holidays) i))
 
-    pub summary-run : (l : ℕ) → end ≡ start + l → from ≤ end
+    pub summary_run : (l : ℕ) → end ≡ start + l → from ≤ end
         → actual_added m (sum (λ i. (direct_of h s a i).value) from (end - from)) ≡ summary_of h s a holidays start l
-    summary-run l x y =
+    summary_run l x y =
         let z : k + (end - from) ≡ l = omega arith in
-        rw z at (summary-direct (end - from) (omega arith))
+        rw z at (summary_direct (end - from) (omega arith))
 
 -- where no slot is direct, the first has a cause and is not agreed
 pub none_direct : (h : Head) (s : Slots) (a : Agreed) (from to end : ℕ) (last : Bool) → DirectTo h s a from to end last → end ≤ from

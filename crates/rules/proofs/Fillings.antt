@@ -28,14 +28,14 @@ module _ (h : Head) (s : Slots) (a : Agreed) (holidays : List ℕ) (i : ℕ) (ca
     filled_zero z = rw (cause, t, z)
 
     module _ (z : is_outage_zero h s i ≡ false) where
-      pub filled-line : (v : ℕ) → v ≡ linear_value h s a.versions i → is_linear h s a.versions i ≡ true
+      pub filled_line : (v : ℕ) → v ≡ linear_value h s a.versions i → is_linear h s a.versions i ≡ true
           → record { value = v; quality = S; method = 2 } ≡ filled_at h s a holidays i
       unfolding filled_at
-      filled-line v e l = rw (cause, t, z, l, e)
+      filled_line v e l = rw (cause, t, z, l, e)
 
-      pub filled-rest : is_linear h s a.versions i ≡ false → from_references (references h s holidays i) ≡ filled_at h s a holidays i
+      pub filled_rest : is_linear h s a.versions i ≡ false → from_references (references h s holidays i) ≡ filled_at h s a holidays i
       unfolding filled_at
-      filled-rest l = rw (cause, t, z, l)
+      filled_rest l = rw (cause, t, z, l)
 
 module _ (P : Outcome → Type 0) where
   -- a slot before its span is scaled

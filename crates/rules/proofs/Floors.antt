@@ -114,8 +114,8 @@ module _ (z : ℤ) (f : SFits w64 z) (m : ℕ) (l : m < 2 ^ 32) (p : 0 < m) wher
     pub down_fits : SFits w64 (to_z w64 (of_z w64 (quot_z zr mr)) -ℤ pos 1)
     down_fits = subst (SFits w64) (sym down_is) floor_fits
 
-    pub down-read : to_z w64 (of_z w64 (to_z w64 (of_z w64 (quot_z zr mr)) -ℤ pos 1)) ≡ floor_over z m
-    down-read = to_z-of_z w64 _ down_fits ∙ down_is
+    pub down_read : to_z w64 (of_z w64 (to_z w64 (of_z w64 (quot_z zr mr)) -ℤ pos 1)) ≡ floor_over z m
+    down_read = to_z-of_z w64 _ down_fits ∙ down_is
 
   pub whole_read : lt_z (to_z w64 (of_z w64 (rem_z zr mr))) (pos 0) ≡ false → to_z w64 (of_z w64 (quot_z zr mr)) ≡ floor_over z m
   whole_read t = quot_read ∙ floor_whole m p z (negative false t)
@@ -257,29 +257,29 @@ module _ (line : StraightLine) (w : Drawn line) where
   risen_fits = subst (SFits w64) (sym risen_is) (record { sfits = omega (arith, risen_low) })
 
   module _ (f : ℤ) (e : f ≡ floor_over (to_z w64 (of_z w64 risen)) m) where
-    floor-is : f ≡ floor_over ((pos r -ℤ pos l) *ℤ pos j) m
-    floor-is = e ∙ ap (λ (z : ℤ). floor_over z m) (to_z-of_z w64 risen risen_fits ∙ risen_is)
+    floor_is : f ≡ floor_over ((pos r -ℤ pos l) *ℤ pos j) m
+    floor_is = e ∙ ap (λ (z : ℤ). floor_over z m) (to_z-of_z w64 risen risen_fits ∙ risen_is)
 
-    floor-fit : SFits w64 f
-    floor-fit = subst (SFits w64) (sym floor-is) (record { sfits = omega (arith, floor_mag ((pos r -ℤ pos l) *ℤ pos j) m, risen_low) })
+    floor_fit : SFits w64 f
+    floor_fit = subst (SFits w64) (sym floor_is) (record { sfits = omega (arith, floor_mag ((pos r -ℤ pos l) *ℤ pos j) m, risen_low) })
 
     abbrev value : ℤ
     value = to_z w64 l +ℤ to_z w64 (of_z w64 f)
 
-    value-is : value ≡ pos ((l * (m - j) + r * j) / m)
-    value-is =
-        (λ i. to_z_pos w64 l (omega arith) i +ℤ (to_z-of_z w64 f floor-fit ∙ floor-is) i) ∙ line_exact l r j m (omega arith) (omega arith)
+    value_is : value ≡ pos ((l * (m - j) + r * j) / m)
+    value_is =
+        (λ i. to_z_pos w64 l (omega arith) i +ℤ (to_z-of_z w64 f floor_fit ∙ floor_is) i) ∙ line_exact l r j m (omega arith) (omega arith)
 
     pub value_fits : SFits w64 value
     value_fits =
-        subst (SFits w64) (sym value-is)
+        subst (SFits w64) (sym value_is)
         (record { sfits = omega (arith, weighted_small l r j m (omega arith) (omega arith) 500_000 w.left w.right) })
 
     value_read : to_z w64 (of_z w64 value) ≡ pos ((l * (m - j) + r * j) / m)
-    value_read = to_z-of_z w64 value value_fits ∙ value-is
+    value_read = to_z-of_z w64 value value_fits ∙ value_is
 
-    pub value-whole : T (non_neg (to_z w64 (of_z w64 value))) × Fits w32 (nat_abs (to_z w64 (of_z w64 value)))
-    value-whole =
+    pub value_whole : T (non_neg (to_z w64 (of_z w64 value))) × Fits w32 (nat_abs (to_z w64 (of_z w64 value)))
+    value_whole =
         subst (λ (z : ℤ). T (non_neg z) × Fits w32 (nat_abs z)) (sym value_read)
         (tt, record { fits = omega (arith, weighted_small l r j m (omega arith) (omega arith) 500_000 w.left w.right) })
 

@@ -17,11 +17,12 @@ use Rattle.rules.specs.declared.linear.StraightLine.{StraightLine}
 use Rattle.rules.specs.Opening.{Slots, slot_count}
 use Rattle.rules.specs.Tests.{good_at}
 use Rattle.rules.specs.Filling.{in_run, run_before, run_from, run_length, is_linear, line_value, linear_value}
-use Rattle.rules.specs.Inner.Walks.{zero_at, zero_before, bare_line, full_line, line_through, line_at, line_before, end_tests, length_within}
+use Rattle.rules.specs.Inner.Walks.{zero_at, zero_before, bare_line, full_line, line_through, line_at, line_before, end_tests}
+use Rattle.rules.specs.Inner.Walks.{length_within}
 use Rattle.rules.specs.Inner.Walks.{Drawn, walk_at}
 use Rattle.rules.proofs.Bounds.{Bounded, cap_high}
-use Rattle.rules.proofs.Runs.{before_low, before_none, before_on, from_on, place-within, start-kept, length-kept, linear-kept}
-use Rattle.rules.proofs.Runs.{start_first, length_first, linear-first, linear_tells}
+use Rattle.rules.proofs.Runs.{before_low, before_none, before_on, from_on, place_within, start_kept, length_kept, linear_kept}
+use Rattle.rules.proofs.Runs.{start_first, length_first, linear_first, linear_tells}
 use Rattle.rules.proofs.ValueBounds.{good_small}
 use Rattle.rules.proofs.Outages.{zero_on}
 
@@ -53,17 +54,17 @@ module _ (h : Head) (s : Slots) (v : List ℕ) where
       (either (is_linear h s v i))
 
   module _ (i : ℕ) (l : i < slot_count h) (e : in_run h s v i ≡ true) where
-    full-on : one_on (full_line h s v i) ≡ full_line h s v (suc i)
-    full-on = rw (start-kept h s v i l e, length-kept h s v i l e, before_on h s v i l e, add-one)
+    full_on : one_on (full_line h s v i) ≡ full_line h s v (suc i)
+    full_on = rw (start_kept h s v i l e, length_kept h s v i l e, before_on h s v i l e, add-one)
 
-    bare-on : one_on (bare_line (suc (run_before h s v i))) ≡ bare_line (suc (run_before h s v (suc i)))
-    bare-on = rw (before_on h s v i l e, add-one)
+    bare_on : one_on (bare_line (suc (run_before h s v i))) ≡ bare_line (suc (run_before h s v (suc i)))
+    bare_on = rw (before_on h s v i l e, add-one)
 
-    through-on : one_on (line_through h s v i) ≡ line_through h s v (suc i)
-    through-on =
+    through_on : one_on (line_through h s v i) ≡ line_through h s v (suc i)
+    through_on =
         ⊎_elim
-        (λ t. ap one_on (through_full i t) ∙ full-on ∙ sym (through_full (suc i) (linear-kept h s v i l e ∙ t)))
-        (λ t. ap one_on (through_bare i t) ∙ bare-on ∙ sym (through_bare (suc i) (linear-kept h s v i l e ∙ t)))
+        (λ t. ap one_on (through_full i t) ∙ full_on ∙ sym (through_full (suc i) (linear_kept h s v i l e ∙ t)))
+        (λ t. ap one_on (through_bare i t) ∙ bare_on ∙ sym (through_bare (suc i) (linear_kept h s v i l e ∙ t)))
         (either (is_linear h s v i))
 
   -- a line of place 0 stands before the first slot of a run
@@ -94,36 +95,36 @@ module _ (h : Head) (s : Slots) (v : List ℕ) where
   line_kept zero p l t e z = absurd (z (ap (λ (q : StraightLine). q.place) e))
   line_kept (suc i) p l t e z =
       ⊎_elim
-      (λ u. ap one_on (e ∙ line_some i u) ∙ through-on i (omega arith) u ∙ sym (line_some (suc i) t))
+      (λ u. ap one_on (e ∙ line_some i u) ∙ through_on i (omega arith) u ∙ sym (line_some (suc i) t))
       (λ u. absurd (z (ap (λ (q : StraightLine). q.place) (e ∙ sym (line_none i u)))))
       (either (in_run h s v i))
 
   -- at the first slot of a run
   module _ (i : ℕ) (l : i < slot_count h) (e : in_run h s v i ≡ true) (first : run_before h s v i ≡ 0) where
-    bare-first : is_linear h s v i ≡ false → bare_line 1 ≡ line_at h s v i
+    bare_first : is_linear h s v i ≡ false → bare_line 1 ≡ line_at h s v i
     unfolding line_at line_through
-    bare-first t = rw (e, t, first)
+    bare_first t = rw (e, t, first)
 
-    pub line-first-slot : i < 1 → bare_line 1 ≡ line_at h s v i
-    line-first-slot z = bare-first (linear-first h s v i l e first ∙ simp (lt-leb 1 i z, and-false))
+    pub line_first_slot : i < 1 → bare_line 1 ≡ line_at h s v i
+    line_first_slot z = bare_first (linear_first h s v i l e first ∙ simp (lt-leb 1 i z, and-false))
 
     module _ (p : 1 ≤ i) where
-      pub line-no-left : good_at h s (i - 1) ≡ false → bare_line 1 ≡ line_at h s v i
-      line-no-left t = bare-first (linear-first h s v i l e first ∙ simp (t, and-false))
+      pub line_no_left : good_at h s (i - 1) ≡ false → bare_line 1 ≡ line_at h s v i
+      line_no_left t = bare_first (linear_first h s v i l e first ∙ simp (t, and-false))
 
       module _ (t : good_at h s (i - 1) ≡ true) (g : ℕ) (q : g ≡ length_within h s v i) where
         abbrev ending : Bool
         ending = every (end_tests h s i (run_from h s v i (slot_count h - i)))
 
-        linear-is : is_linear h s v i ≡ ending
-        linear-is = linear-first h s v i l e first ∙ (rw (le-leb 1 i p, t))
+        linear_is : is_linear h s v i ≡ ending
+        linear_is = linear_first h s v i l e first ∙ (rw (le-leb 1 i p, t))
 
-        pub line-no-right : g ≡ 0 → bare_line 1 ≡ line_at h s v i
+        pub line_no_right : g ≡ 0 → bare_line 1 ≡ line_at h s v i
         unfolding length_within
-        line-no-right z =
+        line_no_right z =
             ⊎_elim
             (λ u. absurd (let y : run_from h s v i (slot_count h - i) ≡ 0 = sym (rw u at q) ∙ z in omega (arith, from_on h s v i l e)))
-            (λ u. bare-first (linear-is ∙ u))
+            (λ u. bare_first (linear_is ∙ u))
             (either ending)
 
         module _ (z : g ≡ 0 → ⊥) where
@@ -134,44 +135,44 @@ module _ (h : Head) (s : Slots) (v : List ℕ) where
           pub line_ends : i + g < slot_count h
           line_ends = rw ended.1 (ltb-true _ _ (passed (end_tests h s i (run_from h s v i (slot_count h - i))) ended.0 1))
 
-          pub line-found : record { place = 1; length = g; left = get_or s.values (i - 1) 0; right = get_or s.values (i + g) 0 }
+          pub line_found : record { place = 1; length = g; left = get_or s.values (i - 1) 0; right = get_or s.values (i + g) 0 }
               ≡ line_at h s v i
           unfolding line_at line_through
-          line-found =
-              rw (ended.1, e, linear-is ∙ ended.0, start_first h s v i l e first, length_first h s v i l e first, first)
+          line_found =
+              rw (ended.1, e, linear_is ∙ ended.0, start_first h s v i l e first, length_first h s v i l e first, first)
 
   -- a slot of a run, with the line that a pass knows
   module _ (b : Bounded h) (i : ℕ) (l : i < slot_count h) (e : in_run h s v i ≡ true) (p : StraightLine) (q : p ≡ line_at h s v i) where
-    line-full : is_linear h s v i ≡ true → p ≡ full_line h s v i
-    line-full t = q ∙ line_some i e ∙ through_full i t
+    line_full : is_linear h s v i ≡ true → p ≡ full_line h s v i
+    line_full t = q ∙ line_some i e ∙ through_full i t
 
-    line-bare : is_linear h s v i ≡ false → p ≡ bare_line (suc (run_before h s v i))
-    line-bare t = q ∙ line_some i e ∙ through_bare i t
+    line_bare : is_linear h s v i ≡ false → p ≡ bare_line (suc (run_before h s v i))
+    line_bare t = q ∙ line_some i e ∙ through_bare i t
 
     drawn : is_linear h s v i ≡ true → Drawn (full_line h s v i)
     drawn t =
         let w = linear_tells h s v i t in
         record {
-          place = place-within h s v i l e;
+          place = place_within h s v i l e;
           length = omega (arith, w.short, mul-le-mul (le_refl (run_length h s v i)) b.interval_low);
           left = le_trans (good_small h b s _ w.left_good) (cap_high h b);
           right = le_trans (good_small h b s _ w.right_good) (cap_high h b);
         }
 
-    pub line-fills : 0 < p.length
+    pub line_fills_lem : 0 < p.length
         → (is_linear h s v i ≡ true) × Drawn p × (line_value p.left p.right p.place p.length ≡ linear_value h s v i)
     unfolding linear_value
-    line-fills z =
+    line_fills_lem z =
         ⊎_elim
-        (λ t. rw (line-full t) (t, drawn t, refl))
-        (λ t. absurd (let y : p.length ≡ 0 = ap (λ (r : StraightLine). r.length) (line-bare t) in omega arith))
+        (λ t. rw (line_full t) (t, drawn t, refl))
+        (λ t. absurd (let y : p.length ≡ 0 = ap (λ (r : StraightLine). r.length) (line_bare t) in omega arith))
         (either (is_linear h s v i))
 
-    pub line-leaves : p.length ≤ 0 → is_linear h s v i ≡ false
-    line-leaves z =
+    pub line_leaves : p.length ≤ 0 → is_linear h s v i ≡ false
+    line_leaves z =
         ⊎_elim
-        (λ t. absurd (let y : p.length ≡ run_length h s v i = ap (λ (r : StraightLine). r.length) (line-full t) in
-        omega (arith, place-within h s v i l e)))
+        (λ t. absurd (let y : p.length ≡ run_length h s v i = ap (λ (r : StraightLine). r.length) (line_full t) in
+        omega (arith, place_within h s v i l e)))
         (λ t. t)
         (either (is_linear h s v i))
 

@@ -16,7 +16,7 @@ use Rattle.rules.specs.Opening.{Slots, Agreed, slot_count}
 use Rattle.rules.specs.Tests.{is_gap, outage_bit, is_good, cause_of, cause_at, good_at}
 use Rattle.rules.specs.Filling.{outage_at, outage_before, outage_after, is_outage_zero, in_run, filled_at}
 use Rattle.rules.specs.Inner.Walks.{actual_of, zero_at, zero_before}
-use Rattle.rules.proofs.Runs.{run-unzeroed}
+use Rattle.rules.proofs.Runs.{run_unzeroed}
 
 module _ (v s : List ℕ) where
   pub gap : (i : ℕ) → get_or v i 0 ≡ 0 → is_gap v i ≡ true
@@ -58,26 +58,26 @@ module _ (v s : List ℕ) where
   -- slot i, a gap behind slot j
   module _ (n i j : ℕ) (e : i ≡ suc j) (l : i < n) (g : is_gap v i ≡ true) where
     -- inside a run the answer for the slot before stands
-    pub zero-kept : is_gap v j ≡ true → zero_before v s n i ≡ zero_at v s n i
+    pub zero_kept : is_gap v j ≡ true → zero_before v s n i ≡ zero_at v s n i
     unfolding zero_before zero_at outage_before
-    zero-kept d =
+    zero_kept d =
         let a : outage_after v s j (n - j) ≡ outage_after v s (suc j) (n - suc j) = rw add-one at (after_gap n j (omega arith) d) in
         let k : is_gap v (suc j) ≡ true = rw e at g in
         rw (e, d, k, a)
 
     -- at its first slot the slot before is looked at
     module _ (d : is_gap v j ≡ false) where
-      before-run : outage_before v s i ≡ outage_bit (get_or s j 0)
+      before_run : outage_before v s i ≡ outage_bit (get_or s j 0)
       unfolding outage_before outage_at
-      before-run = rw (e, d)
+      before_run = rw (e, d)
 
       pub zero_before_lem : outage_bit (get_or s j 0) ≡ true → zero_at v s n i ≡ true
       unfolding zero_at
-      zero_before_lem o = rw (g, before-run, o)
+      zero_before_lem o = rw (g, before_run, o)
 
-      pub zero-after : outage_bit (get_or s j 0) ≡ false → zero_at v s n i ≡ outage_after v s i (n - i)
+      pub zero_after : outage_bit (get_or s j 0) ≡ false → zero_at v s n i ≡ outage_after v s i (n - i)
       unfolding zero_at
-      zero-after o = rw (g, before-run, o)
+      zero_after o = rw (g, before_run, o)
 
   -- one slot on, k slots behind slot i
   pub zero_on : (n i k : ℕ) → zero_at v s n (i + k) ≡ zero_before v s n (i + (k + 1))
@@ -107,4 +107,4 @@ module _ (h : Head) (s : Slots) where
   pub run_not_zeroed : (v : List ℕ) (n i : ℕ) → n ≡ slot_count h → in_run h s v i ≡ true
       → false ≡ zero_before s.versions s.statuses n (suc i)
   unfolding zero_before
-  run_not_zeroed v n i l e = sym (zero_applies n l i ∙ run-unzeroed h s v i e)
+  run_not_zeroed v n i l e = sym (zero_applies n l i ∙ run_unzeroed h s v i e)

@@ -17,7 +17,7 @@ use Rattle.rules.proofs.Qualities.{Filled, Form, filled_form, scaled_form}
 use Rattle.rules.proofs.Qualities.Filled.{delivered, agreed, outage, linear, same_day, nothing}
 use Rattle.rules.proofs.Qualities.Form.{unscaled}
 use Rattle.rules.proofs.Neighbours.{span_found}
-use Rattle.rules.proofs.Ranges.{advance_below, range_of_ordered, range_of_low, least-within}
+use Rattle.rules.proofs.Ranges.{advance_below, range_of_ordered, range_of_low, least_within}
 use Rattle.rules.proofs.Scaling.{new_high}
 use Rattle.rules.proofs.Places.{Place, place, span_end}
 use Rattle.rules.proofs.Places.Place.{outside, inside}
@@ -31,7 +31,7 @@ module _ (h : Head) (b : Cells) (first last : ℕ) where
   -- R lies between them
   pub advance_within : ((range h b first last).lowest ≤ R h b first last) × (R h b first last ≤ (range h b first last).highest)
   unfolding R
-  advance_within = least-within (range h b first last) (actual_sum h b first last) ends_ordered
+  advance_within = least_within (range h b first last) (actual_sum h b first last) ends_ordered
 
   pub highest_low : WidthsLow b.widths → (range h b first last).highest ≤ 99_999_999
   unfolding range G
@@ -59,16 +59,16 @@ module _ (h : Head) (bounds : Bounded h) (b : Cells) where
     form : Form (filled_at h b.slots b.agreed b.holidays i)
     form = unscaled (filled_form h b.slots b.agreed b.holidays i) (filled_low h bounds b.slots b.agreed b.holidays i low)
 
-    span-form : (first last : ℕ) → Form (in_span h b first last i)
-    span-form first last =
+    span_form : (first last : ℕ) → Form (in_span h b first last i)
+    span_form first last =
         spanned_by_lem Form h b first last i (λ q. scaled_form (filled_form h b.slots b.agreed b.holidays i) q _) form
 
-    pub outcome-form : Form (outcome_at h b i)
-    outcome-form = go (place h bounds b i)
+    pub outcome_form : Form (outcome_at h b i)
+    outcome_form = go (place h bounds b i)
       where
         go : {o : Outcome} → Place h b i o → Form o
         go outside = form
-        go (inside s n l m) = span-form s.first s.last
+        go (inside s n l m) = span_form s.first s.last
 
     span_fits : WidthsLow b.widths → (first last : ℕ) → i < start h b first last + slots_in h b first last
         → (in_span h b first last i).value < 100_000_000

@@ -19,7 +19,8 @@ use Rattle.rules.proofs.Boundaries.{Last, Next, last_tells, last_found, next_tel
 use Rattle.rules.proofs.Neighbours.{Neighbours, neighbours}
 
 -- a stretch between two boundaries ends where the later one is
-pub span_end : (h : Head) (b : Cells) (first last : ℕ) → first ≤ last → start h b first last + slots_in h b first last ≡ last * slots_per_day h
+pub span_end : (h : Head) (b : Cells) (first last : ℕ) → first ≤ last → start h b first last + slots_in h b first last ≡ last *
+    slots_per_day h
 unfolding start slots_in
 span_end h b first last l =
     let e : first + (last - first) ≡ last = omega arith in
@@ -56,7 +57,8 @@ module _ (h : Head) (bounds : Bounded h) (b : Cells) where
       (record { low = low; here = n.first_read; after = λ x y z. p.before x (omega arith) (omega arith) }) in
       let g : next_read b.read_versions (d + 1) (h.days - d) ≡ some s.last =
       next_found b.read_versions (h.days - d) (d + 1) s.last
-      (record { low = omega arith; high = omega (arith, n.within); here = n.last_read_lem; before = λ x y z. p.before x (omega arith) z }) in
+      (record { low = omega arith; high = omega (arith, n.within); here = n.last_read_lem; before = λ x y z. p.before x (omega arith) z })
+      in
       rw (f, g)
 
   pub place : (i : ℕ) → Place h b i (outcome_at h b i)

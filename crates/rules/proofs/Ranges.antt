@@ -49,8 +49,8 @@ module _ (range : Range) (v : ℕ) where
 
   module _ (ordered : range.lowest ≤ range.highest) where
     -- it lies in the range
-    pub least-within : (range.lowest ≤ least_in range v) × (least_in range v ≤ range.highest)
-    least-within = go least
+    pub least_within : (range.lowest ≤ least_in range v) × (least_in range v ≤ range.highest)
+    least_within = go least
       where
         go : {r : ℕ} → Least range v r → (range.lowest ≤ r) × (r ≤ range.highest)
         go (below l) = (omega arith, ordered)
@@ -58,8 +58,8 @@ module _ (range : Range) (v : ℕ) where
         go (over l m) = (ordered, omega arith)
 
     -- where an advance in the range is at least v, it is at least v too, and no higher than that one
-    pub least-least : (a : ℕ) → range.lowest ≤ a → a ≤ range.highest → v ≤ a → (v ≤ least_in range v) × (least_in range v ≤ a)
-    least-least a l m n = go least
+    pub least_least : (a : ℕ) → range.lowest ≤ a → a ≤ range.highest → v ≤ a → (v ≤ least_in range v) × (least_in range v ≤ a)
+    least_least a l m n = go least
       where
         go : {r : ℕ} → Least range v r → (v ≤ r) × (r ≤ a)
         go (below k) = (k, l)
@@ -67,8 +67,8 @@ module _ (range : Range) (v : ℕ) where
         go (over j k) = (omega arith, omega arith)
 
     -- where there is none, it is the highest
-    pub least-none : range.highest < v → least_in range v ≡ range.highest
-    least-none n = go least
+    pub least_none : range.highest < v → least_in range v ≡ range.highest
+    least_none n = go least
       where
         go : {r : ℕ} → Least range v r → r ≡ range.highest
         go (below l) = omega arith
@@ -77,20 +77,20 @@ module _ (range : Range) (v : ℕ) where
 
     module _ (t : ℕ) where
       -- the test of state 0 holds exactly when some advance in the range is within t of v
-      pub near-found : is_near range v t ≡ true → (a : ℕ) × (range.lowest ≤ a) × (a ≤ range.highest) × (apart a v ≤ t)
+      pub near_found : is_near range v t ≡ true → (a : ℕ) × (range.lowest ≤ a) × (a ≤ range.highest) × (apart a v ≤ t)
       unfolding is_near
-      near-found e =
+      near_found e =
           let p = and_parts (leb (range.lowest - v) t) (leb (v - range.highest) t) e in
-          (least_in range v, least-within.0, least-within.1, go least (leb-true _ _ p.0) (leb-true _ _ p.1))
+          (least_in range v, least_within.0, least_within.1, go least (leb-true _ _ p.0) (leb-true _ _ p.1))
         where
           go : {r : ℕ} → Least range v r → range.lowest - v ≤ t → v - range.highest ≤ t → apart r v ≤ t
           go (below l) p q = omega arith
           go (inside l m) p q = omega arith
           go (over l m) p q = omega arith
 
-      pub near-holds : (a : ℕ) → range.lowest ≤ a → a ≤ range.highest → apart a v ≤ t → is_near range v t ≡ true
+      pub near_holds : (a : ℕ) → range.lowest ≤ a → a ≤ range.highest → apart a v ≤ t → is_near range v t ≡ true
       unfolding is_near
-      near-holds a l m n =
+      near_holds a l m n =
           let p : leb (range.lowest - v) t ≡ true = le-leb (range.lowest - v) t (omega arith) in
           let q : leb (v - range.highest) t ≡ true = le-leb (v - range.highest) t (omega arith) in
           rw (p, q)

@@ -82,7 +82,8 @@ module _ (h : Head) (s : Slots) (holidays : List ℕ) where
       rw (lt-leb ((days + 7 * k) * slots_per_day h) j (omega (arith, mul-le-mul_right (slots_per_day h) more)))
 
   -- the first week of a search, and its last
-  search_first : (days j k : ℕ) → days * slots_per_day h ≤ j → search days j (suc k) ≡ week days j 0 ++ search 7 (j - days * slots_per_day h) k
+  search_first : (days j k : ℕ) → days * slots_per_day h ≤ j → search days j (suc k) ≡ week days j 0 ++ search 7
+      (j - days * slots_per_day h) k
   unfolding each_week week_back
   search_first days j k l =
       let none : days + 7 * 0 ≡ days = omega arith in

@@ -29,25 +29,26 @@ not_agreed v i l = le-ltb _ _ l
 module _ (h : Head) (s : Slots) (v : List ℕ) where
   -- slot i has a cause and is neither agreed nor zeroed
   module _ (i : ℕ) where
-    pub run_holds : good_at h s i ≡ false → is_agreed v i ≡ false → (o : Bool) → o ≡ is_outage_zero h s i → o ≡ false → in_run h s v i ≡ true
+    pub run_holds : good_at h s i ≡ false → is_agreed v i ≡ false → (o : Bool) → o ≡ is_outage_zero h s i → o ≡ false → in_run h s v i ≡
+        true
     unfolding in_run
     run_holds p q o r z = rw (p, q, sym r ∙ z)
 
-    pub run-unzeroed : in_run h s v i ≡ true → is_outage_zero h s i ≡ false
+    pub run_unzeroed : in_run h s v i ≡ true → is_outage_zero h s i ≡ false
     unfolding in_run
-    run-unzeroed e = not-true _ (and_parts (not (good_at h s i) && not (is_agreed v i)) (not (is_outage_zero h s i)) e).1
+    run_unzeroed e = not-true _ (and_parts (not (good_at h s i) && not (is_agreed v i)) (not (is_outage_zero h s i)) e).1
 
-    pub run-good : good_at h s i ≡ true → in_run h s v i ≡ false
+    pub run_good : good_at h s i ≡ true → in_run h s v i ≡ false
     unfolding in_run
-    run-good p = rw p
+    run_good p = rw p
 
-    pub run-agreed : 0 < get_or v i 0 → in_run h s v i ≡ false
+    pub run_agreed : 0 < get_or v i 0 → in_run h s v i ≡ false
     unfolding in_run is_agreed
-    run-agreed p = simp (lt-ltb _ _ p, and-false)
+    run_agreed p = simp (lt-ltb _ _ p, and-false)
 
-    pub run-zeroed : (o : Bool) → o ≡ is_outage_zero h s i → o ≡ true → in_run h s v i ≡ false
+    pub run_zeroed : (o : Bool) → o ≡ is_outage_zero h s i → o ≡ true → in_run h s v i ≡ false
     unfolding in_run
-    run-zeroed o r z = simp (sym r ∙ z, and-false)
+    run_zeroed o r z = simp (sym r ∙ z, and-false)
 
   pub before_low : (i : ℕ) → run_before h s v i ≤ i
   unfolding run_before
@@ -91,22 +92,22 @@ module _ (h : Head) (s : Slots) (v : List ℕ) where
     unfolding run_before
     before_on = rw e
 
-    pub place-within : suc (run_before h s v i) ≤ run_length h s v i
+    pub place_within : suc (run_before h s v i) ≤ run_length h s v i
     unfolding run_length
-    place-within = omega (arith, from_on i l e)
+    place_within = omega (arith, from_on i l e)
 
     -- one slot on the run has the same start and length
-    pub start-kept : run_start h s v (suc i) ≡ run_start h s v i
+    pub start_kept : run_start h s v (suc i) ≡ run_start h s v i
     unfolding run_start
-    start-kept = omega (arith, before_on)
+    start_kept = omega (arith, before_on)
 
-    pub length-kept : run_length h s v (suc i) ≡ run_length h s v i
+    pub length_kept : run_length h s v (suc i) ≡ run_length h s v i
     unfolding run_length
-    length-kept = omega (arith, before_on, from_on i l e)
+    length_kept = omega (arith, before_on, from_on i l e)
 
-    pub linear-kept : is_linear h s v (suc i) ≡ is_linear h s v i
+    pub linear_kept : is_linear h s v (suc i) ≡ is_linear h s v i
     unfolding is_linear
-    linear-kept = rw (start-kept, length-kept)
+    linear_kept = rw (start_kept, length_kept)
 
     -- the first slot of a run
     module _ (first : run_before h s v i ≡ 0) where
@@ -121,9 +122,9 @@ module _ (h : Head) (s : Slots) (v : List ℕ) where
       abbrev pub tests : Bool
       tests = every (line_tests h s i (run_from h s v i (slot_count h - i)))
 
-      pub linear-first : is_linear h s v i ≡ tests
+      pub linear_first : is_linear h s v i ≡ tests
       unfolding is_linear
-      linear-first = rw (start_first, length_first)
+      linear_first = rw (start_first, length_first)
 
   -- the run that begins at slot i, k slots on
   module _ (i k : ℕ) (e : run_from h s v i (slot_count h - i) ≡ k + run_from h s v (i + k) (slot_count h - (i + k))) where
@@ -137,26 +138,26 @@ module _ (h : Head) (s : Slots) (v : List ℕ) where
     ends : in_run h s v (i + k) ≡ false → run_from h s v i (slot_count h - i) ≡ k
     ends t = omega (arith, from_none (i + k) (slot_count h - (i + k)) t)
 
-    pub within-last : slot_count h ≤ i + k → length_within h s v i ≡ 0
+    pub within_last : slot_count h ≤ i + k → length_within h s v i ≡ 0
     unfolding length_within run_from
-    within-last l =
+    within_last l =
         let z : slot_count h - (i + k) ≡ 0 = omega arith in
         let g : run_from h s v i (slot_count h - i) ≡ k = e ∙ (rw z (omega arith)) in
         simp (g, le-ltb (i + k) (slot_count h) l, and-false)
 
-    pub within-good : k ≤ 120 / h.interval → 0 < h.interval → i + k < slot_count h → good_at h s (i + k) ≡ true → length_within h s v i ≡ k
+    pub within_good : k ≤ 120 / h.interval → 0 < h.interval → i + k < slot_count h → good_at h s (i + k) ≡ true → length_within h s v i ≡ k
     unfolding length_within
-    within-good m p l t =
+    within_good m p l t =
         let n : k * h.interval ≤ 120 = (le-div_iff_mul-le p).0 m in
-        rw (ends (run-good (i + k) t), le-leb _ _ n, lt-ltb _ _ l, t)
+        rw (ends (run_good (i + k) t), le-leb _ _ n, lt-ltb _ _ l, t)
 
-    pub within-broken : good_at h s (i + k) ≡ false → in_run h s v (i + k) ≡ false → length_within h s v i ≡ 0
+    pub within_broken : good_at h s (i + k) ≡ false → in_run h s v (i + k) ≡ false → length_within h s v i ≡ 0
     unfolding length_within
-    within-broken t r = simp (ends r, t, and-false)
+    within_broken t r = simp (ends r, t, and-false)
 
-    pub within-long : 120 / h.interval < k → 0 < h.interval → length_within h s v i ≡ 0
+    pub within_long : 120 / h.interval < k → 0 < h.interval → length_within h s v i ≡ 0
     unfolding length_within
-    within-long m p =
+    within_long m p =
         let n : 120 < k * h.interval = (div-lt_iff_lt-mul p).0 m in
         let g : k ≤ run_from h s v i (slot_count h - i) = omega arith in
         let f : 120 < run_from h s v i (slot_count h - i) * h.interval = omega (arith, mul-le-mul g (le_refl h.interval)) in

@@ -19,7 +19,7 @@ use Rattle.rules.specs.Filling.{is_reference}
 use Rattle.rules.specs.Inner.Ways.{InBook, GapsUpTo}
 use Rattle.rules.proofs.Bounds.{Bounded}
 use Rattle.rules.proofs.Gaps.{gap_passed}
-use Rattle.rules.proofs.Weekly.{each_none, each_out, each-found, each-passed}
+use Rattle.rules.proofs.Weekly.{each_none, each_out, each_found, each_passed}
 use Rattle.rules.specs.References.{each_week, each_reference, in_four}
 
 take_map : (f : ℕ → ℕ) (k : ℕ) (xs : List ℕ) → take k (map f xs) ≡ map f (take k xs)
@@ -151,24 +151,24 @@ module _ (h : Head) (w : Bounded h) (slot week : ℕ) (seven : week ≡ 7 * slot
     parts : 7 * n h w ≡ first * n h w + (7 - first) * n h w
     parts = let p : 7 ≡ first + (7 - first) = omega (arith, b.short) in ap (λ (x : ℕ). x * n h w) p ∙ add-mul first (7 - first) (n h w)
 
-    pub begin-fits : first * n h w ≤ slot + week
-    begin-fits = omega (arith, parts, seven)
+    pub begin_fits : first * n h w ≤ slot + week
+    begin_fits = omega (arith, parts, seven)
 
     module _ (begin : ℕ) (begins : begin ≡ slot + week - first * n h w) where
-      begin-day : begin / n h w ≡ slot / n h w + (7 - first)
-      begin-day =
+      begin_day : begin / n h w ≡ slot / n h w + (7 - first)
+      begin_day =
           let p : begin ≡ slot + (7 - first) * n h w = omega (arith, parts, seven, begins) in
           ap (λ (x : ℕ). x / n h w) p ∙ add-mul-div_right slot (7 - first) (positive h w)
 
-      pub stands-first : Standing h slot week 0 begin weeks
-      stands-first =
-          record { room = lit< tt; near = omega (arith, begins); reach = omega (arith, begin-day, b.inside, b.short); seven = seven }
+      pub stands_first : Standing h slot week 0 begin weeks
+      stands_first =
+          record { room = lit< tt; near = omega (arith, begins); reach = omega (arith, begin_day, b.inside, b.short); seven = seven }
 
       -- both look at the same slots
-      begins-same : (f : ℕ → ℕ) (s : Slots) (k : ℕ) → each_week f h s holidays first slot k ≡ each_week f h s holidays 7 begin k
+      begins_same : (f : ℕ → ℕ) (s : Slots) (k : ℕ) → each_week f h s holidays first slot k ≡ each_week f h s holidays 7 begin k
       unfolding each_week
-      begins-same f s zero = refl
-      begins-same f s (suc k) =
+      begins_same f s zero = refl
+      begins_same f s (suc k) =
           let same : begin - 7 * n h w ≡ slot - first * n h w = omega (arith, parts, seven, begins) in
           ⊎_elim
           (λ t.
@@ -179,12 +179,12 @@ module _ (h : Head) (w : Bounded h) (slot week : ℕ) (seven : week ≡ 7 * slot
           rw (t, le-ltb begin (7 * n h w) (omega (arith, parts, seven, begins)), same))
           (either (ltb slot (first * n h w)))
 
-      pub keeps-none : (f : ℕ → ℕ) (s : Slots) → Keeping f h s holidays slot (0 ∷ 0 ∷ 0 ∷ 0 ∷ []) 0 begin weeks
+      pub keeps_none : (f : ℕ → ℕ) (s : Slots) → Keeping f h s holidays slot (0 ∷ 0 ∷ 0 ∷ 0 ∷ []) 0 begin weeks
       unfolding kept each_reference
-      keeps-none f s =
+      keeps_none f s =
           let g = each_enough h w f s holidays weeks (weeks_within first (farthest_back holidays (slot / n h w))) first slot b.inside
           b.within b.all in
-          record { four = refl; zeros = λ k _. zero_four k; rest = rw (← e, g, begins-same f s weeks) }
+          record { four = refl; zeros = λ k _. zero_four k; rest = rw (← e, g, begins_same f s weeks) }
 
   module _ {count at weeks : ℕ} (i : Standing h slot week count at weeks) (more : weeks ≡ 0 → ⊥) where
     abbrev next : ℕ
@@ -193,25 +193,25 @@ module _ (h : Head) (w : Bounded h) (slot week : ℕ) (seven : week ≡ 7 * slot
     within : 7 * n h w ≤ at
     within = days_low h w 7 at (omega (arith, i.reach, more))
 
-    pub slot-inside : week ≤ at
-    slot-inside = rw seven within
+    pub slot_inside : week ≤ at
+    slot_inside = rw seven within
 
-    next-day : at / n h w ≡ next / n h w + 7
-    next-day = rw seven (days_on h w 7 at within)
+    next_day : at / n h w ≡ next / n h w + 7
+    next_day = rw seven (days_on h w 7 at within)
 
     pub stands_on : (c : ℕ) → c < 4 → Standing h slot week c next (weeks - 1)
     stands_on c l =
-        record { room = l; near = omega (arith, i.near); reach = omega (arith, i.reach, next-day, more); seven = seven }
+        record { room = l; near = omega (arith, i.near); reach = omega (arith, i.reach, next_day, more); seven = seven }
 
     module _ {f : ℕ → ℕ} {s : Slots} {holidays found : List ℕ} (k : Keeping f h s holidays slot found count at weeks) where
-      pub keeps-passed : is_reference h s holidays next ≡ false → Keeping f h s holidays slot found count next (weeks - 1)
-      keeps-passed e =
+      pub keeps_passed : is_reference h s holidays next ≡ false → Keeping f h s holidays slot found count next (weeks - 1)
+      keeps_passed e =
           let e' : is_reference h s holidays (at - 7 * n h w) ≡ false = rw seven at e in
-          record { four = k.four; zeros = k.zeros; rest = rw (seven, ← each-passed f h s holidays 7 at weeks more within e') k.rest }
+          record { four = k.four; zeros = k.zeros; rest = rw (seven, ← each_passed f h s holidays 7 at weeks more within e') k.rest }
 
-      pub keeps-found : (v : ℕ) → v ≡ f next → is_reference h s holidays next ≡ true
+      pub keeps_found : (v : ℕ) → v ≡ f next → is_reference h s holidays next ≡ true
           → Keeping f h s holidays slot (set found count v) (count + 1) next (weeks - 1)
-      keeps-found v q e =
+      keeps_found v q e =
           let e' : is_reference h s holidays (at - 7 * n h w) ≡ true = rw seven at e in
           let p : count < length found = omega (arith, k.four, i.room) in
           record {
@@ -219,7 +219,7 @@ module _ (h : Head) (w : Bounded h) (slot week : ℕ) (seven : week ≡ 7 * slot
             zeros = λ j l. get_or-set_other found count j v 0 (λ z. omega arith) ∙ k.zeros j (omega arith);
             rest =
                 rw (q, seven)
-                (sym (kept_more found _ count _ i.room p) ∙ (rw (each-found f h s holidays 7 at weeks more within e') at k.rest));
+                (sym (kept_more found _ count _ i.room p) ∙ (rw (each_found f h s holidays 7 at weeks more within e') at k.rest));
           }
 
   pub weeks_fit : (at weeks : ℕ) → Standing h slot week 0 at weeks → weeks * week ≤ at
@@ -233,23 +233,23 @@ module _ (h : Head) (w : Bounded h) (slot week : ℕ) (seven : week ≡ 7 * slot
     abbrev Past : ℕ → ℕ → Type 0
     Past at left = Standing h slot week 0 at left × Keeping f h s holidays slot found 0 at left
 
-    past-some : (p at : ℕ) → p ≤ weeks → GapsUpTo s.versions week begin at p → Past at (weeks - p)
+    past_some : (p at : ℕ) → p ≤ weeks → GapsUpTo s.versions week begin at p → Past at (weeks - p)
     unfolding GapsUpTo
-    past-some zero at l e = rw (e, sub-zero) (i, k)
-    past-some (suc p) at l g =
-        let behind = past-some p (at + week) (omega arith) g.1 in
+    past_some zero at l e = rw (e, sub-zero) (i, k)
+    past_some (suc p) at l g =
+        let behind = past_some p (at + week) (omega arith) g.1 in
         let more : weeks - p ≡ 0 → ⊥ = λ z. omega arith in
         let back : at + week - week ≡ at = omega arith in
         let fewer : weeks - p - 1 ≡ weeks - suc p = omega arith in
         let none : is_reference h s holidays (at + week - week) ≡ false = rw back (gap_passed h s holidays at g.0) in
         let next : Past (at + week - week) (weeks - p - 1) =
-        (stands_on behind.0 more 0 (lit< tt), keeps-passed behind.0 more behind.1 none) in
+        (stands_on behind.0 more 0 (lit< tt), keeps_passed behind.0 more behind.1 none) in
         rw (back, fewer) at next
 
-    pub past-gaps : (at left : ℕ) → left ≤ weeks → GapsUpTo s.versions week begin at (weeks - left) → Past at left
-    past-gaps at left l g =
+    pub past_gaps : (at left : ℕ) → left ≤ weeks → GapsUpTo s.versions week begin at (weeks - left) → Past at left
+    past_gaps at left l g =
         let e : weeks - (weeks - left) ≡ left = omega arith in
-        rw e at (past-some (weeks - left) at (omega arith) g)
+        rw e at (past_some (weeks - left) at (omega arith) g)
 
 -- the search is over: four places, and their number
 module _ {f : ℕ → ℕ} {h : Head} {s : Slots} {holidays : List ℕ} {slot : ℕ} {found : List ℕ} {count at weeks : ℕ}
@@ -260,7 +260,8 @@ module _ {f : ℕ → ℕ} {h : Head} {s : Slots} {holidays : List ℕ} {slot : 
       let e : kept found count (each_week f h s holidays 7 at 0) ≡ each_reference f h s holidays slot = rw z at k.rest in
       four_places found _ count k.four (omega arith) k.zeros (sym (kept_nil found count) ∙ (rw (each_none f h s holidays 7 at) at e))
 
-  pub keeps_full : count ≡ 4 → (found ≡ in_four (each_reference f h s holidays slot)) × (count ≡ length (each_reference f h s holidays slot))
+  pub keeps_full : count ≡ 4 → (found ≡ in_four (each_reference f h s holidays slot)) ×
+      (count ≡ length (each_reference f h s holidays slot))
   keeps_full z =
       four_places found _ count k.four (omega arith) k.zeros
       (sym (kept_full found (each_week f h s holidays 7 at weeks) count z) ∙ k.rest)

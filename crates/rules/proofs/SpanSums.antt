@@ -61,7 +61,7 @@ module _ (h : Head) (b : Cells) (first last : ℕ) where
     compared_is = rw p
 
     module _ (found : Compared) (f : found ≡ compared_with h b.readings b.widths first last m) where
-      pub meet-span : record {
+      pub meet_span : record {
         first = first;
         last = last;
         lowest = found.range.lowest;
@@ -69,12 +69,12 @@ module _ (h : Head) (b : Cells) (first last : ℕ) where
         state = found.state;
       } ≡ span_of h b first last
       unfolding span_of
-      meet-span = rw (f, compared_is)
+      meet_span = rw (f, compared_is)
 
-      pub meet-stretch : stretch_by (last * slots_per_day h) found.state m found.advance
+      pub meet_stretch : stretch_by (last * slots_per_day h) found.state m found.advance
           ≡ span_stretch h b first last (start h b first last)
       unfolding stretch_by span_stretch
-      meet-stretch = rw (f, compared_is, p, scaling_first)
+      meet_stretch = rw (f, compared_is, p, scaling_first)
 
 -- a span's figures rest on no register version
 module _ (h : Head) (s : Slots) (holidays readings v w : List ℕ) (agreed : Agreed) (widths : List ℕ) (first last : ℕ) where

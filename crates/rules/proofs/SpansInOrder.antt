@@ -56,40 +56,40 @@ module _ (h : Head) (b : Cells) where
     positive : 0 < n
     positive = omega (arith, w.day_low)
 
-    begins-first : (d : ℕ) → begins_at h b (d * n) ≡ first_of (span_from h b d)
+    begins_first : (d : ℕ) → begins_at h b (d * n) ≡ first_of (span_from h b d)
     unfolding begins_at
-    begins-first d = rw (mul-mod_left, mul-div_cancel d positive)
+    begins_first d = rw (mul-mod_left, mul-div_cancel d positive)
 
-    begins-inside : (d k : ℕ) → 0 < k → k < n → begins_at h b (d * n + k) ≡ Nothing
+    begins_inside : (d k : ℕ) → 0 < k → k < n → begins_at h b (d * n + k) ≡ Nothing
     unfolding begins_at
-    begins-inside d k l m =
+    begins_inside d k l m =
         let z : (d * n + k) % n ≡ 0 → ⊥ = λ y. omega (arith, mul-add-mod_self_right d n k, mod-eq_of_lt m) in
         rw (ne_eqb ((d * n + k) % n) 0 z)
 
     -- a day begins one span at most, at its first slot
-    begun-day : (d k : ℕ) → k < n → begun_before h b (d * n + suc k) ≡ begun_before h b (d * n) ++ span_from h b d
+    begun_day : (d k : ℕ) → k < n → begun_before h b (d * n + suc k) ≡ begun_before h b (d * n) ++ span_from h b d
     unfolding begun_before
-    begun-day d zero l = rw (add-suc, add-zero, begins-first d, one_span d)
-    begun-day d (suc k) l =
-        rw (add-suc (d * n) (suc k), begins-inside d (suc k) (omega arith) l)
-        (append-nil (begun_before h b (d * n + suc k)) ∙ begun-day d k (omega arith))
+    begun_day d zero l = rw (add-suc, add-zero, begins_first d, one_span d)
+    begun_day d (suc k) l =
+        rw (add-suc (d * n) (suc k), begins_inside d (suc k) (omega arith) l)
+        (append-nil (begun_before h b (d * n + suc k)) ∙ begun_day d k (omega arith))
 
-    begun-days : (d : ℕ) → begun_before h b (d * n) ≡ spans_from h b 0 d
+    begun_days : (d : ℕ) → begun_before h b (d * n) ≡ spans_from h b 0 d
     unfolding begun_before spans_from
-    begun-days zero = rw zero-mul
-    begun-days (suc d) =
+    begun_days zero = rw zero-mul
+    begun_days (suc d) =
         let e : suc d * n ≡ d * n + suc (n - 1) = rw suc-mul (omega (arith, positive)) in
-        rw e (begun-day d (n - 1) (omega (arith, positive)) ∙ ap (λ (l : List Span). l ++ span_from h b d) (begun-days d)
+        rw e (begun_day d (n - 1) (omega (arith, positive)) ∙ ap (λ (l : List Span). l ++ span_from h b d) (begun_days d)
         ∙ (rw zero-add at (sym (spans_snoc d 0))))
 
     pub begun_all : begun_before h b (slot_count h) ≡ spans h b
     unfolding spans
-    begun_all = rw (count_product, mul_comm) (begun-days h.days)
+    begun_all = rw (count_product, mul_comm) (begun_days h.days)
 
     -- no more of them begin than there are
-    pub begun-room : (i : ℕ) → i < slot_count h → length (begun_before h b i) + length (list_of (begins_at h b i)) ≤ length (spans h b)
+    pub begun_room : (i : ℕ) → i < slot_count h → length (begun_before h b i) + length (list_of (begins_at h b i)) ≤ length (spans h b)
     unfolding begun_before
-    begun-room i l =
+    begun_room i l =
         let (rest, e) = begun_first (suc i) (slot_count h - suc i) in
         let k : suc i + (slot_count h - suc i) ≡ slot_count h = omega arith in
         let f : begun_before h b (suc i) ++ rest ≡ spans h b = e ∙ ap (begun_before h b) k ∙ begun_all in

@@ -143,35 +143,35 @@ module _ (h : Head) (bounds : Bounded h) (b : Cells) (s : Span) (n : Neighbours 
       go false t = sym (any_none _ a k (λ i l m. and-false (is_s (before i).quality)))
 
   module _ (one : s.state ≡ 1) where
-    yes-scaled : scaled ≡ true
-    yes-scaled = eq-eqb _ 1 (sym state_same ∙ one)
+    yes_scaled : scaled ≡ true
+    yes_scaled = eq-eqb _ 1 (sym state_same ∙ one)
 
     has : (any (λ i. is_s (before i).quality) a k ≡ true) × (leb (actual_sum h b s.first s.last) (R h b s.first s.last) ≡ true)
-    has = (state_is h b s.first s.last).scaled_has yes-scaled
+    has = (state_is h b s.first s.last).scaled_has yes_scaled
 
     -- and then every S in it is such
-    pub scaled-whole : any (λ i. is_s (outcome_at h b i).quality && not (is_scaled (outcome_at h b i).method)) a k ≡ false
-    scaled-whole = any_none _ a k (λ i l m. rw (quality_same i l m, method_is i l m, yes-scaled) (both (is_s (before i).quality)))
+    pub scaled_whole : any (λ i. is_s (outcome_at h b i).quality && not (is_scaled (outcome_at h b i).method)) a k ≡ false
+    scaled_whole = any_none _ a k (λ i l m. rw (quality_same i l m, method_is i l m, yes_scaled) (both (is_s (before i).quality)))
       where
         both : (q : Bool) → (q && not (q && true)) ≡ false
         both true = refl
         both false = refl
 
     -- and its values sum to R
-    pub scaled-sum : sum (λ i. (outcome_at h b i).value) a k ≡ R h b s.first s.last
+    pub scaled_sum : sum (λ i. (outcome_at h b i).value) a k ≡ R h b s.first s.last
     unfolding actual_sum
-    scaled-sum =
-        sum_cong _ _ a k value-is
+    scaled_sum =
+        sum_cong _ _ a k value_is
         ∙ sum_plus (λ i. actual_in (before i)) new a k
         ∙ new_total h b s.first s.last has.0 (leb-true _ _ has.1)
       where
-        value-is : (i : ℕ) → a ≤ i → i < a + k → (outcome_at h b i).value ≡ actual_in (before i) + new i
-        value-is i l m =
+        value_is : (i : ℕ) → a ≤ i → i < a + k → (outcome_at h b i).value ≡ actual_in (before i) + new i
+        value_is i l m =
             ap (λ (o : Outcome). o.value) (here i l m)
-            ∙ (rw yes-scaled (new_value_lem (form i) (new i) (new_zero h b s.first s.last i l)))
+            ∙ (rw yes_scaled (new_value_lem (form i) (new i) (new_zero h b s.first s.last i l)))
 
     -- which lies between the ends of its advance
-    pub scaled-within : (s.lowest ≤ sum (λ i. (outcome_at h b i).value) a k) × (sum (λ i. (outcome_at h b i).value) a k ≤ s.highest)
-    scaled-within =
+    pub scaled_within : (s.lowest ≤ sum (λ i. (outcome_at h b i).value) a k) × (sum (λ i. (outcome_at h b i).value) a k ≤ s.highest)
+    scaled_within =
         let w = advance_within h b s.first s.last in
-        (omega (arith, scaled-sum, lowest_same, w.0), omega (arith, scaled-sum, highest_same, w.1))
+        (omega (arith, scaled_sum, lowest_same, w.0), omega (arith, scaled_sum, highest_same, w.1))

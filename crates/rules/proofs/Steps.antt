@@ -27,7 +27,7 @@ use Rattle.rules.proofs.Qualities.{filled_form, method_low}
 use Rattle.rules.proofs.Places.{span_end, slots_within}
 use Rattle.rules.proofs.Outcomes.{advance_low}
 use Rattle.rules.proofs.Scaling.{running, zero_each, shape_positive}
-use Rattle.rules.proofs.ValueBounds.{shape-small}
+use Rattle.rules.proofs.ValueBounds.{shape_small}
 use Rattle.rules.proofs.Summaries.{sum_small}
 
 -- the outcome of slot i of a scaled span
@@ -50,7 +50,8 @@ data Slot (h : Head) (b : Cells) (i : ℕ) : Stretch → Outcome → Stretch →
       (within h b first last (suc i))
 
 module _ (h : Head) (w : Bounded h) (b : Cells) (i : ℕ) where
-  in_span_lem : (first last : ℕ) → start h b first last ≤ i → i < start h b first last + slots_in h b first last → first ≤ last → last ≤ h.days
+  in_span_lem : (first last : ℕ) → start h b first last ≤ i → i < start h b first last + slots_in h b first last → first ≤ last → last ≤
+      h.days
       → Slot h b i (span_stretch h b first last i) (in_span h b first last i) (span_stretch h b first last (suc i))
   unfolding span_stretch in_span
   in_span_lem first last l m j k = go (eqb (state_of h b first last) 1) refl
@@ -108,9 +109,9 @@ module _ (h : Head) (w : Bounded h) (b : Cells) (i : ℕ) where
       unfolding scaled_by new_value
       new_value_lem = rw (← weight, ← running h b first last i l)
 
-      scaling-on : (scaled_by x (scaling_at h b first last i)).next ≡ scaling_at h b first last (suc i)
+      scaling_on : (scaled_by x (scaling_at h b first last i)).next ≡ scaling_at h b first last (suc i)
       unfolding scaled_by
-      scaling-on = rw (← weight, passed)
+      scaling_on = rw (← weight, passed)
 
       -- the span is scaled
       pub whole_low : 0 < E h b first last
@@ -121,9 +122,9 @@ module _ (h : Head) (w : Bounded h) (b : Cells) (i : ℕ) where
       scaling : scales (within h b first last i) ≡ true
       scaling = let n : E h b first last ≡ 0 → ⊥ = omega (arith, whole_low) in rw (ne_eqb _ _ n)
 
-    scaling-kept : is_s o.quality ≡ false → scaling_at h b first last i ≡ scaling_at h b first last (suc i)
+    scaling_kept : is_s o.quality ≡ false → scaling_at h b first last i ≡ scaling_at h b first last (suc i)
     unfolding e
-    scaling-kept q =
+    scaling_kept q =
         let z : e h b first last i ≡ 0 = rw q in
         rw (passed, z, add-zero)
 
@@ -146,14 +147,14 @@ module _ (h : Head) (w : Bounded h) (b : Cells) (i : ℕ) where
     where
       go : (q : Bool) → is_s (filled h b first last i).quality ≡ q
           → fit_next (filled h b first last i) (shape h b first last i) (within h b first last i) ≡ within h b first last (suc i)
-      go true q = rw (q, scaling first last l m q, scaling-on first last l m q)
-      go false q = rw (q, scaling-kept first last l m q)
+      go true q = rw (q, scaling first last l m q, scaling_on first last l m q)
+      go false q = rw (q, scaling_kept first last l m q)
 
   module _ (first last : ℕ) where
-    e-small : (j : ℕ) → e h b first last j ≤ 12 * cap h
+    e_small : (j : ℕ) → e h b first last j ≤ 12 * cap h
     unfolding e
-    e-small j =
-        go (is_s (filled h b first last j).quality) (all_zero h b first last) _ (shape-small h w b.slots b.agreed b.holidays j)
+    e_small j =
+        go (is_s (filled h b first last j).quality) (all_zero h b first last) _ (shape_small h w b.slots b.agreed b.holidays j)
       where
         go : (q z : Bool) (v : ℕ) → v ≤ 12 * cap h → cond q (cond z 1 v) 0 ≤ 12 * cap h
         go true true v l = omega (arith, cap_low h w)
@@ -165,7 +166,7 @@ module _ (h : Head) (w : Bounded h) (b : Cells) (i : ℕ) where
     unfolding E start slots_in
     whole_high l m =
         let n : (last - first) * slots_per_day h ≤ slot_count h = omega (arith, slots_within h first last l m) in
-        le_trans (le_trans (sum_small (e h b first last) (12 * cap h) e-small (first * slots_per_day h) ((last - first) * slots_per_day h))
+        le_trans (le_trans (sum_small (e h b first last) (12 * cap h) e_small (first * slots_per_day h) ((last - first) * slots_per_day h))
         (mul-le-mul n (le_refl _))) (shapes_all h w)
 
     room : start h b first last ≤ i → i < start h b first last + slots_in h b first last → is_s (filled h b first last i).quality ≡ true
@@ -197,14 +198,14 @@ module _ (h : Head) (w : Bounded h) (b : Cells) (i : ℕ) where
   module _ (o : Outcome) (x : ℕ) (here : Stretch) (inside : here ≡ stretch_at h b i)
       (filled : o ≡ filled_at h b.slots b.agreed b.holidays i)
       (shaped : x ≡ shape_at h b.slots b.agreed b.holidays i) where
-    pub step-outcome : fit_outcome o x here ≡ outcome_at h b i
-    step-outcome = (λ t. fit_outcome (filled t) (shaped t) (inside t)) ∙ fit_outcome_lem slot
+    pub step_outcome : fit_outcome o x here ≡ outcome_at h b i
+    step_outcome = (λ t. fit_outcome (filled t) (shaped t) (inside t)) ∙ fit_outcome_lem slot
 
-    pub step-carried : fit_next o x here ≡ carried_at h b (i + 1)
-    step-carried = (λ t. fit_next (filled t) (shaped t) (inside t)) ∙ fit_next_lem slot ∙ ap (carried_at h b) (sym (add-one i))
+    pub step_carried : fit_next o x here ≡ carried_at h b (i + 1)
+    step_carried = (λ t. fit_next (filled t) (shaped t) (inside t)) ∙ fit_next_lem slot ∙ ap (carried_at h b) (sym (add-one i))
 
-    pub step-scalable : WidthsLow b.widths → Scalable o x here
-    step-scalable wide = rw (filled, shaped, inside) (step_fits wide)
+    pub step_scalable : WidthsLow b.widths → Scalable o x here
+    step_scalable wide = rw (filled, shaped, inside) (step_fits wide)
 
 -- a stretch keeps its end
 pub fit_until : (o : Outcome) (x : ℕ) (here : Stretch) → (fit_next o x here).until ≡ here.until

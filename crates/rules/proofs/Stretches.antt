@@ -164,16 +164,16 @@ module _ (h : Head) (w : Bounded h) (b : Cells) where
 
   -- the stretch that begins at slot i, the first of a day
   module _ (i : ℕ) (p : i ≡ i / n * n) where
-    day-begins : eqb (i % n) 0 ≡ true
-    day-begins = eq-eqb (i % n) 0 (omega (arith, div-add-mod' i n))
+    day_begins : eqb (i % n) 0 ≡ true
+    day_begins = eq-eqb (i % n) 0 (omega (arith, div-add-mod' i n))
 
-    pub begins-some : (last : ℕ) → next_read r (i / n + 1) (h.days - i / n) ≡ some last → begins_with h b (i / n) last ≡ begins_at h b i
+    pub begins_some : (last : ℕ) → next_read r (i / n + 1) (h.days - i / n) ≡ some last → begins_with h b (i / n) last ≡ begins_at h b i
     unfolding begins_at begins_with span_from span_to
-    begins-some last e = rw (day-begins, e) (⊎_elim (λ t. rw t) (λ t. rw t) (either (is_read r (i / n))))
+    begins_some last e = rw (day_begins, e) (⊎_elim (λ t. rw t) (λ t. rw t) (either (is_read r (i / n))))
 
-    pub begins-none : next_read r (i / n + 1) (h.days - i / n) ≡ none → begins_at h b i ≡ Nothing
+    pub begins_none : next_read r (i / n + 1) (h.days - i / n) ≡ none → begins_at h b i ≡ Nothing
     unfolding begins_at span_from span_to
-    begins-none e = rw (day-begins, e) (⊎_elim (λ t. rw t) (λ t. rw t) (either (is_read r (i / n))))
+    begins_none e = rw (day_begins, e) (⊎_elim (λ t. rw t) (λ t. rw t) (either (is_read r (i / n))))
 
   pub stretch_none : (i : ℕ) → next_read r (i / n + 1) (h.days - i / n) ≡ none → stretch_at h b i ≡ unscaled_to (slot_count h)
   unfolding stretch_at stretch_on stretch_of

@@ -19,7 +19,7 @@ use Rattle.rules.specs.Spans.{is_a, is_s, is_f}
 use Rattle.rules.specs.Inner.Lent.{AgreedLow}
 use Rattle.rules.specs.Inner.Summaries.{summary_of, actual_added, added_to}
 use Rattle.rules.proofs.Bounds.{Bounded, cap, shape_high, shapes_all, count_high}
-use Rattle.rules.proofs.ValueBounds.{cond_small, shape-small, filled_low}
+use Rattle.rules.proofs.ValueBounds.{cond_small, shape_small, filled_low}
 use Rattle.rules.proofs.Shapes.{shape_of_s}
 
 -- a sum of small terms
@@ -45,28 +45,28 @@ module _ (h : Head) (s : Slots) (agreed : Agreed) (holidays : List ℕ) (a k : �
   count_small = sum_small _ 1 (λ i. cond_small (is_s (filled_at h s agreed holidays i).quality) 1 1 (lit≤ tt)) a k
 
   module _ (b : Bounded h) where
-    actual-low : AgreedLow agreed → (summary_of h s agreed holidays a k).actual ≤ k * 99_999_999
+    actual_low : AgreedLow agreed → (summary_of h s agreed holidays a k).actual ≤ k * 99_999_999
     unfolding summary_of
-    actual-low low =
+    actual_low low =
         sum_small _ 99_999_999
         (λ i. cond_small (is_a (filled_at h s agreed holidays i).quality || is_f (filled_at h s agreed holidays i).quality) _ _
         (filled_low h b s agreed holidays i low)) a k
 
-    shapes-low : (summary_of h s agreed holidays a k).shapes ≤ k * (12 * cap h)
+    shapes_low : (summary_of h s agreed holidays a k).shapes ≤ k * (12 * cap h)
     unfolding summary_of
-    shapes-low = sum_small _ (12 * cap h) (λ i. shape-small h b s agreed holidays i) a k
+    shapes_low = sum_small _ (12 * cap h) (λ i. shape_small h b s agreed holidays i) a k
 
     -- there is room for one slot more, with shape x
-    pub summary-fits : AgreedLow agreed → k ≤ slot_count h → (m : Summary) (x : ℕ) → m ≡ summary_of h s agreed holidays a k
+    pub summary_fits : AgreedLow agreed → k ≤ slot_count h → (m : Summary) (x : ℕ) → m ≡ summary_of h s agreed holidays a k
         → x ≡ shape_at h s agreed holidays (a + k)
         → (m.actual ≤ 11_519_999_884_800) × (m.shapes ≤ 115_200_000_000) × (m.count ≤ 115_200) × (x ≤ 6_000_000)
-    summary-fits low l m x e f =
+    summary_fits low l m x e f =
         let n = count_high h b in
         rw (e, f) (
-          omega (arith, actual-low low),
-          le_trans (le_trans shapes-low (mul-le-mul l (le_refl _))) (shapes_all h b),
+          omega (arith, actual_low low),
+          le_trans (le_trans shapes_low (mul-le-mul l (le_refl _))) (shapes_all h b),
           omega (arith, count_small),
-          le_trans (shape-small h b s agreed holidays (a + k)) (shape_high h b),
+          le_trans (shape_small h b s agreed holidays (a + k)) (shape_high h b),
         )
 
 -- `spans::add` goes by the slot's quality

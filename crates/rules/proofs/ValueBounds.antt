@@ -16,7 +16,8 @@ use Rattle.rules.specs.declared.tests.Cause.TheVariants.{Nothing, Gap, TimeChang
 use Rattle.rules.specs.Opening.{Slots, Agreed, slots_per_day}
 use Rattle.rules.specs.Tests.{is_good, time_change_bit, partial_bit, cause_of, cause_at, good_at}
 use Rattle.rules.specs.Weeks.{first_back, farthest_back, weeks_within}
-use Rattle.rules.specs.Filling.{is_reference, week_back, weeks_back, references, mean_of, is_linear, linear_value, from_references, filled_at}
+use Rattle.rules.specs.Filling.{is_reference, week_back, weeks_back, references, mean_of, is_linear, linear_value, from_references}
+use Rattle.rules.specs.Filling.{filled_at}
 use Rattle.rules.specs.Filling.{shape_of, shape_at}
 use Rattle.rules.specs.Inner.Lent.{AgreedLow}
 use Rattle.rules.proofs.Bounds.{Bounded, cap, cap_high, good_cap}
@@ -71,55 +72,55 @@ module _ (h : Head) (b : Bounded h) (s : Slots) where
       line_small _ _ _ _ (cap h) (place_low h s agreed i) (good_small _ w.left_good) (good_small _ w.right_good)
 
   module _ (holidays : List ℕ) where
-    reference-small : (j : ℕ) → is_reference h s holidays j ≡ true → get_or s.values j 0 ≤ cap h
+    reference_small : (j : ℕ) → is_reference h s holidays j ≡ true → get_or s.values j 0 ≤ cap h
     unfolding is_reference
-    reference-small j e = good_small j (and_parts _ _ (and_parts _ _ e).0).0
+    reference_small j e = good_small j (and_parts _ _ (and_parts _ _ e).0).0
 
-    week-small : (first i k : ℕ) → small (cap h) (week_back h s holidays first i k)
+    week_small : (first i k : ℕ) → small (cap h) (week_back h s holidays first i k)
     unfolding week_back
-    week-small first i k =
+    week_small first i k =
         let back = (first + 7 * k) * slots_per_day h in
         let found : Bool = leb back i && is_reference h s holidays (i - back) in
-        ⊎_elim (λ e. rw e (reference-small (i - back) (and_parts (leb back i) (is_reference h s holidays (i - back)) e).1, tt))
+        ⊎_elim (λ e. rw e (reference_small (i - back) (and_parts (leb back i) (is_reference h s holidays (i - back)) e).1, tt))
         (λ e. rw e tt)
         (either found)
 
-    weeks-small : (first i k : ℕ) → small (cap h) (weeks_back h s holidays first i k)
+    weeks_small : (first i k : ℕ) → small (cap h) (weeks_back h s holidays first i k)
     unfolding weeks_back
-    weeks-small first i zero = tt
-    weeks-small first i (suc k) =
-        small_join (cap h) (weeks_back h s holidays first i k) (week_back h s holidays first i k) (weeks-small first i k)
-        (week-small first i k)
+    weeks_small first i zero = tt
+    weeks_small first i (suc k) =
+        small_join (cap h) (weeks_back h s holidays first i k) (week_back h s holidays first i k) (weeks_small first i k)
+        (week_small first i k)
 
-    mean-small : (xs : List ℕ) → small (cap h) xs → (from_references xs).value ≤ cap h
+    mean_small : (xs : List ℕ) → small (cap h) xs → (from_references xs).value ≤ cap h
     unfolding from_references mean_of
-    mean-small xs p =
+    mean_small xs p =
         ⊎_elim (λ e. rw e zero-le) (λ e. rw e (div-le_of_le-mul (length xs) (small_total (cap h) xs p))) (either (eqb (length xs) 0))
 
-    same-day-small : (xs : List ℕ) → small (cap h) xs → shape_of (from_references xs) xs ≤ 12 * cap h
+    same_day_small : (xs : List ℕ) → small (cap h) xs → shape_of (from_references xs) xs ≤ 12 * cap h
     unfolding from_references shape_of
-    same-day-small xs p =
+    same_day_small xs p =
         let l : 12 * sum_of xs ≤ length xs * (12 * cap h) = omega (arith, small_total (cap h) xs p) in
         ⊎_elim (λ e. rw e zero-le) (λ e. rw e (div-le_of_le-mul (length xs) l)) (either (eqb (length xs) 0))
 
-    references-small : (i : ℕ) → small (cap h) (references h s holidays i)
+    references_small : (i : ℕ) → small (cap h) (references h s holidays i)
     unfolding references
-    references-small i =
+    references_small i =
         let d = i / slots_per_day h in
         let first = first_back h holidays d in
         let k = weeks_within first (farthest_back holidays d) in
-        small_take (cap h) 4 (weeks_back h s holidays first i k) (weeks-small first i k)
+        small_take (cap h) 4 (weeks_back h s holidays first i k) (weeks_small first i k)
 
   module _ (a : Agreed) (holidays : List ℕ) (i : ℕ) where
-    pub shape-small : shape_at h s a holidays i ≤ 12 * cap h
+    pub shape_small : shape_at h s a holidays i ≤ 12 * cap h
     unfolding shape_at shape_of
-    shape-small =
+    shape_small =
         filled_by (λ o. shape_of o (references h s holidays i) ≤ 12 * cap h) h s a holidays i (λ _. zero-le) zero-le zero-le
-        (λ g. mul-le-mul_left 12 (line_low a.versions i g)) (same-day-small holidays _ (references-small holidays i))
+        (λ g. mul-le-mul_left 12 (line_low a.versions i g)) (same_day_small holidays _ (references_small holidays i))
 
     pub filled_low : AgreedLow a → (filled_at h s a holidays i).value ≤ 99_999_999
     filled_low low =
         filled_by (λ o. o.value ≤ 99_999_999) h s a holidays i (λ g. omega (arith, good_small i g, cap_high h b)) (omega (arith, low i))
         zero-le
         (λ g. omega (arith, line_low a.versions i g, cap_high h b))
-        (omega (arith, mean-small holidays (references h s holidays i) (references-small holidays i), cap_high h b))
+        (omega (arith, mean_small holidays (references h s holidays i) (references_small holidays i), cap_high h b))

@@ -28,12 +28,12 @@ module _ (f : ℕ → ℕ) (h : Head) (s : Slots) (holidays : List ℕ) (days j 
     one_more : k ≡ suc (k - 1)
     one_more = omega (arith, more)
 
-    pub each-found : is_reference h s holidays earlier ≡ true
+    pub each_found : is_reference h s holidays earlier ≡ true
         → each_week f h s holidays days j k ≡ f earlier ∷ each_week f h s holidays 7 earlier (k - 1)
     unfolding each_week
-    each-found e = ap (each_week f h s holidays days j) one_more ∙ simp (le-ltb _ _ inside, e)
+    each_found e = ap (each_week f h s holidays days j) one_more ∙ simp (le-ltb _ _ inside, e)
 
-    pub each-passed : is_reference h s holidays earlier ≡ false
+    pub each_passed : is_reference h s holidays earlier ≡ false
         → each_week f h s holidays days j k ≡ each_week f h s holidays 7 earlier (k - 1)
     unfolding each_week
-    each-passed e = ap (each_week f h s holidays days j) one_more ∙ simp (le-ltb _ _ inside, e)
+    each_passed e = ap (each_week f h s holidays days j) one_more ∙ simp (le-ltb _ _ inside, e)

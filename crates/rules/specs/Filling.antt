@@ -1,5 +1,6 @@
 -- The outcome of a slot before its span is scaled, and its shape (01, Filling; 02, W1, W2 and W7).
-use Rattle.std.specs.Prelude.{Bool, false, cond, not, ◌&&◌, ◌||◌, List, [], ◌∷◌, ◌++◌, ℕ, zero, suc, ◌+◌, ◌-◌, ◌*◌, ◌/◌, leb, ltb, eqb, ℤ, pos, negsuc, nat_abs, ◌+ℤ◌, ◌-ℤ◌, ◌*ℤ◌, get_or, length, take}
+use Rattle.std.specs.Prelude.{Bool, false, cond, not, ◌&&◌, ◌||◌, List, [], ◌∷◌, ◌++◌, ℕ, zero, suc, ◌+◌, ◌-◌, ◌*◌, ◌/◌, leb, ltb, eqb, ℤ}
+use Rattle.std.specs.Prelude.{pos, negsuc, nat_abs, ◌+ℤ◌, ◌-ℤ◌, ◌*ℤ◌, get_or, length, take}
 use Rattle.base.specs.Lists.{every, sum_of}
 use Rattle.rules.specs.declared.Head.{Head}
 use Rattle.rules.specs.declared.Outcome.{Outcome}
@@ -21,7 +22,8 @@ outage_before versions statuses (suc i) = cond (is_gap versions i) (outage_befor
 -- so is the slot just after the run of gaps that begins at slot j, with k slots left in the book
 unfoldable pub outage_after : List ℕ → List ℕ → ℕ → ℕ → Bool
 outage_after versions statuses j zero = false
-outage_after versions statuses j (suc k) = cond (is_gap versions j) (outage_after versions statuses (suc j) k) (outage_at versions statuses j)
+outage_after versions statuses j (suc k) = cond (is_gap versions j) (outage_after versions statuses (suc j) k)
+    (outage_at versions statuses j)
 
 unfoldable pub is_outage_zero : Head → Slots → ℕ → Bool
 is_outage_zero h s i =

@@ -26,7 +26,8 @@ pub fn add_up(
     to: usize,
     before: bool,
 ) -> Added
-    requires { DirectFrom head (lent_slots values.now versions.now statuses.now) (lent_agreed agreed.now agreed_versions.now) from to before }
+    requires { DirectFrom head (lent_slots values.now versions.now statuses.now)
+        (lent_agreed agreed.now agreed_versions.now) from to before }
     ensures { let s = lent_slots values.now versions.now statuses.now in
         let a = lent_agreed agreed.now agreed_versions.now in
         DirectTo head s a from to result.end result.outage

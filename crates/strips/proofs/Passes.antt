@@ -56,7 +56,8 @@ module _ (n : ℕ) (given d : List ℕ) (sized : Sized n given d) where
       ∙ (rw sized.room)
 
   -- the value a day earlier, in the table as far as it is written
-  earlier_written : (i : ℕ) → i < slots_of given → day_earlier n (value_at (table_to n given d i)) i ≡ day_earlier n (restored_value n given) i
+  earlier_written : (i : ℕ) → i < slots_of given → day_earlier n (value_at (table_to n given d i)) i ≡ day_earlier n
+      (restored_value n given) i
   earlier_written i l =
       let z : 0 < n = sized.positive in
       earlier_cong n (value_at (table_to n given d i)) (restored_value n given) i

@@ -59,7 +59,8 @@ module _ (n : ℕ) (positive : 0 < n) (given : List ℕ) (whole : length given �
       let low : (j : ℕ) → value_at given j < 4_294_967_296 = λ j. number_lt (in_table given j) (λ k. bytes (6 * j + k)) in
       sym (restored_next n positive (strips_of n given) i)
       ∙ ap₂ (λ (x y : ℕ). (x + y) % 4_294_967_296)
-      (earlier_cong n (restored_value n (strips_of n given)) (value_at given) i (λ le. value_restored m (i - n) (omega arith) (omega arith)))
+      (earlier_cong n (restored_value n (strips_of n given)) (value_at given) i (λ le. value_restored m (i - n) (omega arith)
+      (omega arith)))
       (stored_difference i inside)
       ∙ add_difference (day_earlier n (value_at given) i) (value_at given i) (earlier_lt n (value_at given) i low) (low i)
 

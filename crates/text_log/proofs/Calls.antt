@@ -13,8 +13,10 @@ use Rattle.text_log.specs.declared.limits.Limits.{Limits}
 use Rattle.book.specs.declared.calls.Call.TheVariants.{Delivery, Agreed, Holiday, Register}
 use Rattle.text_log.specs.Numbers.{value_after, value_of, is_date_word, date_of_word, year_part, month_part, day_part}
 use Rattle.text_log.specs.Words.{words, same, are_numbers}
-use Rattle.text_log.specs.Line.{open_word, delivery_word, holiday_word, register_word, agreed_word, open_of, delivery_of, holiday_of, sharp_of}
-use Rattle.text_log.specs.Line.{register_of, agreed_of, call_of, without_cr, is_passed, are_limits, limits_of, bare, limits_entry, words_entry}
+use Rattle.text_log.specs.Line.{open_word, delivery_word, holiday_word, register_word, agreed_word, open_of, delivery_of, holiday_of}
+use Rattle.text_log.specs.Line.{sharp_of}
+use Rattle.text_log.specs.Line.{register_of, agreed_of, call_of, without_cr, is_passed, are_limits, limits_of, bare, limits_entry}
+use Rattle.text_log.specs.Line.{words_entry}
 use Rattle.text_log.specs.Line.{entry_of, limits_word}
 use Rattle.text_log.proofs.Tables.{some_limits}
 
@@ -105,9 +107,9 @@ module _ (ws : List (List ℕ)) (word : List ℕ) (fields : List (List ℕ)) (e 
   no_date n = rw (e, not_date word n)
 
   module _ (y m d : ℕ) (day : date_of_word word ≡ date.Is y m d) where
-    pub no-open : are_numbers 4 fields ≡ false → NoCall ≡ open_of ws
+    pub no_open : are_numbers 4 fields ≡ false → NoCall ≡ open_of ws
     unfolding open_of
-    no-open n = rw (e, (is_date_lem word y m d day).0, n)
+    no_open n = rw (e, (is_date_lem word y m d day).0, n)
 
     pub is_open : (vs : List ℕ) → are_numbers 4 fields ≡ true → take 4 vs ≡ map value_of fields
         → Open (record {
@@ -138,24 +140,24 @@ module _ (ws : List (List ℕ)) (word : List ℕ) (fields : List (List ℕ)) (e 
   call_open t = rw (e, t)
 
   module _ (o : same word open_word ≡ false) where
-    pub call-delivery : same word delivery_word ≡ true → delivery_of fields ≡ call_of ws
+    pub call_delivery : same word delivery_word ≡ true → delivery_of fields ≡ call_of ws
     unfolding call_of
-    call-delivery t = rw (e, o, t)
+    call_delivery t = rw (e, o, t)
 
     module _ (d : same word delivery_word ≡ false) where
-      pub call-holiday : same word holiday_word ≡ true → holiday_of fields ≡ call_of ws
+      pub call_holiday : same word holiday_word ≡ true → holiday_of fields ≡ call_of ws
       unfolding call_of
-      call-holiday t = rw (e, o, d, t)
+      call_holiday t = rw (e, o, d, t)
 
       module _ (h : same word holiday_word ≡ false) where
-        pub call-register : same word register_word ≡ true → register_of fields ≡ call_of ws
+        pub call_register : same word register_word ≡ true → register_of fields ≡ call_of ws
         unfolding call_of
-        call-register t = rw (e, o, d, h, t)
+        call_register t = rw (e, o, d, h, t)
 
         module _ (r : same word register_word ≡ false) where
-          pub call-agreed : same word agreed_word ≡ true → agreed_of fields ≡ call_of ws
+          pub call_agreed : same word agreed_word ≡ true → agreed_of fields ≡ call_of ws
           unfolding call_of
-          call-agreed t = rw (e, o, d, h, r, t)
+          call_agreed t = rw (e, o, d, h, r, t)
 
           pub call_none : same word agreed_word ≡ false → NoCall ≡ call_of ws
           unfolding call_of
@@ -221,15 +223,15 @@ module _ (bytes : List ℕ) (n : ℕ) (l : n ≤ length bytes) (cut : without_cr
     first : get_or (take n bytes) 0 0 ≡ get_or bytes 0 0
     first = let k : 0 < n = omega arith in get_or-take n bytes 0 0 k
 
-    pub line-comment : get_or bytes 0 0 ≡ 35 → bare Passed ≡ entry_of bytes
+    pub line_comment : get_or bytes 0 0 ≡ 35 → bare Passed ≡ entry_of bytes
     unfolding entry_of is_passed
-    line-comment e = rw (cut, ne_eqb _ _ some', first, eq-eqb _ _ e)
+    line_comment e = rw (cut, ne_eqb _ _ some', first, eq-eqb _ _ e)
 
     module _ (c : get_or bytes 0 0 ≡ 35 → ⊥) where
-      pub line-long : 255 < n → bare NoCall ≡ entry_of bytes
+      pub line_long : 255 < n → bare NoCall ≡ entry_of bytes
       unfolding entry_of is_passed
-      line-long k = rw (cut, ne_eqb _ _ some', first, ne_eqb _ _ c, long, lt-ltb _ _ k)
+      line_long k = rw (cut, ne_eqb _ _ some', first, ne_eqb _ _ c, long, lt-ltb _ _ k)
 
-      pub line-call : n ≤ 255 → words_entry (words (take n bytes)) ≡ entry_of bytes
+      pub line_call : n ≤ 255 → words_entry (words (take n bytes)) ≡ entry_of bytes
       unfolding entry_of is_passed
-      line-call k = rw (cut, ne_eqb _ _ some', first, ne_eqb _ _ c, long, le-ltb _ _ k)
+      line_call k = rw (cut, ne_eqb _ _ some', first, ne_eqb _ _ c, long, le-ltb _ _ k)

@@ -45,7 +45,8 @@ module _ {bytes : List ℕ} {from : ℕ} where
       let z : from - from ≡ 0 = omega arith in
       record { begun = omega arith; near = omega arith; inside = l; digits = rw z; valued = rw z; low = omega arith }
 
-  digits_next : {value i : ℕ} → DigitsAt bytes from value i → i < from + 9 → i < length bytes → 48 ≤ get_or bytes i 0 → get_or bytes i 0 ≤ 57
+  digits_next : {value i : ℕ} → DigitsAt bytes from value i → i < from + 9 → i < length bytes → 48 ≤ get_or bytes i 0 → get_or bytes i 0 ≤
+      57
       → value ≤ 99_999_999
       → DigitsAt bytes from (10 * value + (get_or bytes i 0 - 48)) (i + 1)
   digits_next {value} {i} d n l p q low =
@@ -184,9 +185,9 @@ module _ (a b c d : List ℕ) where
   text = delivery_word ++ (32 ∷ (a ++ (32 ∷ (b ++ (32 ∷ (c ++ (32 ∷ d)))))))
 
   module _ (p : are_digits a ≡ true) (q : are_digits b ≡ true) (r : are_digits c ≡ true) (u : are_digits d ≡ true) where
-    text-lacks : (s : ℕ) → s < 32 → lacks s text ≡ true
+    text_lacks : (s : ℕ) → s < 32 → lacks s text ≡ true
     unfolding lacks
-    text-lacks s l =
+    text_lacks s l =
         let last = digits_lack s d (omega arith) u in
         let third = joined c d r last in
         let second = joined b (c ++ (32 ∷ d)) q third in
@@ -208,9 +209,9 @@ module _ (a b c d : List ℕ) where
         joined : (w rest : List ℕ) → are_digits w ≡ true → lacks s rest ≡ true → lacks s (w ++ (32 ∷ rest)) ≡ true
         joined w rest k m = lacks_append s w (32 ∷ rest) (digits_lack s w (omega arith) k) (rw (other 32 (omega arith)) m)
 
-    text-words : words text ≡ delivery_word ∷ a ∷ b ∷ c ∷ d ∷ []
+    text_words : words text ≡ delivery_word ∷ a ∷ b ∷ c ∷ d ∷ []
     unfolding lacks
-    text-words =
+    text_words =
         let e = digits_lack 32 in
         split_first 32 [] delivery_word _ refl
         ∙ rw (
@@ -223,20 +224,20 @@ module _ (a b c d : List ℕ) where
     module _ (short : length text ≤ 255) where
       whole : without_cr text ≡ text
       unfolding without_cr
-      whole = rw (ne_eqb _ _ (lack_at 13 text (text-lacks 13 (omega arith)) (λ z. omega arith) (length text - 1)))
+      whole = rw (ne_eqb _ _ (lack_at 13 text (text_lacks 13 (omega arith)) (λ z. omega arith) (length text - 1)))
 
       kept : is_passed text ≡ false
       unfolding is_passed
       kept = rw (ne_eqb (length text) 0 (λ z. omega arith))
 
       module _ (numbers : are_numbers 4 (a ∷ b ∷ c ∷ d ∷ []) ≡ true) where
-        text-line : (entry_of text).line ≡ Fill (coded.Delivery (value_of a) (value_of b) (value_of c) (value_of d))
+        text_line : (entry_of text).line ≡ Fill (coded.Delivery (value_of a) (value_of b) (value_of c) (value_of d))
         unfolding entry_of words_entry call_of delivery_of same
-        text-line = rw (whole, kept, le-ltb _ _ short, text-words, numbers)
+        text_line = rw (whole, kept, le-ltb _ _ short, text_words, numbers)
 
-        text-item : item_of text ≡ call (delivery (value_of a) (value_of b) (value_of c) (value_of d))
+        text_item : item_of text ≡ call (delivery (value_of a) (value_of b) (value_of c) (value_of d))
         unfolding item_of item_in
-        text-item = rw text-line
+        text_item = rw text_line
 
 field_number : {bytes : List ℕ} {from separator value next : ℕ} (f : FieldAt bytes from separator value next) → is_number f.word ≡ true
 unfolding is_number
@@ -278,14 +279,14 @@ module _ (bytes : List ℕ) (at : ℕ) (r : Delivery) (n : NumbersAt bytes (at +
 
   item : item_of found ≡ call (delivery r.slot r.version r.value r.status)
   item =
-      text-item _ _ _ _ n.slot.digits n.version.digits n.value.digits n.status.digits
+      text_item _ _ _ _ n.slot.digits n.version.digits n.value.digits n.status.digits
       (omega (arith, long, n.slot.near, n.version.near, n.value.near, n.status.near)) numbers
       ∙ rw (sym n.slot.valued, sym n.version.valued, sym n.value.valued, sym n.status.valued)
 
   first_line : lines (found ++ (10 ∷ drop r.next bytes)) ≡ found ∷ lines (drop r.next bytes)
   first_line =
       lines_first found (drop r.next bytes)
-      (text-lacks _ _ _ _ n.slot.digits n.version.digits n.value.digits n.status.digits 10 (omega arith))
+      (text_lacks _ _ _ _ n.slot.digits n.version.digits n.value.digits n.status.digits 10 (omega arith))
 
   pub delivery_of_lem : DeliveryAt bytes at r
   unfolding items

@@ -91,25 +91,25 @@ module _ (word : List ℕ) (l : length word ≡ 10) where
   date_first n = rw (eq-eqb _ _ l, ne_eqb _ _ n)
 
   module _ (p : get_or word 4 0 ≡ 45) where
-    pub date-second : (get_or word 7 0 ≡ 45 → ⊥) → date_of_word word ≡ date.Not
+    pub date_second : (get_or word 7 0 ≡ 45 → ⊥) → date_of_word word ≡ date.Not
     unfolding date_of_word is_date_word
-    date-second n = rw (eq-eqb _ _ l, eq-eqb _ _ p, ne_eqb _ _ n)
+    date_second n = rw (eq-eqb _ _ l, eq-eqb _ _ p, ne_eqb _ _ n)
 
     module _ (q : get_or word 7 0 ≡ 45) where
-      pub date-year : number_of (year_part word) ≡ Not → date_of_word word ≡ date.Not
+      pub date_year : number_of (year_part word) ≡ Not → date_of_word word ≡ date.Not
       unfolding date_of_word is_date_word
-      date-year n = rw (eq-eqb _ _ l, eq-eqb _ _ p, eq-eqb _ _ q, not_number (year_part word) n)
+      date_year n = rw (eq-eqb _ _ l, eq-eqb _ _ p, eq-eqb _ _ q, not_number (year_part word) n)
 
       module _ (y : ℕ) (year : number_of (year_part word) ≡ Is y) where
-        pub date-month : number_of (month_part word) ≡ Not → date_of_word word ≡ date.Not
+        pub date_month : number_of (month_part word) ≡ Not → date_of_word word ≡ date.Not
         unfolding date_of_word is_date_word
-        date-month n =
+        date_month n =
             rw (eq-eqb _ _ l, eq-eqb _ _ p, eq-eqb _ _ q, (is_number_lem (year_part word) y year).0, not_number (month_part word) n)
 
         module _ (m : ℕ) (month : number_of (month_part word) ≡ Is m) where
-          pub date-day : number_of (day_part word) ≡ Not → date_of_word word ≡ date.Not
+          pub date_day : number_of (day_part word) ≡ Not → date_of_word word ≡ date.Not
           unfolding date_of_word is_date_word
-          date-day n =
+          date_day n =
               rw (
                 eq-eqb _ _ l,
                 eq-eqb _ _ p,
@@ -119,9 +119,9 @@ module _ (word : List ℕ) (l : length word ≡ 10) where
                 not_number (day_part word) n,
               )
 
-          pub date-whole : (d : ℕ) → number_of (day_part word) ≡ Is d → date_of_word word ≡ date.Is y m d
+          pub date_whole : (d : ℕ) → number_of (day_part word) ≡ Is d → date_of_word word ≡ date.Is y m d
           unfolding date_of_word is_date_word
-          date-whole d day =
+          date_whole d day =
               rw (
                 eq-eqb _ _ l,
                 eq-eqb _ _ p,

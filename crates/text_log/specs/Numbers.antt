@@ -52,4 +52,5 @@ is_date_word word =
     ∷ [])
 
 unfoldable pub date_of_word : List ℕ → Date
-date_of_word word = cond (is_date_word word) (date.Is (value_of (year_part word)) (value_of (month_part word)) (value_of (day_part word))) date.Not
+date_of_word word = cond (is_date_word word) (date.Is (value_of (year_part word)) (value_of (month_part word)) (value_of (day_part word)))
+    date.Not

@@ -64,7 +64,8 @@ module _ (bs : List ℕ) (n first : ℕ) where
 
   -- what day d adds
   abbrev Next : ℕ → ℕ → Type 0
-  Next end d = stay_total bs n first (least end d) + cond (holds first end d) (energy_of bs n d) 0 ≡ stay_total bs n first (least end (d + 1))
+  Next end d = stay_total bs n first (least end d) + cond (holds first end d) (energy_of bs n d) 0 ≡ stay_total bs n first
+      (least end (d + 1))
 
   stay_next : (end d : ℕ) → Next end d
   stay_next end d =

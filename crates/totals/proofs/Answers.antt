@@ -19,15 +19,15 @@ module _ (bs : List ℕ) (g : Figures) (e : read_file bs ≡ verdict.Accepted g)
   no_pairs = rw e
 
   module _ (pairs totals : List ℕ) where
-    pub refused-18 : every (list_tests pairs (length totals)) ≡ false
+    pub refused_18 : every (list_tests pairs (length totals)) ≡ false
         → (Refused 18 ≡ stays_answer bs pairs totals) × (totals ≡ stays_after bs pairs totals)
     unfolding stays_after stays_answer
-    refused-18 p = rw (e, p) (refl, refl)
+    refused_18 p = rw (e, p) (refl, refl)
 
     module _ (lists : every (list_tests pairs (length totals)) ≡ true) where
-      pub refused-19 : pairs_ok g.days pairs ≡ false → (Refused 19 ≡ stays_answer bs pairs totals) × (totals ≡ stays_after bs pairs totals)
+      pub refused_19 : pairs_ok g.days pairs ≡ false → (Refused 19 ≡ stays_answer bs pairs totals) × (totals ≡ stays_after bs pairs totals)
       unfolding stays_after stays_answer
-      refused-19 q = rw (e, figures_are bs g e, lists, q) (refl, refl)
+      refused_19 q = rw (e, figures_are bs g e, lists, q) (refl, refl)
 
       pub done : pairs_ok g.days pairs ≡ true → (Done ≡ stays_answer bs pairs totals) × (totals_of bs pairs ≡ stays_after bs pairs totals)
       unfolding stays_after stays_answer

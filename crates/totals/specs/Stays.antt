@@ -27,7 +27,8 @@ end_of pairs k = get_or pairs (2 * k + 1) 0
 
 -- each pair's total, as if it were the only one
 unfoldable pub totals_of : List ℕ → List ℕ → List ℕ
-totals_of bs pairs = up_to (λ k. stay_total bs (day_minutes / (figures bs).interval) (first_of pairs k) (end_of pairs k)) 0 (pair_count pairs)
+totals_of bs pairs = up_to (λ k. stay_total bs (day_minutes / (figures bs).interval) (first_of pairs k) (end_of pairs k)) 0
+    (pair_count pairs)
 
 -- ---- The answer
 

@@ -29,7 +29,8 @@ fits_told c = c.agreed_fit.ensures
 
 lists_broken : (c : Then-not-agreed_fit) → whole (goal.at.Then-not-agreed_fit c).Start ≡ refused 2
 unfolding agree_answer
-lists_broken c = refused_2 _ _ _ _ (head_passed (goal.at.Then-not-agreed_fit c).Else-not-head_ok) (fails (fits_told (goal.at.Then-not-agreed_fit c).After-agreed_fit) c.if-not-agreed_fit.true)
+lists_broken c = refused_2 _ _ _ _ (head_passed (goal.at.Then-not-agreed_fit c).Else-not-head_ok)
+    (fails (fits_told (goal.at.Then-not-agreed_fit c).After-agreed_fit) c.if-not-agreed_fit.true)
 
 pub returns-then-not-head_ok : goal.returns-then-not-head_ok
 unfolding agree_answer agree_after
@@ -53,4 +54,5 @@ returns c =
     let a = c.args in
     let fit = passes (fits_told (goal.at.returns c).After-agreed_fit) c.if-not-agreed_fit.false in
     let e = c.file_number.ensures in
-    rw (agree_number a.head (head_passed (goal.at.returns c).Else-not-head_ok) (lent (goal.at.returns c).Start) a.slot a.version a.value fit) e
+    rw (agree_number a.head (head_passed (goal.at.returns c).Else-not-head_ok) (lent (goal.at.returns c).Start) a.slot a.version a.value
+    fit) e

@@ -19,7 +19,8 @@ use Rattle.book.specs.Inner.Lent.{Deliverable}
 use Rattle.book.proofs.Fits.{long}
 use Rattle.book.proofs.Tested.{passes, fails, refused_2, past_both}
 use Rattle.book.proofs.deliver.Goals as goal
-use Rattle.book.proofs.deliver.Goals.{After-delivery_fits, Else-not-delivery_fits, Else-not-head_ok, Else-slot_count-at, Else-status-gt7, Else-version-eq0, Start, Then-not-delivery_fits}
+use Rattle.book.proofs.deliver.Goals.{After-delivery_fits, Else-not-delivery_fits, Else-not-head_ok, Else-slot_count-at, Else-status-gt7}
+use Rattle.book.proofs.deliver.Goals.{Else-version-eq0, Start, Then-not-delivery_fits}
 
 abbrev lent : Start → Slots
 lent c = lent_slots c.args.values.now c.args.versions.now c.args.statuses.now
@@ -41,24 +42,28 @@ head_passed : (c : Else-not-head_ok) → head_ok c.args.head ≡ true
 head_passed c = passes c.head_ok.ensures c.if-not-head_ok.false
 
 fits_told : (c : After-delivery_fits)
-    → c.delivery_fits.result ≡ (slots_fit c.args.head (lent (goal.at.After-delivery_fits c).Start) && counts_fit c.args.head c.args.counts.now)
+    → c.delivery_fits.result ≡ (slots_fit c.args.head (lent (goal.at.After-delivery_fits c).Start) && counts_fit c.args.head
+    c.args.counts.now)
 unfolding slots_fit counts_fit
 fits_told c = c.delivery_fits.ensures
 
 lists_broken : (c : Then-not-delivery_fits) → whole (goal.at.Then-not-delivery_fits c).Start ≡ refused 2
 unfolding deliver_answer
-lists_broken c = refused_2 _ _ _ _ (head_passed (goal.at.Then-not-delivery_fits c).Else-not-head_ok) (fails (fits_told (goal.at.Then-not-delivery_fits c).After-delivery_fits) c.if-not-delivery_fits.true)
+lists_broken c = refused_2 _ _ _ _ (head_passed (goal.at.Then-not-delivery_fits c).Else-not-head_ok)
+    (fails (fits_told (goal.at.Then-not-delivery_fits c).After-delivery_fits) c.if-not-delivery_fits.true)
 
 past_2 : (c : Else-not-delivery_fits) → whole (goal.at.Else-not-delivery_fits c).Start ≡ past 2 (goal.at.Else-not-delivery_fits c).Start
 unfolding deliver_answer
-past_2 c = past_both _ _ _ _ (head_passed (goal.at.Else-not-delivery_fits c).Else-not-head_ok) (passes (fits_told (goal.at.Else-not-delivery_fits c).After-delivery_fits) c.if-not-delivery_fits.false)
+past_2 c = past_both _ _ _ _ (head_passed (goal.at.Else-not-delivery_fits c).Else-not-head_ok)
+    (passes (fits_told (goal.at.Else-not-delivery_fits c).After-delivery_fits) c.if-not-delivery_fits.false)
 
 under : (c : Else-slot_count-at) → c.args.slot < slot_count c.args.head
 under c = omega (arith, c.slot_count.ensures, c.if-slot_count-at.false)
 
 past_3 : (c : Else-slot_count-at) → whole (goal.at.Else-slot_count-at c).Start ≡ past 3 (goal.at.Else-slot_count-at c).Start
 unfolding argument_rules
-past_3 c = past_2 (goal.at.Else-slot_count-at c).Else-not-delivery_fits ∙ rw (lt-leb _ _ (under (goal.at.Else-slot_count-at c).Else-slot_count-at))
+past_3 c = past_2 (goal.at.Else-slot_count-at c).Else-not-delivery_fits ∙ rw
+    (lt-leb _ _ (under (goal.at.Else-slot_count-at c).Else-slot_count-at))
 
 past_4 : (c : Else-version-eq0) → whole (goal.at.Else-version-eq0 c).Start ≡ past 4 (goal.at.Else-version-eq0 c).Start
 unfolding argument_rules
@@ -81,7 +86,13 @@ deliverable c =
     let parts = and_parts _ _ (passes c.delivery_fits.ensures c.if-not-delivery_fits.false) in
     let fits = long _ _ parts.0 in
     record {
-      fitted = record { head = head_passed (goal.at.Else-slot_count-at c).Else-not-head_ok; values = fits 0; versions = fits 1; statuses = fits 2 };
+      fitted = record {
+        head = head_passed (goal.at.Else-slot_count-at c).Else-not-head_ok;
+        values = fits 0;
+        versions = fits 1;
+        statuses =
+            fits 2;
+      };
       counts = long _ _ parts.1 0;
       inside = under (goal.at.Else-slot_count-at c).Else-slot_count-at;
     }
@@ -109,7 +120,8 @@ returns-then-slot_count-at c =
 
 pub returns-then-version-eq0 : goal.returns-then-version-eq0
 unfolding deliver_after counts_after argument_rules
-returns-then-version-eq0 c = rw (past_3 (goal.at.returns-then-version-eq0 c).Else-slot_count-at, eq-eqb _ _ c.if-version-eq0.true) (refl, refl, refl)
+returns-then-version-eq0 c = rw (past_3 (goal.at.returns-then-version-eq0 c).Else-slot_count-at, eq-eqb _ _ c.if-version-eq0.true)
+    (refl, refl, refl)
 
 pub returns-then-status-gt7 : goal.returns-then-status-gt7
 unfolding deliver_after counts_after argument_rules

@@ -17,7 +17,8 @@ use Rattle.book.specs.Filling.{input_rules, against_day, holiday_answer, holiday
 use Rattle.book.proofs.Fits.{long}
 use Rattle.book.proofs.Tested.{passes, fails, refused_2, past_both}
 use Rattle.book.proofs.holiday.Goals as goal
-use Rattle.book.proofs.holiday.Goals.{After-against_day-found, After-days_fit, Else-head-day, Else-not-days_fit, Else-not-head_ok, Start, Then-not-days_fit}
+use Rattle.book.proofs.holiday.Goals.{After-against_day-found, After-days_fit, Else-head-day, Else-not-days_fit, Else-not-head_ok, Start}
+use Rattle.book.proofs.holiday.Goals.{Then-not-days_fit}
 
 abbrev lent : Start → List ℕ
 lent c = c.args.holidays.now
@@ -40,11 +41,13 @@ fits_told c = c.days_fit.ensures
 
 lists_broken : (c : Then-not-days_fit) → whole (goal.at.Then-not-days_fit c).Start ≡ refused 2
 unfolding holiday_answer
-lists_broken c = refused_2 _ _ _ _ (head_passed (goal.at.Then-not-days_fit c).Else-not-head_ok) (fails (fits_told (goal.at.Then-not-days_fit c).After-days_fit) c.if-not-days_fit.true)
+lists_broken c = refused_2 _ _ _ _ (head_passed (goal.at.Then-not-days_fit c).Else-not-head_ok)
+    (fails (fits_told (goal.at.Then-not-days_fit c).After-days_fit) c.if-not-days_fit.true)
 
 past_2 : (c : Else-not-days_fit) → whole (goal.at.Else-not-days_fit c).Start ≡ past 2 (goal.at.Else-not-days_fit c).Start
 unfolding holiday_answer
-past_2 c = past_both _ _ _ _ (head_passed (goal.at.Else-not-days_fit c).Else-not-head_ok) (passes (fits_told (goal.at.Else-not-days_fit c).After-days_fit) c.if-not-days_fit.false)
+past_2 c = past_both _ _ _ _ (head_passed (goal.at.Else-not-days_fit c).Else-not-head_ok)
+    (passes (fits_told (goal.at.Else-not-days_fit c).After-days_fit) c.if-not-days_fit.false)
 
 under : (c : Else-head-day) → c.args.day < c.args.head.days
 under c = omega (arith, c.if-head-day.false)
@@ -86,8 +89,16 @@ bounds-holidays-at-then-is_stored c = omega (arith, inside (goal.at.bounds-holid
 
 pub returns-then-is_stored : goal.returns-then-is_stored
 unfolding holiday_after
-returns-then-is_stored c = rw (found (goal.at.returns-then-is_stored c).After-against_day-found, sym c.is_stored.ensures ∙ c.if-is_stored.true) (refl, refl)
+returns-then-is_stored c = rw (
+  found (goal.at.returns-then-is_stored c).After-against_day-found,
+  sym c.is_stored.ensures ∙
+      c.if-is_stored.true,
+) (refl, refl)
 
 pub returns-else-is_stored : goal.returns-else-is_stored
 unfolding holiday_after
-returns-else-is_stored c = rw (found (goal.at.returns-else-is_stored c).After-against_day-found, sym c.is_stored.ensures ∙ c.if-is_stored.false) (refl, refl)
+returns-else-is_stored c = rw (
+  found (goal.at.returns-else-is_stored c).After-against_day-found,
+  sym c.is_stored.ensures ∙
+      c.if-is_stored.false,
+) (refl, refl)

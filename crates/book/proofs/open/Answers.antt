@@ -23,7 +23,8 @@ unfolding open_answer open_after cells_fit slots_fit days_fit reads_fit agreed_f
 returns-then-not-fit c =
     let a = c.args in
     let broken : book_fits a.head
-    (lent_book a.values.now a.versions.now a.statuses.now a.holidays.now a.readings.now a.read_versions.now a.agreed.now a.agreed_versions.now
+    (lent_book a.values.now a.versions.now a.statuses.now a.holidays.now a.readings.now a.read_versions.now a.agreed.now
+    a.agreed_versions.now
     a.counts.now a.widths.now) ≡ false =
     sym c.book_fits-fit.ensures ∙ c.if-not-fit.true in
     rw (sym c.head_ok.ensures ∙ c.if-not-head_ok.false, broken)

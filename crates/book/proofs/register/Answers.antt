@@ -29,7 +29,8 @@ fits_told c = c.reads_fit.ensures
 
 lists_broken : (c : Then-not-reads_fit) → whole (goal.at.Then-not-reads_fit c).Start ≡ refused 2
 unfolding register_answer
-lists_broken c = refused_2 _ _ _ _ (head_passed (goal.at.Then-not-reads_fit c).Else-not-head_ok) (fails (fits_told (goal.at.Then-not-reads_fit c).After-reads_fit) c.if-not-reads_fit.true)
+lists_broken c = refused_2 _ _ _ _ (head_passed (goal.at.Then-not-reads_fit c).Else-not-head_ok)
+    (fails (fits_told (goal.at.Then-not-reads_fit c).After-reads_fit) c.if-not-reads_fit.true)
 
 pub returns-then-not-head_ok : goal.returns-then-not-head_ok
 unfolding register_answer register_after
@@ -50,5 +51,6 @@ returns c =
     let a = c.args in
     let fit = passes (fits_told (goal.at.returns c).After-reads_fit) c.if-not-reads_fit.false in
     let e = c.file_register.ensures in
-    rw (register_read a.head (head_passed (goal.at.returns c).Else-not-head_ok) (lent (goal.at.returns c).Start) a.boundary a.version a.reading a.width fit)
+    rw (register_read a.head (head_passed (goal.at.returns c).Else-not-head_ok) (lent (goal.at.returns c).Start) a.boundary a.version
+    a.reading a.width fit)
     e

@@ -1,13 +1,14 @@
 -- `explain` refuses in the order of the numbers.
 use mathlib.Core.Path.{sym, ◌∙◌}
 use Rattle.book.specs.Lent.{lent_book}
-use Rattle.explain.proofs.Answering.{refused_1, refused_2, refused-3}
+use Rattle.explain.proofs.Answering.{refused_1, refused_2, refused_3}
 use Rattle.explain.proofs.explain.Goals as goal
 
 pub returns-then-not-head_ok : goal.returns-then-not-head_ok
 returns-then-not-head_ok c =
     let a = c.args in
-    let b = lent_book a.values.now a.versions.now a.statuses.now a.holidays.now a.readings.now a.read_versions.now a.agreed.now a.agreed_versions.now
+    let b = lent_book a.values.now a.versions.now a.statuses.now a.holidays.now a.readings.now a.read_versions.now a.agreed.now
+    a.agreed_versions.now
     a.counts.now a.widths.now in
     c.refused_by.ensures
     ∙ refused_1 a.head b a.slot (sym c.head_ok.ensures ∙ c.if-not-head_ok.true)
@@ -18,7 +19,8 @@ lists_fit-requires c = sym c.head_ok.ensures ∙ c.if-not-head_ok.false
 pub returns-then-not-lists_fit : goal.returns-then-not-lists_fit
 returns-then-not-lists_fit c =
     let a = c.args in
-    let b = lent_book a.values.now a.versions.now a.statuses.now a.holidays.now a.readings.now a.read_versions.now a.agreed.now a.agreed_versions.now
+    let b = lent_book a.values.now a.versions.now a.statuses.now a.holidays.now a.readings.now a.read_versions.now a.agreed.now
+    a.agreed_versions.now
     a.counts.now a.widths.now in
     c.refused_by-then-not-lists_fit.ensures
     ∙ refused_2 a.head b a.slot (sym c.head_ok.ensures ∙ c.if-not-head_ok.false)
@@ -30,10 +32,11 @@ slot_count-requires c = sym c.head_ok.ensures ∙ c.if-not-head_ok.false
 pub returns-then-slot_count-slot : goal.returns-then-slot_count-slot
 returns-then-slot_count-slot c =
     let a = c.args in
-    let b = lent_book a.values.now a.versions.now a.statuses.now a.holidays.now a.readings.now a.read_versions.now a.agreed.now a.agreed_versions.now
+    let b = lent_book a.values.now a.versions.now a.statuses.now a.holidays.now a.readings.now a.read_versions.now a.agreed.now
+    a.agreed_versions.now
     a.counts.now a.widths.now in
     c.refused_by-then-slot_count-slot.ensures
-    ∙ refused-3 a.head b a.slot (sym c.head_ok.ensures ∙ c.if-not-head_ok.false)
+    ∙ refused_3 a.head b a.slot (sym c.head_ok.ensures ∙ c.if-not-head_ok.false)
     (sym c.lists_fit.ensures ∙ c.if-not-lists_fit.false)
     (rw c.slot_count.ensures at c.if-slot_count-slot.true)
 

@@ -23,15 +23,37 @@ pub returns-then-found-actual : goal.returns-then-found-actual
 returns-then-found-actual c = rw (ne_eqb _ _ c.if-found-actual.true)
 
 pub returns-then-found-substituted : goal.returns-then-found-substituted
-returns-then-found-substituted c = rw (actual (goal.at.returns-then-found-substituted c).Else-found-actual, ne_eqb _ _ c.if-found-substituted.true)
+returns-then-found-substituted c = rw (
+  actual (goal.at.returns-then-found-substituted c).Else-found-actual,
+  ne_eqb _ _
+      c.if-found-substituted.true,
+)
 
 pub returns-then-found-none : goal.returns-then-found-none
-returns-then-found-none c = rw (actual (goal.at.returns-then-found-none c).Else-found-actual, substituted (goal.at.returns-then-found-none c).Else-found-substituted, ne_eqb _ _ c.if-found-none.true)
+returns-then-found-none c = rw (
+  actual (goal.at.returns-then-found-none c).Else-found-actual,
+  substituted
+      (goal.at.returns-then-found-none c).Else-found-substituted,
+  ne_eqb _ _ c.if-found-none.true,
+)
 
 pub returns-then-not-layout_fits : goal.returns-then-not-layout_fits
 returns-then-not-layout_fits c =
-    rw (actual (goal.at.returns-then-not-layout_fits c).Else-found-actual, substituted (goal.at.returns-then-not-layout_fits c).Else-found-substituted, none (goal.at.returns-then-not-layout_fits c).Else-found-none, sym c.layout_fits.ensures ∙ c.if-not-layout_fits.true)
+    rw (
+      actual (goal.at.returns-then-not-layout_fits c).Else-found-actual,
+      substituted
+          (goal.at.returns-then-not-layout_fits c).Else-found-substituted,
+      none (goal.at.returns-then-not-layout_fits c).Else-found-none,
+      sym
+          c.layout_fits.ensures ∙ c.if-not-layout_fits.true,
+    )
 
 pub returns : goal.returns
 returns c =
-    rw (actual (goal.at.returns c).Else-found-actual, substituted (goal.at.returns c).Else-found-substituted, none (goal.at.returns c).Else-found-none, layout (goal.at.returns c).Else-not-layout_fits) (sym (and-true _))
+    rw (
+      actual (goal.at.returns c).Else-found-actual,
+      substituted (goal.at.returns c).Else-found-substituted,
+      none
+          (goal.at.returns c).Else-found-none,
+      layout (goal.at.returns c).Else-not-layout_fits,
+    ) (sym (and-true _))

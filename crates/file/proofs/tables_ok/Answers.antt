@@ -22,14 +22,19 @@ states c = sym c.states_ok.ensures ∙ c.if-not-states_ok.false
 
 pub returns-then-not-forms_ok : goal.returns-then-not-forms_ok
 unfolding tables_ok
-returns-then-not-forms_ok c = rw (sym (counted (goal.at.returns-then-not-forms_ok c).Start) ∙ sym c.forms_ok.ensures ∙ c.if-not-forms_ok.true)
+returns-then-not-forms_ok c = rw (sym (counted (goal.at.returns-then-not-forms_ok c).Start) ∙ sym c.forms_ok.ensures ∙
+    c.if-not-forms_ok.true)
 
 pub spans_ok-requires : goal.spans_ok-requires
 spans_ok-requires c = c.requires.0
 
 pub returns-then-not-spans_ok : goal.returns-then-not-spans_ok
 unfolding tables_ok
-returns-then-not-spans_ok c = rw (forms (goal.at.returns-then-not-spans_ok c).Else-not-forms_ok, sym c.spans_ok.ensures ∙ c.if-not-spans_ok.true)
+returns-then-not-spans_ok c = rw (
+  forms (goal.at.returns-then-not-spans_ok c).Else-not-forms_ok,
+  sym c.spans_ok.ensures ∙
+      c.if-not-spans_ok.true,
+)
 
 pub states_ok-requires : goal.states_ok-requires
 states_ok-requires c = (c.requires.0, spans (goal.at.states_ok-requires c).Else-not-spans_ok)
@@ -37,7 +42,12 @@ states_ok-requires c = (c.requires.0, spans (goal.at.states_ok-requires c).Else-
 pub returns-then-not-states_ok : goal.returns-then-not-states_ok
 unfolding tables_ok
 returns-then-not-states_ok c =
-    rw (forms (goal.at.returns-then-not-states_ok c).Else-not-forms_ok, spans (goal.at.returns-then-not-states_ok c).Else-not-spans_ok, sym c.states_ok.ensures ∙ c.if-not-states_ok.true)
+    rw (
+      forms (goal.at.returns-then-not-states_ok c).Else-not-forms_ok,
+      spans (goal.at.returns-then-not-states_ok c).Else-not-spans_ok,
+      sym
+          c.states_ok.ensures ∙ c.if-not-states_ok.true,
+    )
 
 pub outside_ok-requires : goal.outside_ok-requires
 outside_ok-requires c = (c.requires.0, spans (goal.at.outside_ok-requires c).Else-not-spans_ok)
@@ -45,4 +55,10 @@ outside_ok-requires c = (c.requires.0, spans (goal.at.outside_ok-requires c).Els
 pub returns : goal.returns
 unfolding tables_ok
 returns c =
-    rw (forms (goal.at.returns c).Else-not-forms_ok, spans (goal.at.returns c).Else-not-spans_ok, states (goal.at.returns c).Else-not-states_ok, c.outside_ok.ensures) (sym (and-true _))
+    rw (
+      forms (goal.at.returns c).Else-not-forms_ok,
+      spans (goal.at.returns c).Else-not-spans_ok,
+      states
+          (goal.at.returns c).Else-not-states_ok,
+      c.outside_ok.ensures,
+    ) (sym (and-true _))

@@ -28,11 +28,16 @@ lists_fit-requires c = head_passed (goal.at.lists_fit-requires c).Else-not-head_
 
 pub returns-then-not-lists_fit : goal.returns-then-not-lists_fit
 returns-then-not-lists_fit c =
-    refused_2 c.args.head (lent (goal.at.returns-then-not-lists_fit c).Start) c.args.out.now (head_passed (goal.at.returns-then-not-lists_fit c).Else-not-head_ok)
+    refused_2 c.args.head (lent (goal.at.returns-then-not-lists_fit c).Start) c.args.out.now
+    (head_passed (goal.at.returns-then-not-lists_fit c).Else-not-head_ok)
     (sym c.lists_fit.ensures ∙ c.if-not-lists_fit.true)
 
 pub put_fitted-requires : goal.put_fitted-requires
-put_fitted-requires c = (head_passed (goal.at.put_fitted-requires c).Else-not-head_ok, lists_passed (goal.at.put_fitted-requires c).Else-not-lists_fit)
+put_fitted-requires c = (
+  head_passed (goal.at.put_fitted-requires c).Else-not-head_ok,
+  lists_passed
+      (goal.at.put_fitted-requires c).Else-not-lists_fit,
+)
 
 pub returns : goal.returns
 returns c = c.put_fitted.ensures

@@ -5,7 +5,7 @@ use lib.ListN.{length}
 use Rattle.rules.specs.Opening.{slot_count}
 use Rattle.rules.specs.Spans.{spans}
 use Rattle.rules.specs.Lent.{slots, agreed_lists, cells}
-use Rattle.publishing.proofs.Publishing.{whole_of, spans-found, spans-low, length_found, refused_7, long_enough}
+use Rattle.publishing.proofs.Publishing.{whole_of, spans_found, spans_low, length_found, refused_7, long_enough}
 use Rattle.publishing.proofs.put_sound.Goals as goal
 
 pub length_of-length-requires : goal.length_of-length-requires
@@ -13,7 +13,7 @@ length_of-length-requires c =
     let a = c.args in
     let b = cells (slots a.values.now a.versions.now a.statuses.now) a.holidays.now a.readings.now
     a.read_versions.now (agreed_lists a.agreed.now a.agreed_versions.now) a.widths.now in
-    (c.requires.head, spans-low a.head b c.requires _ c.span_count-spans.ensures)
+    (c.requires.head, spans_low a.head b c.requires _ c.span_count-spans.ensures)
 
 pub returns-then-out-length : goal.returns-then-out-length
 returns-then-out-length c =
@@ -29,7 +29,7 @@ put_file-requires c =
     let a = c.args in
     let b = cells (slots a.values.now a.versions.now a.statuses.now) a.holidays.now a.readings.now
     a.read_versions.now (agreed_lists a.agreed.now a.agreed_versions.now) a.widths.now in
-    let m = spans-found a.head b c.requires _ c.span_count-spans.ensures in
+    let m = spans_found a.head b c.requires _ c.span_count-spans.ensures in
     let room : 6 * slot_count a.head + 14 * length (spans a.head b) + 32 ≤ length a.out.now =
     omega (arith, m, c.if-out-length.false, c.length_of-length.ensures) in
     (record { whole = whole_of a.head b c.requires; room = room }, m)

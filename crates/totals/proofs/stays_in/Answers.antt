@@ -9,15 +9,15 @@ use Rattle.file.specs.declared.Figures.{Figures}
 use Rattle.totals.specs.Stays.{list_tests}
 use Rattle.totals.proofs.Adding.{before_all}
 use Rattle.file.proofs.Answers.{figures_are, some_interval, tabled}
-use Rattle.totals.proofs.Answers.{refused-18, refused-19, done}
+use Rattle.totals.proofs.Answers.{refused_18, refused_19, done}
 use Rattle.totals.proofs.stays_in.Goals as goal
 
 pub returns-then-not-lists_fit : goal.returns-then-not-lists_fit
-returns-then-not-lists_fit c = refused-18 _ _ c.requires _ _ (sym c.lists_fit.ensures ∙ c.if-not-lists_fit.true)
+returns-then-not-lists_fit c = refused_18 _ _ c.requires _ _ (sym c.lists_fit.ensures ∙ c.if-not-lists_fit.true)
 
 pub returns-then-not-pairs_fit : goal.returns-then-not-pairs_fit
 returns-then-not-pairs_fit c =
-    refused-19 _ _ c.requires _ _
+    refused_19 _ _ c.requires _ _
     (sym c.lists_fit.ensures ∙ c.if-not-lists_fit.false)
     (sym c.pairs_fit.ensures ∙ c.if-not-pairs_fit.true)
 

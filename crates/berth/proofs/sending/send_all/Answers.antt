@@ -2,7 +2,7 @@
 use borrow.Author.Rules.{rules}
 use mathlib.Core.Path.{refl}
 use native.Mathlib.Omega.{arith}
-use Rattle.berth.proofs.Sends.{slots_high, send_first, total-high, send-next, send-last}
+use Rattle.berth.proofs.Sends.{slots_high, send_first, total_high, send_next, send_last}
 use Rattle.berth.proofs.sending.send_all.Goals as goal
 
 pub slot_count-slots-requires : goal.slot_count-slots-requires
@@ -21,10 +21,10 @@ pub loop-slot-init : goal.loop-slot-init
 loop-slot-init c =
     record {
       under = send_first _ _ _ _ _ c.new-berth.ensures;
-      long-values = refl;
-      long-versions = refl;
-      long-statuses = refl;
-      long-counts = refl;
+      long_values = refl;
+      long_versions = refl;
+      long_statuses = refl;
+      long_counts = refl;
     }
 
 pub step-berth-requires : goal.step-berth-requires
@@ -35,10 +35,10 @@ send-requires c = tt
 
 pub overflow_add-total : goal.overflow_add-total
 overflow_add-total c =
-    let on = send-next _ _ _ _ _ _ _ _ c.loop-slot.invariant.under _ _ _
+    let on = send_next _ _ _ _ _ _ _ _ c.loop-slot.invariant.under _ _ _
     (omega (arith, c.slot_count-slots.ensures, c.loop-slot-test.true)) c.most_of-most.ensures
     c.step-berth.ensures c.send.ensures in
-    record { fits = omega (arith, total-high _ _ _ _ _ _ _ _ on c.requires) }
+    record { fits = omega (arith, total_high _ _ _ _ _ _ _ _ on c.requires) }
 
 pub overflow_add-slot : goal.overflow_add-slot
 overflow_add-slot c =
@@ -54,16 +54,16 @@ overflow_add-slot c =
 pub loop-slot-preserved : goal.loop-slot-preserved
 loop-slot-preserved c =
     record {
-      under = send-next _ _ _ _ _ _ _ _ c.loop-slot.invariant.under _ _ _
+      under = send_next _ _ _ _ _ _ _ _ c.loop-slot.invariant.under _ _ _
           (omega (arith, c.slot_count-slots.ensures, c.loop-slot-test.true))
           c.most_of-most.ensures c.step-berth.ensures c.send.ensures;
-      long-values = search rules;
-      long-versions = search rules;
-      long-statuses = search rules;
-      long-counts = search rules;
+      long_values = search rules;
+      long_versions = search rules;
+      long_statuses = search rules;
+      long_counts = search rules;
     }
 
 pub returns : goal.returns
 returns c =
-    send-last _ _ _ _ _ _ _ _ c.loop-slot.invariant.under
+    send_last _ _ _ _ _ _ _ _ c.loop-slot.invariant.under
     (omega (arith, c.slot_count-slots.ensures, c.loop-slot-test.false))

@@ -42,7 +42,8 @@ raised-requires c =
     (c.requires.fitted.head, sym c.is_full.ensures ∙ c.if-is_full.false)
 
 pub offset_bounds-counts-day-then-is_stored : goal.offset_bounds-counts-day-then-is_stored
-offset_bounds-counts-day-then-is_stored c = let i = day_inside (goal.at.offset_bounds-counts-day-then-is_stored c).After-day_of-day in search rules
+offset_bounds-counts-day-then-is_stored c = let i = day_inside (goal.at.offset_bounds-counts-day-then-is_stored c).After-day_of-day in
+    search rules
 
 pub bounds-counts-day-then-is_stored : goal.bounds-counts-day-then-is_stored
 bounds-counts-day-then-is_stored c = day_inside (goal.at.bounds-counts-day-then-is_stored c).After-day_of-day

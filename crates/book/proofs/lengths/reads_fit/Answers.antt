@@ -11,7 +11,11 @@ returns-then-readings-n c = simp (ne_eqb _ _ (rw add-one at c.if-readings-n.true
 
 pub returns-then-read_versions-n : goal.returns-then-read_versions-n
 unfolding all_long
-returns-then-read_versions-n c = simp (eq-eqb _ _ (rw add-one at c.if-readings-n.false), ne_eqb _ _ (rw add-one at c.if-read_versions-n.true))
+returns-then-read_versions-n c = simp (
+  eq-eqb _ _ (rw add-one at c.if-readings-n.false),
+  ne_eqb _ _
+      (rw add-one at c.if-read_versions-n.true),
+)
 
 pub returns : goal.returns
 unfolding all_long

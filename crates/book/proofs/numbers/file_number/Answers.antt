@@ -23,7 +23,8 @@ inside c = omega (arith, c.if-numbers-at.false)
 found : (c : After-against_agreed-found) → whole (goal.at.After-against_agreed-found c).Start ≡ received_meant c.against_agreed-found.result
 found c =
     let small : c.args.number ≤ 99_999_999 = omega (arith, c.if-number-gt-EIGHT_DIGITS.false) in
-    number_sound _ _ _ _ (inside (goal.at.After-against_agreed-found c).Else-numbers-at) c.if-version-eq0.false small ∙ sym c.against_agreed-found.ensures
+    number_sound _ _ _ _ (inside (goal.at.After-against_agreed-found c).Else-numbers-at) c.if-version-eq0.false small ∙ sym
+    c.against_agreed-found.ensures
 
 pub returns-then-numbers-at : goal.returns-then-numbers-at
 unfolding number_answer number_after
@@ -34,13 +35,19 @@ returns-then-numbers-at c =
 
 pub returns-then-version-eq0 : goal.returns-then-version-eq0
 unfolding number_answer number_after
-returns-then-version-eq0 c = rw (lt-leb _ _ (inside (goal.at.returns-then-version-eq0 c).Else-numbers-at), eq-eqb _ _ c.if-version-eq0.true) (refl, refl)
+returns-then-version-eq0 c = rw (lt-leb _ _ (inside (goal.at.returns-then-version-eq0 c).Else-numbers-at), eq-eqb _ _ c.if-version-eq0.true)
+    (refl, refl)
 
 pub returns-then-number-gt-EIGHT_DIGITS : goal.returns-then-number-gt-EIGHT_DIGITS
 unfolding number_answer number_after
 returns-then-number-gt-EIGHT_DIGITS c =
     let large : 99_999_999 < c.args.number = omega (arith, c.if-number-gt-EIGHT_DIGITS.true) in
-    rw (lt-leb _ _ (inside (goal.at.returns-then-number-gt-EIGHT_DIGITS c).Else-numbers-at), ne_eqb _ _ c.if-version-eq0.false, lt-ltb _ _ large) (refl, refl)
+    rw (
+      lt-leb _ _ (inside (goal.at.returns-then-number-gt-EIGHT_DIGITS c).Else-numbers-at),
+      ne_eqb _ _ c.if-version-eq0.false,
+      lt-ltb _ _
+          large,
+    ) (refl, refl)
 
 pub bounds-versions-at : goal.bounds-versions-at
 bounds-versions-at c = omega (arith, inside (goal.at.bounds-versions-at c).Else-numbers-at)
@@ -56,8 +63,16 @@ bounds-versions-at-then-is_stored c = omega (arith, inside (goal.at.bounds-versi
 
 pub returns-then-is_stored : goal.returns-then-is_stored
 unfolding number_after
-returns-then-is_stored c = rw (found (goal.at.returns-then-is_stored c).After-against_agreed-found, sym c.is_stored.ensures ∙ c.if-is_stored.true) (refl, refl)
+returns-then-is_stored c = rw (
+  found (goal.at.returns-then-is_stored c).After-against_agreed-found,
+  sym c.is_stored.ensures ∙
+      c.if-is_stored.true,
+) (refl, refl)
 
 pub returns-else-is_stored : goal.returns-else-is_stored
 unfolding number_after
-returns-else-is_stored c = rw (found (goal.at.returns-else-is_stored c).After-against_agreed-found, sym c.is_stored.ensures ∙ c.if-is_stored.false) (refl, refl)
+returns-else-is_stored c = rw (
+  found (goal.at.returns-else-is_stored c).After-against_agreed-found,
+  sym c.is_stored.ensures ∙
+      c.if-is_stored.false,
+) (refl, refl)

@@ -22,11 +22,13 @@ inside : (c : Else-readings-at) → c.args.boundary < length c.args.readings.now
 inside c = omega (arith, c.if-readings-at.false)
 
 -- what `against_boundary` found is the answer
-found : (c : After-against_boundary-found) → whole (goal.at.After-against_boundary-found c).Start ≡ received_meant c.against_boundary-found.result
+found : (c : After-against_boundary-found) → whole (goal.at.After-against_boundary-found c).Start ≡ received_meant
+    c.against_boundary-found.result
 found c =
     let small : c.args.reading ≤ 99_999_999 = omega (arith, c.if-reading-gt-EIGHT_DIGITS.false) in
     let narrow : c.args.width ≤ 9999 = omega (arith, c.if-width-gt-MOST_WIDTH.false) in
-    read_sound _ _ _ _ _ (inside (goal.at.After-against_boundary-found c).Else-readings-at) c.if-version-eq0.false small narrow ∙ sym c.against_boundary-found.ensures
+    read_sound _ _ _ _ _ (inside (goal.at.After-against_boundary-found c).Else-readings-at) c.if-version-eq0.false small narrow ∙ sym
+    c.against_boundary-found.ensures
 
 pub returns-then-readings-at : goal.returns-then-readings-at
 unfolding read_answer read_after
@@ -36,20 +38,35 @@ returns-then-readings-at c =
 
 pub returns-then-version-eq0 : goal.returns-then-version-eq0
 unfolding read_answer read_after
-returns-then-version-eq0 c = rw (lt-leb _ _ (inside (goal.at.returns-then-version-eq0 c).Else-readings-at), eq-eqb _ _ c.if-version-eq0.true) (refl, refl)
+returns-then-version-eq0 c = rw (
+  lt-leb _ _ (inside (goal.at.returns-then-version-eq0 c).Else-readings-at),
+  eq-eqb _ _
+      c.if-version-eq0.true,
+) (refl, refl)
 
 pub returns-then-reading-gt-EIGHT_DIGITS : goal.returns-then-reading-gt-EIGHT_DIGITS
 unfolding read_answer read_after
 returns-then-reading-gt-EIGHT_DIGITS c =
     let large : 99_999_999 < c.args.reading = omega (arith, c.if-reading-gt-EIGHT_DIGITS.true) in
-    rw (lt-leb _ _ (inside (goal.at.returns-then-reading-gt-EIGHT_DIGITS c).Else-readings-at), ne_eqb _ _ c.if-version-eq0.false, lt-ltb _ _ large) (refl, refl)
+    rw (
+      lt-leb _ _ (inside (goal.at.returns-then-reading-gt-EIGHT_DIGITS c).Else-readings-at),
+      ne_eqb _ _ c.if-version-eq0.false,
+      lt-ltb _ _
+          large,
+    ) (refl, refl)
 
 pub returns-then-width-gt-MOST_WIDTH : goal.returns-then-width-gt-MOST_WIDTH
 unfolding read_answer read_after
 returns-then-width-gt-MOST_WIDTH c =
     let small : c.args.reading ≤ 99_999_999 = omega (arith, c.if-reading-gt-EIGHT_DIGITS.false) in
     let wide : 9999 < c.args.width = omega (arith, c.if-width-gt-MOST_WIDTH.true) in
-    rw (lt-leb _ _ (inside (goal.at.returns-then-width-gt-MOST_WIDTH c).Else-readings-at), ne_eqb _ _ c.if-version-eq0.false, le-ltb _ _ small, lt-ltb _ _ wide)
+    rw (
+      lt-leb _ _ (inside (goal.at.returns-then-width-gt-MOST_WIDTH c).Else-readings-at),
+      ne_eqb _ _ c.if-version-eq0.false,
+      le-ltb _ _
+          small,
+      lt-ltb _ _ wide,
+    )
     (refl, refl)
 
 pub bounds-versions-at : goal.bounds-versions-at
@@ -75,8 +92,16 @@ bounds-widths-at-then-is_stored c = omega (arith, inside (goal.at.bounds-widths-
 
 pub returns-then-is_stored : goal.returns-then-is_stored
 unfolding read_after
-returns-then-is_stored c = rw (found (goal.at.returns-then-is_stored c).After-against_boundary-found, sym c.is_stored.ensures ∙ c.if-is_stored.true) (refl, refl)
+returns-then-is_stored c = rw (
+  found (goal.at.returns-then-is_stored c).After-against_boundary-found,
+  sym c.is_stored.ensures ∙
+      c.if-is_stored.true,
+) (refl, refl)
 
 pub returns-else-is_stored : goal.returns-else-is_stored
 unfolding read_after
-returns-else-is_stored c = rw (found (goal.at.returns-else-is_stored c).After-against_boundary-found, sym c.is_stored.ensures ∙ c.if-is_stored.false) (refl, refl)
+returns-else-is_stored c = rw (
+  found (goal.at.returns-else-is_stored c).After-against_boundary-found,
+  sym c.is_stored.ensures ∙
+      c.if-is_stored.false,
+) (refl, refl)

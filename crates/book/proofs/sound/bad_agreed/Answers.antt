@@ -22,7 +22,8 @@ pub loop-i-preserved : goal.loop-i-preserved
 loop-i-preserved c =
     record {
       inside = omega arith;
-      known = searched_on (agreed_fault_at (lent (goal.at.loop-i-preserved c).At-loop-i)) c.loop-i.i c.loop-i.bad c.agreed_fault-bad.result c.loop-i.invariant.known
+      known = searched_on (agreed_fault_at (lent (goal.at.loop-i-preserved c).At-loop-i)) c.loop-i.i c.loop-i.bad c.agreed_fault-bad.result
+          c.loop-i.invariant.known
           c.agreed_fault-bad.ensures;
     }
 

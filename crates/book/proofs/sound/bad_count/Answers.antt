@@ -34,14 +34,26 @@ pub overflow_mul-day : goal.overflow_mul-day
 overflow_mul-day c =
     let h = c.args.head in
     let d = c.loop-day.day in
-    omega (arith, ap (λ (n : ℕ). d * n) c.slots_per_day-n.ensures, day_within h d (within (goal.at.overflow_mul-day c).In-loop-day), count_high h (bounds (goal.at.overflow_mul-day c).At-loop-day))
+    omega (
+      arith,
+      ap (λ (n : ℕ). d * n) c.slots_per_day-n.ensures,
+      day_within h d (within (goal.at.overflow_mul-day c).In-loop-day),
+      count_high h (bounds (goal.at.overflow_mul-day c).At-loop-day),
+    )
 
 pub delivered-requires : goal.delivered-requires
 delivered-requires c =
     let h = c.args.head in
     let d = c.loop-day.day in
     let n = c.slots_per_day-n.ensures in
-    omega (arith, ap (λ (n : ℕ). d * n) n, n, day_within h d (within (goal.at.delivered-requires c).In-loop-day), c.requires.1, (bounds (goal.at.delivered-requires c).At-loop-day).day_high)
+    omega (
+      arith,
+      ap (λ (n : ℕ). d * n) n,
+      n,
+      day_within h d (within (goal.at.delivered-requires c).In-loop-day),
+      c.requires.1,
+      (bounds (goal.at.delivered-requires c).At-loop-day).day_high,
+    )
 
 pub returns-then-count-delivered : goal.returns-then-count-delivered
 returns-then-count-delivered c =

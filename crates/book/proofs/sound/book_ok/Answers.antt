@@ -19,7 +19,8 @@ returns-then-not-cells_ok c = rw (sym c.cells_ok.ensures ∙ c.if-not-cells_ok.t
 pub bad_count-requires : goal.bad_count-requires
 bad_count-requires c =
     let a = c.args in
-    let b = lent_book a.values.now a.versions.now a.statuses.now a.holidays.now a.readings.now a.read_versions.now a.agreed.now a.agreed_versions.now
+    let b = lent_book a.values.now a.versions.now a.statuses.now a.holidays.now a.readings.now a.read_versions.now a.agreed.now
+    a.agreed_versions.now
     a.counts.now a.widths.now in
     let fits = fits_of a.head b c.requires.1 in
     (c.requires.0, (lengths_of a.head b.cells fits.0).versions, fits.1)
@@ -28,7 +29,8 @@ pub returns : goal.returns
 unfolding book_ok
 returns c =
     let a = c.args in
-    let b = lent_book a.values.now a.versions.now a.statuses.now a.holidays.now a.readings.now a.read_versions.now a.agreed.now a.agreed_versions.now
+    let b = lent_book a.values.now a.versions.now a.statuses.now a.holidays.now a.readings.now a.read_versions.now a.agreed.now
+    a.agreed_versions.now
     a.counts.now a.widths.now in
     let fits = fits_of a.head b c.requires.1 in
     let found : any (count_fault_at a.head a.versions.now a.counts.now) 0 a.head.days ≡ c.bad_count.result =

@@ -5,7 +5,7 @@ use Rattle.rules.specs.Opening.{slot_count}
 use Rattle.rules.specs.Lent.{slots}
 use Rattle.rules.specs.Inner.Walks.{zero_before, line_before}
 use Rattle.rules.proofs.Outages.{zero_applies}
-use Rattle.explain.proofs.Passing.{none_before, zero-next, line-next, walk_are}
+use Rattle.explain.proofs.Passing.{none_before, zero_next, line_next, walk_are}
 use Rattle.explain.proofs.back.fills_before.Goals as goal
 
 pub since_good-k-requires : goal.since_good-k-requires
@@ -47,8 +47,8 @@ loop-k-preserved c =
       inside = omega arith;
       zeroed =
           (rw c.requires.0.versions at c.outage_zero-outage.ensures)
-          ∙ zero-next a.head s a.agreed_versions.now (slot_count a.head) _;
-      drawn = c.line_on-line.ensures ∙ line-next a.head s a.agreed_versions.now (slot_count a.head) _;
+          ∙ zero_next a.head s a.agreed_versions.now (slot_count a.head) _;
+      drawn = c.line_on-line.ensures ∙ line_next a.head s a.agreed_versions.now (slot_count a.head) _;
       none = λ j l m. c.loop-k.invariant.none j (omega arith) m;
     }
 

@@ -10,7 +10,7 @@ use Rattle.rules.specs.Lent.{slots, agreed_lists, cells}
 use Rattle.rules.specs.Inner.Summaries.{summary_of}
 use Rattle.rules.proofs.Bounds.{bounded}
 use Rattle.rules.proofs.Places.{slots_within}
-use Rattle.explain.proofs.Holding.{between_inside, spanned-found, held-scaling, spanned_advance}
+use Rattle.explain.proofs.Holding.{between_inside, spanned_found, held_scaling, spanned_advance}
 use Rattle.explain.proofs.held.between.Goals as goal
 
 pub overflow_mul-start : goal.overflow_mul-start
@@ -78,8 +78,8 @@ returns c =
     ≡ summary_of a.head b.slots b.agreed b.holidays (a.first * slots_per_day a.head)
     (a.slot - a.first * slots_per_day a.head) =
     rw n at c.sums-before.ensures in (
-      c.spanned-span.ensures ∙ spanned-found a.head b a.first a.last c.sums-sum.result m,
+      c.spanned-span.ensures ∙ spanned_found a.head b a.first a.last c.sums-sum.result m,
       c.scaling_with.ensures
-          ∙ held-scaling a.head b a.first a.last c.sums-sum.result m a.slot
+          ∙ held_scaling a.head b a.first a.last c.sums-sum.result m a.slot
           c.sums-before.result q c.spanned-span.result c.spanned-span.ensures,
     )

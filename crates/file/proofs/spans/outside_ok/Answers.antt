@@ -46,7 +46,8 @@ overflow_mul-end c =
     let args = c.args in
     let if1 = c.if-m-eq0 in
     let per-day = c.per_day-n in
-    rw (c.span_at-last.ensures, per-day.ensures.0) (omega (arith, lies (goal.at.overflow_mul-end c).Start (args.g.spans - 1) (omega (arith, if1.false))))
+    rw (c.span_at-last.ensures, per-day.ensures.0)
+    (omega (arith, lies (goal.at.overflow_mul-end c).Start (args.g.spans - 1) (omega (arith, if1.false))))
 
 pub overflow_sub-slots : goal.overflow_sub-slots
 overflow_sub-slots c =

@@ -17,20 +17,21 @@ pub record Held (log : List ℕ) (head : Head)
       counts₀)
       answers (book (cells (slots values versions statuses) holidays readings read_versions (agreed_lists agreed agreed-versions) widths)
       counts) at i
-  pub long-values : length values ≡ length values₀
-  pub long-versions : length versions ≡ length versions₀
-  pub long-statuses : length statuses ≡ length statuses₀
-  pub long-holidays : length holidays ≡ length holidays₀
-  pub long-readings : length readings ≡ length readings₀
-  pub long-reads : length read_versions ≡ length read_versions₀
-  pub long-agreed : length agreed ≡ length agreed₀
-  pub long-agreed-versions : length agreed-versions ≡ length agreed-versions₀
-  pub long-counts : length counts ≡ length counts₀
-  pub long-widths : length widths ≡ length widths₀
-  pub long-answers : length answers ≡ length answers₀
+  pub long_values : length values ≡ length values₀
+  pub long_versions : length versions ≡ length versions₀
+  pub long_statuses : length statuses ≡ length statuses₀
+  pub long_holidays : length holidays ≡ length holidays₀
+  pub long_readings : length readings ≡ length readings₀
+  pub long_reads : length read_versions ≡ length read_versions₀
+  pub long_agreed : length agreed ≡ length agreed₀
+  pub long_agreed_versions : length agreed-versions ≡ length agreed-versions₀
+  pub long_counts : length counts ≡ length counts₀
+  pub long_widths : length widths ≡ length widths₀
+  pub long_answers : length answers ≡ length answers₀
 
 abbrev pub invariant-loop-at : goal.invariant-loop-at
-invariant-loop-at l = Held l.log l.head l.initial.values l.initial.versions l.initial.statuses l.initial.holidays l.initial.readings l.initial.read_versions l.initial.agreed l.initial.agreed_versions l.initial.counts l.initial.widths l.initial.answers l.values
+invariant-loop-at l = Held l.log l.head l.initial.values l.initial.versions l.initial.statuses l.initial.holidays l.initial.readings
+    l.initial.read_versions l.initial.agreed l.initial.agreed_versions l.initial.counts l.initial.widths l.initial.answers l.values
     l.versions l.statuses l.holidays l.readings l.read_versions l.agreed l.agreed_versions l.counts l.widths l.answers l.at l.i
 
 abbrev pub decreases-loop-at : goal.decreases-loop-at

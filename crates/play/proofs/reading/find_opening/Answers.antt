@@ -4,7 +4,7 @@ use Rattle.text_log.specs.Log.{item_in}
 use mathlib.Core.Path.{sym, ap, ◌∙◌}
 use native.Mathlib.Omega.{arith}
 use Rattle.text_log.specs.Log.{item_of}
-use Rattle.play.proofs.Stepping.{leading_first, leading-next, leading-ends, leading_none}
+use Rattle.play.proofs.Stepping.{leading_first, leading_next, leading_ends, leading_none}
 use Rattle.play.proofs.reading.find_opening.Goals as goal
 
 pub loop-at-init : goal.loop-at-init
@@ -14,7 +14,7 @@ pub returns-then-not-goes_on : goal.returns-then-not-goes_on
 unfolding item_of
 returns-then-not-goes_on c =
     rw c.opening_at.ensures
-    (leading-ends c.loop-at.invariant c.line_at-cut.ensures _
+    (leading_ends c.loop-at.invariant c.line_at-cut.ensures _
     (ap (λ (e : Entry). item_in e.line e.limits) c.entry_of-entry.ensures) _ c.step_of-step.ensures
     (sym c.goes_on.ensures ∙ c.if-not-goes_on.true))
 
@@ -22,7 +22,7 @@ pub loop-at-preserved : goal.loop-at-preserved
 unfolding item_of
 loop-at-preserved c =
     rw c.table_after-table.ensures
-    (leading-next c.loop-at.invariant c.line_at-cut.ensures _
+    (leading_next c.loop-at.invariant c.line_at-cut.ensures _
     (ap (λ (e : Entry). item_in e.line e.limits) c.entry_of-entry.ensures) _ c.step_of-step.ensures
     (sym c.goes_on.ensures ∙ c.if-not-goes_on.false))
 

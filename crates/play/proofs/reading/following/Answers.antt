@@ -2,7 +2,7 @@
 use Rattle.play.proofs.Stepping.{calls_little}
 use mathlib.Core.Path.{sym, ◌∙◌}
 use native.Mathlib.Omega.{arith}
-use Rattle.play.proofs.Stepping.{following_first, following-next, following-ends, following_last}
+use Rattle.play.proofs.Stepping.{following_first, following_next, following_ends, following_last}
 use Rattle.play.proofs.reading.following.Goals as goal
 
 pub loop-at-init : goal.loop-at-init
@@ -11,7 +11,7 @@ loop-at-init c = following_first c.requires
 pub returns-then-passing : goal.returns-then-passing
 returns-then-passing c =
     let told = c.tested_at-passing.ensures in
-    following-ends c.loop-at.invariant told.found (sym told.outside ∙ c.if-passing.true)
+    following_ends c.loop-at.invariant told.found (sym told.outside ∙ c.if-passing.true)
 
 pub overflow_add-calls : goal.overflow_add-calls
 overflow_add-calls c =
@@ -34,7 +34,7 @@ loop-at-smaller c =
 pub loop-at-preserved : goal.loop-at-preserved
 loop-at-preserved c =
     let told = c.tested_at-passing.ensures in
-    following-next c.loop-at.invariant told.found (sym told.outside ∙ c.if-passing.false) _ told.calls
+    following_next c.loop-at.invariant told.found (sym told.outside ∙ c.if-passing.false) _ told.calls
 
 pub returns : goal.returns
 returns c = following_last c.loop-at.invariant (omega arith)

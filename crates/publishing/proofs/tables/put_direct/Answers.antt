@@ -100,14 +100,21 @@ shape_of-out-then-agreed_versions-at-eq0 c = c.loop-at.invariant.long
 pub returns-then-agreed_versions-at-eq0 : goal.returns-then-agreed_versions-at-eq0
 returns-then-agreed_versions-at-eq0 c =
     let cause = sym c.is_good.ensures ∙ c.if-is_good.false in
-    ran_end _ (lent (goal.at.returns-then-agreed_versions-at-eq0 c).At-loop-at) (settled (goal.at.returns-then-agreed_versions-at-eq0 c).At-loop-at) _ _ _ _ _ _ _ _ c.loop-at.invariant (λ l. direct_none _ _ (settled (goal.at.returns-then-agreed_versions-at-eq0 c).At-loop-at) _ cause c.if-agreed_versions-at-eq0.true)
+    ran_end _ (lent (goal.at.returns-then-agreed_versions-at-eq0 c).At-loop-at)
+    (settled (goal.at.returns-then-agreed_versions-at-eq0 c).At-loop-at) _ _ _ _ _ _ _ _ c.loop-at.invariant
+    (λ l. direct_none _ _ (settled (goal.at.returns-then-agreed_versions-at-eq0 c).At-loop-at) _ cause c.if-agreed_versions-at-eq0.true)
 
 pub bounds-agreed-at : goal.bounds-agreed-at
 bounds-agreed-at c =
     omega (arith, below (goal.at.bounds-agreed-at c).In-loop-at, c.requires.direct.settled.values)
 
 pub overflow_mul-at-else-is_good : goal.overflow_mul-at-else-is_good
-overflow_mul-at-else-is_good c = omega (arith, below (goal.at.overflow_mul-at-else-is_good c).In-loop-at, most (goal.at.overflow_mul-at-else-is_good c).At-loop-at)
+overflow_mul-at-else-is_good c = omega (
+  arith,
+  below (goal.at.overflow_mul-at-else-is_good c).In-loop-at,
+  most
+      (goal.at.overflow_mul-at-else-is_good c).At-loop-at,
+)
 
 pub put_slot-requires-else-is_good : goal.put_slot-requires-else-is_good
 put_slot-requires-else-is_good c = omega (arith, room (goal.at.put_slot-requires-else-is_good c).In-loop-at)
@@ -146,11 +153,13 @@ loop-at-preserved c =
       | else-is_good+else-agreed_versions-at-eq0 w ↦
           let cause = sym c.is_good.ensures ∙ w.if-is_good.false in
           let zero = rw c.requires.direct.fitted.versions at w.outage_zero-outage.ensures in
-          on w.by_agreement-settled.result _ _ _ c.requires.room c.loop-at-test.true (direct_agreed h s a i w.if-agreed_versions-at-eq0.false)
+          on w.by_agreement-settled.result _ _ _ c.requires.room c.loop-at-test.true
+          (direct_agreed h s a i w.if-agreed_versions-at-eq0.false)
           (w.by_agreement-settled.ensures ∙ agreed-outcome h s a i cause)
           (w.outage-is ∙ zero) (w.totals-is ∙ w.add-totals-else-is_good.ensures) (w.out-is ∙ w.put_slot-else-is_good.ensures)
     ]
 
 pub returns : goal.returns
 returns c =
-    ran_end _ (lent (goal.at.returns c).At-loop-at) (settled (goal.at.returns c).At-loop-at) _ _ _ _ _ _ _ _ c.loop-at.invariant (λ l. absurd (absent l c.loop-at-test.false))
+    ran_end _ (lent (goal.at.returns c).At-loop-at) (settled (goal.at.returns c).At-loop-at) _ _ _ _ _ _ _ _ c.loop-at.invariant
+    (λ l. absurd (absent l c.loop-at-test.false))

@@ -15,16 +15,17 @@ use Rattle.rules.proofs.Bounds.{Bounded, bounded, count_high}
 use Rattle.rules.proofs.Directs.{run_line, none_direct}
 use Rattle.rules.proofs.Lines.{walk_outage, walk_line}
 use Rattle.rules.proofs.Outages.{zero_applies}
-use Rattle.rules.proofs.Ruled.{line-drawn, ruled}
-use Rattle.rules.proofs.Steps.{step-scalable}
+use Rattle.rules.proofs.Ruled.{line_drawn, ruled}
+use Rattle.rules.proofs.Steps.{step_scalable}
 use Rattle.rules.proofs.Stretches.{stretch_ahead}
 use Rattle.file.specs.Layout.{row, slot_row}
 use Rattle.file.specs.Inner.Writing.{written}
-use Rattle.publishing.proofs.Inside.{inside-next, inside_run, run_countable, passed}
+use Rattle.publishing.proofs.Inside.{inside_next, inside_run, run_countable, passed}
 use Rattle.publishing.proofs.Records.{none_put}
 use Rattle.publishing.proofs.Totals.{countable}
 use Rattle.publishing.proofs.tables.put_inside.Goals as goal
-use Rattle.publishing.proofs.tables.put_inside.Goals.{After-outage_zero-outage, After-unscaled-shaped, At-loop-at, Else-at-put, In-loop-at, Start}
+use Rattle.publishing.proofs.tables.put_inside.Goals.{After-outage_zero-outage, After-unscaled-shaped, At-loop-at, Else-at-put}
+use Rattle.publishing.proofs.tables.put_inside.Goals.{In-loop-at, Start}
 
 abbrev lent : Start → Cells
 lent c =
@@ -57,13 +58,16 @@ most c = count_high c.args.head (bounds (goal.at.At-loop-at c).Start)
 cause : (c : Else-at-put) → let b = lent (goal.at.Else-at-put c).Start in
     (good_at c.args.head b.slots c.loop-at.at ≡ false) × (is_agreed b.agreed.versions c.loop-at.at ≡ false)
 cause c =
-    none_direct c.args.head (lent (goal.at.Else-at-put c).Start).slots (lent (goal.at.Else-at-put c).Start).agreed _ _ _ _ c.put_direct-put.ensures.direct
+    none_direct c.args.head (lent (goal.at.Else-at-put c).Start).slots (lent (goal.at.Else-at-put c).Start).agreed _ _ _ _
+    c.put_direct-put.ensures.direct
     c.if-at-put.false
     c.loop-at-test.true
 
-zeroed : (c : After-outage_zero-outage) → c.outage_zero-outage.result ≡ is_outage_zero c.args.head (lent (goal.at.After-outage_zero-outage c).Start).slots c.loop-at.at
+zeroed : (c : After-outage_zero-outage) → c.outage_zero-outage.result ≡ is_outage_zero c.args.head
+    (lent (goal.at.After-outage_zero-outage c).Start).slots c.loop-at.at
 zeroed c =
-    c.outage_zero-outage.ensures ∙ zero_applies c.args.head (lent (goal.at.After-outage_zero-outage c).Start).slots _ c.requires.roomy.whole.lent.fitted.versions _
+    c.outage_zero-outage.ensures ∙ zero_applies c.args.head (lent (goal.at.After-outage_zero-outage c).Start).slots _
+    c.requires.roomy.whole.lent.fitted.versions _
 
 -- what the rules give it
 ruled_here : (c : After-unscaled-shaped) → let b = lent (goal.at.After-unscaled-shaped c).Start in
@@ -72,7 +76,9 @@ ruled_here : (c : After-unscaled-shaped) → let b = lent (goal.at.After-unscale
     × (r.shape ≡ shape_at c.args.head b.slots b.agreed b.holidays c.loop-at.at)
 ruled_here c =
     let b = lent (goal.at.After-unscaled-shaped c).Start in
-    ruled c.args.head (bounds (goal.at.After-unscaled-shaped c).Start) b.slots b.agreed _ (below (goal.at.After-unscaled-shaped c).In-loop-at) (cause (goal.at.After-unscaled-shaped c).Else-at-put).0 (cause (goal.at.After-unscaled-shaped c).Else-at-put).1 _ (zeroed (goal.at.After-unscaled-shaped c).After-outage_zero-outage)
+    ruled c.args.head (bounds (goal.at.After-unscaled-shaped c).Start) b.slots b.agreed _
+    (below (goal.at.After-unscaled-shaped c).In-loop-at) (cause (goal.at.After-unscaled-shaped c).Else-at-put).0
+    (cause (goal.at.After-unscaled-shaped c).Else-at-put).1 _ (zeroed (goal.at.After-unscaled-shaped c).After-outage_zero-outage)
     _ c.line_unagreed-line.ensures b.holidays _ _ c.unscaled-shaped.ensures.0 c.unscaled-shaped.ensures.1
 
 pub loop-at-init : goal.loop-at-init
@@ -109,7 +115,9 @@ put_direct-put-requires c =
           };
       room = omega (arith, (ahead (goal.at.put_direct-put-requires c).Start).1, room (goal.at.put_direct-put-requires c).Start, held.long);
       countable =
-          run_countable c.args.head (bounds (goal.at.put_direct-put-requires c).Start) (lent (goal.at.put_direct-put-requires c).Start) _ _ _ (ahead (goal.at.put_direct-put-requires c).Start).1 (room (goal.at.put_direct-put-requires c).Start) _ _ _ _ _ _ held whole.settled.low
+          run_countable c.args.head (bounds (goal.at.put_direct-put-requires c).Start) (lent (goal.at.put_direct-put-requires c).Start) _ _
+          _ (ahead (goal.at.put_direct-put-requires c).Start).1 (room (goal.at.put_direct-put-requires c).Start) _ _ _ _ _ _ held
+          whole.settled.low
           whole.widths.low;
     }
 
@@ -122,7 +130,9 @@ loop-at-preserved-then-at-put c =
     let b = lent (goal.at.loop-at-preserved-then-at-put c).Start in
     let done = c.put_direct-put.ensures in
     let to = done.direct in
-    inside_run c.args.head (bounds (goal.at.loop-at-preserved-then-at-put c).Start) b _ _ _ (ahead (goal.at.loop-at-preserved-then-at-put c).Start).1 (room (goal.at.loop-at-preserved-then-at-put c).Start) _ _ _ _ _ _ c.loop-at.invariant _ _ _ _ _ to.further to.inside
+    inside_run c.args.head (bounds (goal.at.loop-at-preserved-then-at-put c).Start) b _ _ _
+    (ahead (goal.at.loop-at-preserved-then-at-put c).Start).1 (room (goal.at.loop-at-preserved-then-at-put c).Start) _ _ _ _ _ _
+    c.loop-at.invariant _ _ _ _ _ to.further to.inside
     to.direct to.outage
     (c.bare-line.ensures ∙ run_line c.args.head b.slots b.agreed _ _ to.direct c.if-at-put.true)
     done.totals done.bytes
@@ -151,27 +161,37 @@ pub unscaled-shaped-requires : goal.unscaled-shaped-requires
 unscaled-shaped-requires c = (
   c.requires.roomy.whole.lent,
   below (goal.at.unscaled-shaped-requires c).In-loop-at,
-  line-drawn c.args.head (bounds (goal.at.unscaled-shaped-requires c).Start) (lent (goal.at.unscaled-shaped-requires c).Start).slots (lent (goal.at.unscaled-shaped-requires c).Start).agreed _ (below (goal.at.unscaled-shaped-requires c).In-loop-at) (cause (goal.at.unscaled-shaped-requires c).Else-at-put).0 (cause (goal.at.unscaled-shaped-requires c).Else-at-put).1 _
+  line_drawn c.args.head (bounds (goal.at.unscaled-shaped-requires c).Start) (lent (goal.at.unscaled-shaped-requires c).Start).slots
+      (lent (goal.at.unscaled-shaped-requires c).Start).agreed _ (below (goal.at.unscaled-shaped-requires c).In-loop-at)
+      (cause (goal.at.unscaled-shaped-requires c).Else-at-put).0 (cause (goal.at.unscaled-shaped-requires c).Else-at-put).1 _
       (zeroed (goal.at.unscaled-shaped-requires c).After-outage_zero-outage) _ c.line_unagreed-line.ensures,
 )
 
 pub fit-fitted-requires : goal.fit-fitted-requires
 fit-fitted-requires c =
-    step-scalable c.args.head (bounds (goal.at.fit-fitted-requires c).Start) (lent (goal.at.fit-fitted-requires c).Start) c.loop-at.at _ _ _
+    step_scalable c.args.head (bounds (goal.at.fit-fitted-requires c).Start) (lent (goal.at.fit-fitted-requires c).Start) c.loop-at.at _ _ _
     (c.loop-at.invariant.stretch c.loop-at-test.true)
-    (ruled_here (goal.at.fit-fitted-requires c).After-unscaled-shaped).0 (ruled_here (goal.at.fit-fitted-requires c).After-unscaled-shaped).1 c.requires.roomy.whole.widths.low
+    (ruled_here (goal.at.fit-fitted-requires c).After-unscaled-shaped).0
+    (ruled_here (goal.at.fit-fitted-requires c).After-unscaled-shaped).1 c.requires.roomy.whole.widths.low
 
 pub overflow_mul-at : goal.overflow_mul-at
 overflow_mul-at c = omega (arith, below (goal.at.overflow_mul-at c).In-loop-at, most (goal.at.overflow_mul-at c).At-loop-at)
 
 pub put_slot-requires : goal.put_slot-requires
 put_slot-requires c =
-    omega (arith, below (goal.at.put_slot-requires c).In-loop-at, room (goal.at.put_slot-requires c).Start, c.loop-at.invariant.long, c.put_direct-put.auto.out)
+    omega (
+      arith,
+      below (goal.at.put_slot-requires c).In-loop-at,
+      room (goal.at.put_slot-requires c).Start,
+      c.loop-at.invariant.long,
+      c.put_direct-put.auto.out,
+    )
 
 pub add-totals-requires : goal.add-totals-requires
 add-totals-requires c =
     let whole = c.requires.roomy.whole in
-    countable c.args.head (lent (goal.at.add-totals-requires c).Start) c.loop-at.at (bounds (goal.at.add-totals-requires c).Start) whole.settled.low whole.widths.low
+    countable c.args.head (lent (goal.at.add-totals-requires c).Start) c.loop-at.at (bounds (goal.at.add-totals-requires c).Start)
+    whole.settled.low whole.widths.low
     (omega (arith, below (goal.at.add-totals-requires c).In-loop-at)) _
     c.loop-at.invariant.totals
 
@@ -189,8 +209,10 @@ loop-at-preserved c =
     let none = none_put h b.slots b.agreed _ _ _ _ _ _ c.put_direct-put.ensures c.if-at-put.false in
     let fit = c.fit-fitted.ensures in
     let zero = rw c.requires.roomy.whole.lent.fitted.versions at c.outage_zero-outage.ensures in
-    inside-next h (bounds (goal.at.loop-at-preserved c).Start) b _ _ _ (ahead (goal.at.loop-at-preserved c).Start).1 _ _ _ _ _ i c.loop-at.invariant c.loop-at-test.true _ _ (ruled_here (goal.at.loop-at-preserved c).After-unscaled-shaped).0
-    (ruled_here (goal.at.loop-at-preserved c).After-unscaled-shaped).1 _ _ _ _ _ _ zero c.line_unagreed-line.ensures (room (goal.at.loop-at-preserved c).Start) fit.0 fit.1 c.add-totals.ensures
+    inside_next h (bounds (goal.at.loop-at-preserved c).Start) b _ _ _ (ahead (goal.at.loop-at-preserved c).Start).1 _ _ _ _ _ i
+    c.loop-at.invariant c.loop-at-test.true _ _ (ruled_here (goal.at.loop-at-preserved c).After-unscaled-shaped).0
+    (ruled_here (goal.at.loop-at-preserved c).After-unscaled-shaped).1 _ _ _ _ _ _ zero c.line_unagreed-line.ensures
+    (room (goal.at.loop-at-preserved c).Start) fit.0 fit.1 c.add-totals.ensures
     (c.put_slot.ensures ∙ (λ t. written (none t) (6 * i) (row (slot_row c.fit-fitted.result.outcome))))
 
 pub shape_of-out : goal.shape_of-out

@@ -10,7 +10,7 @@ use Rattle.rules.specs.Spans.{spans}
 use Rattle.rules.specs.Inner.Stretches.{begins_at}
 use Rattle.rules.specs.Inner.Passes.{pass_at, list_of, begun_before}
 use Rattle.rules.proofs.Bounds.{Bounded, bounded}
-use Rattle.rules.proofs.SpansInOrder.{begun-room}
+use Rattle.rules.proofs.SpansInOrder.{begun_room}
 use Rattle.publishing.specs.declared.tables.Progress.{Progress}
 use Rattle.publishing.specs.Inner.Publishing.{progress_at}
 use Rattle.publishing.proofs.Inside.{spans_begun, bytes_begun, whole_progress, whole_buffer}
@@ -47,9 +47,18 @@ pub put_begun-spans-requires : goal.put_begun-spans-requires
 put_begun-spans-requires c =
     let h = c.args.head in
     let i = c.args.here.pass.walk.at in
-    let g : length (list_of c.enter-entered.result.begins) ≡ length (list_of (begins_at h (lent (goal.at.put_begun-spans-requires c).Start) i)) =
+    let g : length (list_of c.enter-entered.result.begins) ≡ length
+    (list_of (begins_at h (lent (goal.at.put_begun-spans-requires c).Start) i)) =
     ap (λ (x : Begins). length (list_of x)) c.enter-entered.ensures.0 in
-    omega (arith, before (goal.at.put_begun-spans-requires c).Start, g, begun-room h (lent (goal.at.put_begun-spans-requires c).Start) (bounds (goal.at.put_begun-spans-requires c).Start) i c.requires.inside, c.requires.roomy.room, c.requires.place)
+    omega (
+      arith,
+      before (goal.at.put_begun-spans-requires c).Start,
+      g,
+      begun_room h (lent (goal.at.put_begun-spans-requires c).Start)
+          (bounds (goal.at.put_begun-spans-requires c).Start) i c.requires.inside,
+      c.requires.roomy.room,
+      c.requires.place,
+    )
 
 pub put_inside-requires : goal.put_inside-requires
 unfolding progress_at pass_at
@@ -75,11 +84,13 @@ returns c =
       inside = found.inside;
       known =
           whole_progress h b _ _ found.begun _ found.pass
-          (found.spans ∙ c.put_begun-spans.ensures.0 ∙ spans_begun h (bounds (goal.at.returns c).Start) b i c.requires.inside _ (before (goal.at.returns c).Start) _ begins)
+          (found.spans ∙ c.put_begun-spans.ensures.0 ∙ spans_begun h (bounds (goal.at.returns c).Start) b i c.requires.inside _
+          (before (goal.at.returns c).Start) _ begins)
           found.totals;
       bytes = λ x n e.
           found.bytes x (n ∙ sym c.put_begun-spans.auto.out)
-          (bytes_begun h (bounds (goal.at.returns c).Start) b i c.requires.inside _ (before (goal.at.returns c).Start) _ begins x _ _ _ (omega (arith, room, n)) e c.requires.place
+          (bytes_begun h (bounds (goal.at.returns c).Start) b i c.requires.inside _ (before (goal.at.returns c).Start) _ begins x _ _ _
+          (omega (arith, room, n)) e c.requires.place
           c.put_begun-spans.ensures.1)
           ∙ whole_buffer h b _ _ found.begun x;
     }

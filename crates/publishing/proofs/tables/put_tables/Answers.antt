@@ -9,7 +9,7 @@ use Rattle.rules.specs.Spans.{outcomes}
 use Rattle.publishing.specs.declared.tables.Progress.{Progress}
 use Rattle.publishing.specs.Inner.Publishing.{progress_at, buffer_at}
 use Rattle.publishing.proofs.Buffers.{buffer_first}
-use Rattle.publishing.proofs.Totals.{progress-place, progress-here}
+use Rattle.publishing.proofs.Totals.{progress_place, progress_here}
 use Rattle.publishing.proofs.tables.put_tables.Goals as goal
 use Rattle.publishing.proofs.tables.put_tables.Goals.{At-loop-i, Start}
 
@@ -20,7 +20,7 @@ lent c =
     (agreed_lists a.agreed.now a.agreed_versions.now) a.widths.now
 
 place : (c : At-loop-i) → c.loop-i.here.pass.walk.at ≡ c.loop-i.i
-place c = progress-place c.args.head (lent (goal.at.At-loop-i c).Start) c.loop-i.i c.loop-i.here c.loop-i.invariant.known
+place c = progress_place c.args.head (lent (goal.at.At-loop-i c).Start) c.loop-i.i c.loop-i.here c.loop-i.invariant.known
 
 pub slot_count-n-requires : goal.slot_count-n-requires
 slot_count-n-requires c = c.requires.0.whole.lent.fitted.head
@@ -41,7 +41,8 @@ put_stretch-here-requires c =
       roomy = record { whole = pre.0.whole; room = omega (arith, pre.0.room, c.loop-i.invariant.long) };
       place = pre.1;
       inside = omega (arith, place (goal.at.put_stretch-here-requires c).At-loop-i, c.loop-i-test.true, c.slot_count-n.ensures);
-      known = progress-here c.args.head (lent (goal.at.put_stretch-here-requires c).Start) c.loop-i.i c.loop-i.here c.loop-i.invariant.known;
+      known = progress_here c.args.head (lent (goal.at.put_stretch-here-requires c).Start) c.loop-i.i c.loop-i.here
+          c.loop-i.invariant.known;
     }
 
 pub loop-i-smaller : goal.loop-i-smaller
@@ -57,7 +58,8 @@ loop-i-preserved c =
       known = found.known;
       bytes =
           found.bytes c.args.out.now (sym held.long)
-          (held.bytes ∙ ap (buffer_at c.args.head (lent (goal.at.loop-i-preserved c).Start) c.args.out.now) (sym (place (goal.at.loop-i-preserved c).At-loop-i)));
+          (held.bytes ∙ ap (buffer_at c.args.head (lent (goal.at.loop-i-preserved c).Start) c.args.out.now)
+          (sym (place (goal.at.loop-i-preserved c).At-loop-i)));
     }
 
 pub shape_of-out : goal.shape_of-out

@@ -17,7 +17,8 @@ pub record Held (h : Head) (b : Cells) (d₀ : List ℕ) (n : ℕ) (d : List ℕ
   pub bytes : d ≡ buffer_at h b d₀ i
 
 abbrev pub invariant-loop-i : goal.invariant-loop-i
-invariant-loop-i l = Held l.head (cells (slots l.values l.versions l.statuses) l.holidays l.readings l.read_versions (agreed_lists l.agreed l.agreed_versions) l.widths) l.initial.out l.n
+invariant-loop-i l = Held l.head (cells (slots l.values l.versions l.statuses) l.holidays l.readings l.read_versions
+    (agreed_lists l.agreed l.agreed_versions) l.widths) l.initial.out l.n
     l.out l.here l.i
 
 abbrev pub decreases-loop-i : goal.decreases-loop-i

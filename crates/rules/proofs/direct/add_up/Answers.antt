@@ -8,7 +8,7 @@ use Rattle.base.specs.Lists.{sum}
 use Rattle.rules.specs.Opening.{Slots, Agreed, slot_count}
 use Rattle.rules.specs.Lent.{slots, agreed_lists}
 use Rattle.rules.proofs.Bounds.{bounded, count_high}
-use Rattle.rules.proofs.Directs.{direct_good, direct_agreed, direct_none, good_value, agreed_value, summed_on, summed-end}
+use Rattle.rules.proofs.Directs.{direct_good, direct_agreed, direct_none, good_value, agreed_value, summed_on, summed_end}
 use Rattle.rules.proofs.Outages.{zero_none, good_delivered}
 use Rattle.rules.proofs.direct.add_up.Goals as goal
 use Rattle.rules.proofs.direct.add_up.Goals.{At-loop-at, In-loop-at, then-is_good, else-is_good+else-agreed_versions-at-eq0}
@@ -54,7 +54,14 @@ overflow_cast-sum c = omega (arith, c.type_inv.values c.loop-at.at)
 
 pub overflow_add-sum : goal.overflow_add-sum
 overflow_add-sum c =
-    omega (arith, c.type_inv.values c.loop-at.at, c.loop-at.invariant.low, below (goal.at.overflow_add-sum c).In-loop-at, most (goal.at.overflow_add-sum c).At-loop-at)
+    omega (
+      arith,
+      c.type_inv.values c.loop-at.at,
+      c.loop-at.invariant.low,
+      below (goal.at.overflow_add-sum c).In-loop-at,
+      most
+          (goal.at.overflow_add-sum c).At-loop-at,
+    )
 
 pub bounds-agreed_versions-at : goal.bounds-agreed_versions-at
 bounds-agreed_versions-at c = omega (arith, below (goal.at.bounds-agreed_versions-at c).In-loop-at, c.requires.settled.versions)
@@ -62,7 +69,9 @@ bounds-agreed_versions-at c = omega (arith, below (goal.at.bounds-agreed_version
 pub returns-then-agreed_versions-at-eq0 : goal.returns-then-agreed_versions-at-eq0
 returns-then-agreed_versions-at-eq0 c =
     let cause = sym c.is_good.ensures ∙ c.if-is_good.false in
-    summed-end _ (lent (goal.at.returns-then-agreed_versions-at-eq0 c).At-loop-at) (settled (goal.at.returns-then-agreed_versions-at-eq0 c).At-loop-at) _ _ _ _ _ c.loop-at.invariant (λ l. direct_none _ _ (settled (goal.at.returns-then-agreed_versions-at-eq0 c).At-loop-at) _ cause c.if-agreed_versions-at-eq0.true)
+    summed_end _ (lent (goal.at.returns-then-agreed_versions-at-eq0 c).At-loop-at)
+    (settled (goal.at.returns-then-agreed_versions-at-eq0 c).At-loop-at) _ _ _ _ _ c.loop-at.invariant
+    (λ l. direct_none _ _ (settled (goal.at.returns-then-agreed_versions-at-eq0 c).At-loop-at) _ cause c.if-agreed_versions-at-eq0.true)
 
 pub outage_zero-outage-requires : goal.outage_zero-outage-requires
 outage_zero-outage-requires c =
@@ -81,7 +90,14 @@ overflow_cast-sum-else-is_good c = omega (arith, c.type_inv.agreed c.loop-at.at)
 
 pub overflow_add-sum-else-is_good : goal.overflow_add-sum-else-is_good
 overflow_add-sum-else-is_good c =
-    omega (arith, c.type_inv.agreed c.loop-at.at, c.loop-at.invariant.low, below (goal.at.overflow_add-sum-else-is_good c).In-loop-at, most (goal.at.overflow_add-sum-else-is_good c).At-loop-at)
+    omega (
+      arith,
+      c.type_inv.agreed c.loop-at.at,
+      c.loop-at.invariant.low,
+      below (goal.at.overflow_add-sum-else-is_good c).In-loop-at,
+      most
+          (goal.at.overflow_add-sum-else-is_good c).At-loop-at,
+    )
 
 pub overflow_add-at : goal.overflow_add-at
 overflow_add-at c = omega (arith, c.loop-at-test.true, c.loop-at.invariant.inside)
@@ -111,4 +127,5 @@ loop-at-preserved c =
 
 pub returns : goal.returns
 returns c =
-    summed-end _ (lent (goal.at.returns c).At-loop-at) (settled (goal.at.returns c).At-loop-at) _ _ _ _ _ c.loop-at.invariant (λ l. absurd (absent l c.loop-at-test.false))
+    summed_end _ (lent (goal.at.returns c).At-loop-at) (settled (goal.at.returns c).At-loop-at) _ _ _ _ _ c.loop-at.invariant
+    (λ l. absurd (absent l c.loop-at-test.false))

@@ -5,7 +5,7 @@ use Rattle.rules.specs.Filling.{is_agreed, shape_of}
 use Rattle.rules.specs.Lent.{slots, agreed_lists}
 use Rattle.rules.proofs.Bounds.{bounded}
 use Rattle.rules.proofs.Fillings.{filled_agreed}
-use Rattle.rules.proofs.Ruled.{line-drawn, ruled}
+use Rattle.rules.proofs.Ruled.{line_drawn, ruled}
 use Rattle.rules.proofs.Runs.{not_agreed}
 use Rattle.rules.proofs.Shapes.{shape_filled}
 use Rattle.rules.proofs.filling.fill_cause.Goals as goal
@@ -26,7 +26,7 @@ unscaled-shaped-requires c =
     let g = agreed_lists a.agreed.now a.agreed_versions.now in (
       c.requires.0,
       c.requires.2,
-      line-drawn a.head (bounded a.head c.requires.0.fitted.head) s g a.at c.requires.2 c.requires.3
+      line_drawn a.head (bounded a.head c.requires.0.fitted.head) s g a.at c.requires.2 c.requires.3
           (not_agreed g.versions a.at c.if-agreed_versions-at-gt0.false) _ c.requires.4 _ c.line_on-line.ensures,
     )
 

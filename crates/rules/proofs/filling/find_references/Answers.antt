@@ -12,8 +12,8 @@ use Rattle.rules.specs.Inner.Ways.{value_of, InBook}
 use Rattle.rules.specs.Weeks.{first_back, farthest_back}
 use Rattle.rules.proofs.Bounds.{Bounded, bounded, count_high, day_below}
 use Rattle.rules.proofs.References.{values_each}
-use Rattle.rules.proofs.Searches.{Keeping, Standing, begin-fits, stands-first, keeps-none, slot-inside, stands_on, keeps-passed}
-use Rattle.rules.proofs.Searches.{keeps-found, weeks_fit, past-gaps}
+use Rattle.rules.proofs.Searches.{Keeping, Standing, begin_fits, stands_first, keeps_none, slot_inside, stands_on, keeps_passed}
+use Rattle.rules.proofs.Searches.{keeps_found, weeks_fit, past_gaps}
 use Rattle.rules.proofs.Searches.{keeps_spent, keeps_full}
 use Rattle.rules.proofs.filling.find_references.Goals as goal
 use Rattle.rules.proofs.filling.find_references.Goals.{After-day_with-day, After-pass_gaps-passed, After-way_back-way, Else-left-eq0, Start}
@@ -45,22 +45,32 @@ begin c =
     let n = c.day_with-day.result.slots in
     c.args.slot + 7 * n - c.way_back-way.result.first * n
 
-begins : (c : After-way_back-way) → begin (goal.at.After-way_back-way c).After-way_back-way ≡ c.args.slot + 7 * c.day_with-day.result.slots - c.way_back-way.result.first * slots_per_day c.args.head
+begins : (c : After-way_back-way) → begin (goal.at.After-way_back-way c).After-way_back-way ≡ c.args.slot + 7 * c.day_with-day.result.slots
+    - c.way_back-way.result.first * slots_per_day c.args.head
 begins c =
     ap (λ (x : ℕ). c.args.slot + 7 * c.day_with-day.result.slots - c.way_back-way.result.first * x) c.day_with-day.ensures.1
 
-stands : (c : After-way_back-way) → Standing c.args.head c.args.slot (7 * c.day_with-day.result.slots) 0 (begin (goal.at.After-way_back-way c).After-way_back-way) c.way_back-way.result.weeks
+stands : (c : After-way_back-way) → Standing c.args.head c.args.slot (7 * c.day_with-day.result.slots) 0
+    (begin (goal.at.After-way_back-way c).After-way_back-way) c.way_back-way.result.weeks
 stands c =
-    stands-first c.args.head (bounds (goal.at.After-way_back-way c).Start) c.args.slot _ (week (goal.at.After-way_back-way c).After-day_with-day) c.args.holidays.now _ _ (first (goal.at.After-way_back-way c).After-way_back-way) (weeks (goal.at.After-way_back-way c).After-way_back-way) _ (begins (goal.at.After-way_back-way c).After-way_back-way)
+    stands_first c.args.head (bounds (goal.at.After-way_back-way c).Start) c.args.slot _
+    (week (goal.at.After-way_back-way c).After-day_with-day) c.args.holidays.now _ _
+    (first (goal.at.After-way_back-way c).After-way_back-way) (weeks (goal.at.After-way_back-way c).After-way_back-way) _
+    (begins (goal.at.After-way_back-way c).After-way_back-way)
 
 -- behind the gaps that are passed over nothing is kept yet
 keeps : (f : ℕ → ℕ) (c : After-pass_gaps-passed) → let week = 7 * c.day_with-day.result.slots in let r = c.pass_gaps-passed.result in
     Standing c.args.head c.args.slot week 0 r.at r.left
-    × Keeping f c.args.head (lent (goal.at.After-pass_gaps-passed c).Start) c.args.holidays.now c.args.slot (0 ∷ 0 ∷ 0 ∷ 0 ∷ []) 0 r.at r.left
+    × Keeping f c.args.head (lent (goal.at.After-pass_gaps-passed c).Start) c.args.holidays.now c.args.slot (0 ∷ 0 ∷ 0 ∷ 0 ∷ []) 0 r.at
+    r.left
 keeps f c =
     let h = c.args.head in
-    past-gaps h (bounds (goal.at.After-pass_gaps-passed c).Start) c.args.slot _ (week (goal.at.After-pass_gaps-passed c).After-day_with-day) (stands (goal.at.After-pass_gaps-passed c).After-way_back-way)
-    (keeps-none h (bounds (goal.at.After-pass_gaps-passed c).Start) c.args.slot _ (week (goal.at.After-pass_gaps-passed c).After-day_with-day) c.args.holidays.now _ _ (first (goal.at.After-pass_gaps-passed c).After-way_back-way) (weeks (goal.at.After-pass_gaps-passed c).After-way_back-way) _ (begins (goal.at.After-pass_gaps-passed c).After-way_back-way) f (lent (goal.at.After-pass_gaps-passed c).Start))
+    past_gaps h (bounds (goal.at.After-pass_gaps-passed c).Start) c.args.slot _ (week (goal.at.After-pass_gaps-passed c).After-day_with-day)
+    (stands (goal.at.After-pass_gaps-passed c).After-way_back-way)
+    (keeps_none h (bounds (goal.at.After-pass_gaps-passed c).Start) c.args.slot _
+    (week (goal.at.After-pass_gaps-passed c).After-day_with-day) c.args.holidays.now _ _
+    (first (goal.at.After-pass_gaps-passed c).After-way_back-way) (weeks (goal.at.After-pass_gaps-passed c).After-way_back-way) _
+    (begins (goal.at.After-pass_gaps-passed c).After-way_back-way) f (lent (goal.at.After-pass_gaps-passed c).Start))
     _ _ c.pass_gaps-passed.ensures.0 c.pass_gaps-passed.ensures.1
 
 -- the slot of this week lies in the book
@@ -78,21 +88,26 @@ way_back-way-requires c = (
 )
 
 pub overflow_add-begin : goal.overflow_add-begin
-overflow_add-begin c = rw c.day_with-day.ensures.1 (omega (arith, bounds (goal.at.overflow_add-begin c).Start, c.requires.1, most (goal.at.overflow_add-begin c).Start))
+overflow_add-begin c = rw c.day_with-day.ensures.1
+    (omega (arith, bounds (goal.at.overflow_add-begin c).Start, c.requires.1, most (goal.at.overflow_add-begin c).Start))
 
 pub overflow_mul-begin : goal.overflow_mul-begin
 overflow_mul-begin c =
-    rw c.day_with-day.ensures.1 (omega (arith, mul-le-mul c.way_back-way.ensures.1.short (bounds (goal.at.overflow_mul-begin c).Start).day_high))
+    rw c.day_with-day.ensures.1
+    (omega (arith, mul-le-mul c.way_back-way.ensures.1.short (bounds (goal.at.overflow_mul-begin c).Start).day_high))
 
 pub overflow_sub-begin : goal.overflow_sub-begin
 overflow_sub-begin c =
-    let fits = begin-fits c.args.head (bounds (goal.at.overflow_sub-begin c).Start) c.args.slot _ (week (goal.at.overflow_sub-begin c).After-day_with-day) c.args.holidays.now _ _ (first (goal.at.overflow_sub-begin c).After-way_back-way) (weeks (goal.at.overflow_sub-begin c).After-way_back-way) in
+    let fits = begin_fits c.args.head (bounds (goal.at.overflow_sub-begin c).Start) c.args.slot _
+    (week (goal.at.overflow_sub-begin c).After-day_with-day) c.args.holidays.now _ _
+    (first (goal.at.overflow_sub-begin c).After-way_back-way) (weeks (goal.at.overflow_sub-begin c).After-way_back-way) in
     let same = ap (λ (x : ℕ). c.way_back-way.result.first * x) c.day_with-day.ensures.1 in
     omega (arith, fits, same)
 
 pub pass_gaps-passed-requires : goal.pass_gaps-passed-requires
 pass_gaps-passed-requires c = (
-  weeks_fit c.args.head (bounds (goal.at.pass_gaps-passed-requires c).Start) c.args.slot _ (week (goal.at.pass_gaps-passed-requires c).After-day_with-day) _ _ (stands (goal.at.pass_gaps-passed-requires c).After-way_back-way),
+  weeks_fit c.args.head (bounds (goal.at.pass_gaps-passed-requires c).Start) c.args.slot _
+      (week (goal.at.pass_gaps-passed-requires c).After-day_with-day) _ _ (stands (goal.at.pass_gaps-passed-requires c).After-way_back-way),
   omega (arith, (stands (goal.at.pass_gaps-passed-requires c).After-way_back-way).near, c.requires.1, c.requires.0.fitted.versions),
 )
 
@@ -103,7 +118,7 @@ weeks-init c =
 
 pub overflow_sub-at : goal.overflow_sub-at
 overflow_sub-at c =
-    slot-inside c.args.head (bounds (goal.at.overflow_sub-at c).Start) _ _ c.weeks.invariant.standing.seven c.weeks.invariant.standing
+    slot_inside c.args.head (bounds (goal.at.overflow_sub-at c).Start) _ _ c.weeks.invariant.standing.seven c.weeks.invariant.standing
     c.if-left-eq0.false
 
 pub overflow_sub-left : goal.overflow_sub-left
@@ -113,7 +128,12 @@ pub is_reference-requires : goal.is_reference-requires
 is_reference-requires c = (c.requires.0, inside (goal.at.is_reference-requires c).Else-left-eq0)
 
 pub offset_bounds-values-at : goal.offset_bounds-values-at
-offset_bounds-values-at c = omega (arith, inside (goal.at.offset_bounds-values-at c).Else-left-eq0, most (goal.at.offset_bounds-values-at c).Start)
+offset_bounds-values-at c = omega (
+  arith,
+  inside (goal.at.offset_bounds-values-at c).Else-left-eq0,
+  most
+      (goal.at.offset_bounds-values-at c).Start,
+)
 
 pub bounds-values-at : goal.bounds-values-at
 bounds-values-at c =
@@ -131,7 +151,14 @@ day_of-requires c = c.requires.0.fitted.head
 pub overflow_cast-days : goal.overflow_cast-days
 overflow_cast-days c =
     rw c.day_of.ensures
-    (record { fits = omega (arith, day_below c.args.head (bounds (goal.at.overflow_cast-days c).Start) _ (inside (goal.at.overflow_cast-days c).Else-left-eq0), (bounds (goal.at.overflow_cast-days c).Start).days_high) })
+    (record {
+      fits = omega (
+        arith,
+        day_below c.args.head (bounds (goal.at.overflow_cast-days c).Start) _
+            (inside (goal.at.overflow_cast-days c).Else-left-eq0),
+        (bounds (goal.at.overflow_cast-days c).Start).days_high,
+      );
+    })
 
 pub offset_bounds-days-count : goal.offset_bounds-days-count
 offset_bounds-days-count c = omega (arith, c.weeks.invariant.standing.room)
@@ -152,9 +179,12 @@ weeks-preserved-else-count-eq4 c =
     let seven = held.standing.seven in
     let more = c.if-left-eq0.false in
     record {
-      standing = stands_on c.args.head (bounds (goal.at.weeks-preserved-else-count-eq4 c).Start) _ _ seven held.standing more _ (omega (arith, held.standing.room, c.if-count-eq4.false));
-      values = keeps-found c.args.head (bounds (goal.at.weeks-preserved-else-count-eq4 c).Start) _ _ seven held.standing more held.values _ refl yes;
-      dates = keeps-found c.args.head (bounds (goal.at.weeks-preserved-else-count-eq4 c).Start) _ _ seven held.standing more held.dates _ c.day_of.ensures yes;
+      standing = stands_on c.args.head (bounds (goal.at.weeks-preserved-else-count-eq4 c).Start) _ _ seven held.standing more _
+          (omega (arith, held.standing.room, c.if-count-eq4.false));
+      values = keeps_found c.args.head (bounds (goal.at.weeks-preserved-else-count-eq4 c).Start) _ _ seven held.standing more held.values _
+          refl yes;
+      dates = keeps_found c.args.head (bounds (goal.at.weeks-preserved-else-count-eq4 c).Start) _ _ seven held.standing more held.dates _
+          c.day_of.ensures yes;
     }
 
 pub weeks-smaller : goal.weeks-smaller
@@ -168,8 +198,8 @@ weeks-preserved c =
     let more = c.if-left-eq0.false in
     record {
       standing = stands_on c.args.head (bounds (goal.at.weeks-preserved c).Start) _ _ seven held.standing more _ held.standing.room;
-      values = keeps-passed c.args.head (bounds (goal.at.weeks-preserved c).Start) _ _ seven held.standing more held.values no;
-      dates = keeps-passed c.args.head (bounds (goal.at.weeks-preserved c).Start) _ _ seven held.standing more held.dates no;
+      values = keeps_passed c.args.head (bounds (goal.at.weeks-preserved c).Start) _ _ seven held.standing more held.values no;
+      dates = keeps_passed c.args.head (bounds (goal.at.weeks-preserved c).Start) _ _ seven held.standing more held.dates no;
     }
 
 pub returns-then-left-eq0 : goal.returns-then-left-eq0
@@ -186,8 +216,10 @@ returns-then-count-eq4 c =
     let yes = sym c.is_reference.ensures ∙ c.if-is_reference.true in
     let seven = held.standing.seven in
     let more = c.if-left-eq0.false in
-    let v = keeps_full (keeps-found c.args.head (bounds (goal.at.returns-then-count-eq4 c).Start) _ _ seven held.standing more held.values _ refl yes) c.if-count-eq4.true in
-    let d = keeps_full (keeps-found c.args.head (bounds (goal.at.returns-then-count-eq4 c).Start) _ _ seven held.standing more held.dates _ c.day_of.ensures
+    let v = keeps_full (keeps_found c.args.head (bounds (goal.at.returns-then-count-eq4 c).Start) _ _ seven held.standing more held.values _
+    refl yes) c.if-count-eq4.true in
+    let d = keeps_full (keeps_found c.args.head (bounds (goal.at.returns-then-count-eq4 c).Start) _ _ seven held.standing more held.dates _
+    c.day_of.ensures
     yes) c.if-count-eq4.true in
     let e = values_each c.args.head (lent (goal.at.returns-then-count-eq4 c).Start) c.args.holidays.now c.args.slot in
     (d.0, v.0 ∙ ap in_four e, v.1 ∙ ap length e)

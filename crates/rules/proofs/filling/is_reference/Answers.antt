@@ -23,7 +23,11 @@ returns-then-not-is_good c =
 
 pub returns-then-outage_bit : goal.returns-then-outage_bit
 unfolding is_reference
-returns-then-outage_bit c = simp (good (goal.at.returns-then-outage_bit c).Else-not-is_good, sym c.outage_bit.ensures ∙ c.if-outage_bit.true)
+returns-then-outage_bit c = simp (
+  good (goal.at.returns-then-outage_bit c).Else-not-is_good,
+  sym c.outage_bit.ensures ∙
+      c.if-outage_bit.true,
+)
 
 pub bounds-holidays-day_of : goal.bounds-holidays-day_of
 bounds-holidays-day_of c =

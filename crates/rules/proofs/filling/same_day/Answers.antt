@@ -22,7 +22,8 @@ few c =
 values : (c : After-find_references-found) → let a = c.args in let r = c.find_references-found.result in
     take r.count r.values
     ≡ references a.head (slots a.values.now a.versions.now a.statuses.now) a.holidays.now a.at
-values c = first_places _ _ _ c.find_references-found.ensures.1 c.find_references-found.ensures.2 (few (goal.at.After-find_references-found c).After-find_references-found)
+values c = first_places _ _ _ c.find_references-found.ensures.1 c.find_references-found.ensures.2
+    (few (goal.at.After-find_references-found c).After-find_references-found)
 
 pub returns-then-found-eq0 : goal.returns-then-found-eq0
 unfolding shape_of
@@ -31,19 +32,27 @@ returns-then-found-eq0 c =
     (c.unshaped.ensures.0 ∙ sym none, rw c.unshaped.ensures.0 c.unshaped.ensures.1)
 
 pub mean_of-mean-requires : goal.mean_of-mean-requires
-mean_of-mean-requires c =
-    (omega (arith, c.if-found-eq0.false), rw c.find_references-found.ensures.2 (few (goal.at.mean_of-mean-requires c).After-find_references-found))
+mean_of-mean-requires c = (
+  omega (arith, c.if-found-eq0.false),
+  rw c.find_references-found.ensures.2
+      (few (goal.at.mean_of-mean-requires c).After-find_references-found),
+)
 
 pub shape_of-requires : goal.shape_of-requires
 shape_of-requires c =
-    rw c.mean_of-mean.ensures.1 (omega (arith, c.if-found-eq0.false), rw c.find_references-found.ensures.2 (few (goal.at.shape_of-requires c).After-find_references-found))
+    rw c.mean_of-mean.ensures.1 (
+      omega (arith, c.if-found-eq0.false),
+      rw c.find_references-found.ensures.2
+          (few (goal.at.shape_of-requires c).After-find_references-found),
+    )
 
 pub returns : goal.returns
 unfolding shape_of
 returns c =
     let r = c.find_references-found.result in
     let x = take r.count r.values in
-    let e : length x ≡ r.count = ap length (values (goal.at.returns c).After-find_references-found) ∙ sym c.find_references-found.ensures.2 in
+    let e : length x ≡ r.count = ap length (values (goal.at.returns c).After-find_references-found) ∙ sym c.find_references-found.ensures.2
+    in
     let n : length x ≡ 0 → ⊥ = omega (arith, c.if-found-eq0.false) in
     let m = c.mean_of-mean.ensures in
     let q : c.shape_of.result * length x ≡ 12 * sum_of x = rw (e, ← m.2, ← m.1) c.shape_of.ensures in

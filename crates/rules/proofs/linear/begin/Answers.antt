@@ -5,7 +5,7 @@ use native.Mathlib.Omega.{arith}
 use Rattle.rules.specs.Opening.{slot_count}
 use Rattle.rules.specs.Lent.{slots}
 use Rattle.rules.proofs.Bounds.{bounded, count_high}
-use Rattle.rules.proofs.Lines.{line-first-slot, line-no-left, line-no-right, line_ends, line-found}
+use Rattle.rules.proofs.Lines.{line_first_slot, line_no_left, line_no_right, line_ends, line_found}
 use borrow.Author.Rules.{rules}
 use Rattle.rules.proofs.linear.begin.Goals as goal
 use Rattle.rules.proofs.linear.begin.Goals.{Else-length-eq0}
@@ -21,7 +21,7 @@ inside c =
 pub returns-then-at-lt1 : goal.returns-then-at-lt1
 returns-then-at-lt1 c =
     let a = c.args in
-    c.bare.ensures ∙ line-first-slot a.head (slots a.values.now a.versions.now a.statuses.now) a.agreed_versions.now
+    c.bare.ensures ∙ line_first_slot a.head (slots a.values.now a.versions.now a.statuses.now) a.agreed_versions.now
     a.at c.requires.2 c.requires.3 c.requires.4 c.if-at-lt1.true
 
 pub is_good-requires : goal.is_good-requires
@@ -31,14 +31,14 @@ is_good-requires c =
 pub returns-then-not-is_good : goal.returns-then-not-is_good
 returns-then-not-is_good c =
     let a = c.args in
-    c.bare-then-not-is_good.ensures ∙ line-no-left a.head (slots a.values.now a.versions.now a.statuses.now) a.agreed_versions.now
+    c.bare-then-not-is_good.ensures ∙ line_no_left a.head (slots a.values.now a.versions.now a.statuses.now) a.agreed_versions.now
     a.at c.requires.2 c.requires.3 c.requires.4 c.if-at-lt1.false
     (sym c.is_good.ensures ∙ c.if-not-is_good.true)
 
 pub returns-then-length-eq0 : goal.returns-then-length-eq0
 returns-then-length-eq0 c =
     let a = c.args in
-    c.bare-then-length-eq0.ensures ∙ line-no-right a.head (slots a.values.now a.versions.now a.statuses.now) a.agreed_versions.now
+    c.bare-then-length-eq0.ensures ∙ line_no_right a.head (slots a.values.now a.versions.now a.statuses.now) a.agreed_versions.now
     a.at c.requires.2 c.requires.3 c.requires.4 c.if-at-lt1.false
     (sym c.is_good.ensures ∙ c.if-not-is_good.false) c.length_within-length.result
     c.length_within-length.ensures c.if-length-eq0.true
@@ -60,7 +60,7 @@ bounds-values-after c = omega (arith, inside (goal.at.bounds-values-after c).Els
 pub returns : goal.returns
 returns c =
     let a = c.args in
-    line-found a.head (slots a.values.now a.versions.now a.statuses.now) a.agreed_versions.now a.at c.requires.2
+    line_found a.head (slots a.values.now a.versions.now a.statuses.now) a.agreed_versions.now a.at c.requires.2
     c.requires.3 c.requires.4 c.if-at-lt1.false
     (sym c.is_good.ensures ∙ c.if-not-is_good.false)
     c.length_within-length.result c.length_within-length.ensures c.if-length-eq0.false

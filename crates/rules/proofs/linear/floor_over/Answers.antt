@@ -1,6 +1,6 @@
 -- `linear::floor_over`: one less than the quotient where the remainder is negative.
 use Prim.Native.Nat.{◌<◌, ◌^◌}
-use Rattle.rules.proofs.Floors.{quot_fits, down_fits, down-read, whole_read}
+use Rattle.rules.proofs.Floors.{quot_fits, down_fits, down_read, whole_read}
 use borrow.Author.Rules.{rules}
 use Rattle.rules.proofs.linear.floor_over.Goals as goal
 use Rattle.rules.proofs.linear.floor_over.Goals.{Start}
@@ -15,7 +15,7 @@ pub overflow_sub-result : goal.overflow_sub-result
 overflow_sub-result c = down_fits c.args.z c.ranges.z c.args.m (small (goal.at.overflow_sub-result c).Start) c.requires c.if-z-d-lt0.true
 
 pub returns-then-z-d-lt0 : goal.returns-then-z-d-lt0
-returns-then-z-d-lt0 c = down-read c.args.z c.ranges.z c.args.m (small (goal.at.returns-then-z-d-lt0 c).Start) c.requires c.if-z-d-lt0.true
+returns-then-z-d-lt0 c = down_read c.args.z c.ranges.z c.args.m (small (goal.at.returns-then-z-d-lt0 c).Start) c.requires c.if-z-d-lt0.true
 
 pub returns : goal.returns
 returns c = whole_read c.args.z c.ranges.z c.args.m (small (goal.at.returns c).Start) c.requires c.if-z-d-lt0.false

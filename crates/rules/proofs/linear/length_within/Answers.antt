@@ -8,9 +8,9 @@ use lib.Dec.{lit<}
 use Rattle.rules.specs.Opening.{slot_count}
 use Rattle.rules.specs.Lent.{slots}
 use Rattle.rules.proofs.Bounds.{bounded}
-use Rattle.rules.proofs.Runs.{not_agreed, run-agreed, run-zeroed, run_holds, from_on, run_on}
-use Rattle.rules.proofs.Runs.{within-last, within-good, within-broken}
-use Rattle.rules.proofs.Runs.{within-long}
+use Rattle.rules.proofs.Runs.{not_agreed, run_agreed, run_zeroed, run_holds, from_on, run_on}
+use Rattle.rules.proofs.Runs.{within_last, within_good, within_broken}
+use Rattle.rules.proofs.Runs.{within_long}
 use Rattle.rules.proofs.Outages.{zero_applies, run_not_zeroed}
 use Rattle.rules.proofs.linear.length_within.Goals as goal
 
@@ -34,7 +34,7 @@ loop-k-init c =
 pub returns-then-values-next : goal.returns-then-values-next
 returns-then-values-next c =
     let a = c.args in
-    sym (within-last a.head (slots a.values.now a.versions.now a.statuses.now) a.agreed_versions.now a.at
+    sym (within_last a.head (slots a.values.now a.versions.now a.statuses.now) a.agreed_versions.now a.at
     c.loop-k.k c.loop-k.invariant.run (omega arith))
 
 pub is_good-requires : goal.is_good-requires
@@ -44,7 +44,7 @@ pub returns-then-is_good : goal.returns-then-is_good
 returns-then-is_good c =
     let a = c.args in
     let b = bounded a.head c.requires.0.head in
-    sym (within-good a.head (slots a.values.now a.versions.now a.statuses.now) a.agreed_versions.now a.at
+    sym (within_good a.head (slots a.values.now a.versions.now a.statuses.now) a.agreed_versions.now a.at
     c.loop-k.k c.loop-k.invariant.run c.loop-k-test.true (omega (arith, b.interval_low)) (omega arith)
     (sym c.is_good.ensures ∙ c.if-is_good.true))
 
@@ -52,9 +52,9 @@ pub returns-then-agreed_versions-next-gt0 : goal.returns-then-agreed_versions-ne
 returns-then-agreed_versions-next-gt0 c =
     let a = c.args in
     let s = slots a.values.now a.versions.now a.statuses.now in
-    sym (within-broken a.head s a.agreed_versions.now a.at c.loop-k.k c.loop-k.invariant.run
+    sym (within_broken a.head s a.agreed_versions.now a.at c.loop-k.k c.loop-k.invariant.run
     (sym c.is_good.ensures ∙ c.if-is_good.false)
-    (run-agreed a.head s a.agreed_versions.now _ c.if-agreed_versions-next-gt0.true))
+    (run_agreed a.head s a.agreed_versions.now _ c.if-agreed_versions-next-gt0.true))
 
 pub outage_zero-requires : goal.outage_zero-requires
 outage_zero-requires c =
@@ -64,9 +64,9 @@ pub returns-then-outage_zero : goal.returns-then-outage_zero
 returns-then-outage_zero c =
     let a = c.args in
     let s = slots a.values.now a.versions.now a.statuses.now in
-    sym (within-broken a.head s a.agreed_versions.now a.at c.loop-k.k
+    sym (within_broken a.head s a.agreed_versions.now a.at c.loop-k.k
     c.loop-k.invariant.run (sym c.is_good.ensures ∙ c.if-is_good.false)
-    (run-zeroed a.head s a.agreed_versions.now _ _
+    (run_zeroed a.head s a.agreed_versions.now _ _
     (c.outage_zero.ensures ∙ zero_applies a.head s _ c.requires.0.versions _) c.if-outage_zero.true))
 
 pub loop-k-preserved : goal.loop-k-preserved
@@ -93,5 +93,5 @@ pub returns : goal.returns
 returns c =
     let a = c.args in
     let b = bounded a.head c.requires.0.head in
-    sym (within-long a.head (slots a.values.now a.versions.now a.statuses.now) a.agreed_versions.now a.at
+    sym (within_long a.head (slots a.values.now a.versions.now a.statuses.now) a.agreed_versions.now a.at
     c.loop-k.k c.loop-k.invariant.run c.loop-k-test.false (omega (arith, b.interval_low)))

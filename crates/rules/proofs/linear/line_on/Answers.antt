@@ -1,7 +1,7 @@
 -- `linear::line_on`: an agreed slot lies in no run.
 use mathlib.Core.Path.{◌∙◌}
 use Rattle.rules.specs.Lent.{slots}
-use Rattle.rules.proofs.Runs.{not_agreed, run-agreed}
+use Rattle.rules.proofs.Runs.{not_agreed, run_agreed}
 use Rattle.rules.proofs.Lines.{line_none}
 use Rattle.rules.proofs.linear.line_on.Goals as goal
 
@@ -10,7 +10,7 @@ returns-then-agreed_versions-at-gt0 c =
     let a = c.args in
     let s = slots a.values.now a.versions.now a.statuses.now in
     let v = a.agreed_versions.now in
-    c.bare.ensures ∙ line_none a.head s v a.at (run-agreed a.head s v a.at c.if-agreed_versions-at-gt0.true)
+    c.bare.ensures ∙ line_none a.head s v a.at (run_agreed a.head s v a.at c.if-agreed_versions-at-gt0.true)
 
 pub line_unagreed-requires : goal.line_unagreed-requires
 line_unagreed-requires c =

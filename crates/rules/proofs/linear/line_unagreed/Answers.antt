@@ -3,7 +3,7 @@ use mathlib.Core.Path.{◌∙◌}
 use native.Mathlib.Omega.{arith}
 use Rattle.rules.specs.Lent.{slots}
 use Rattle.rules.proofs.Bounds.{bounded, count_high}
-use Rattle.rules.proofs.Runs.{run_holds, run-zeroed}
+use Rattle.rules.proofs.Runs.{run_holds, run_zeroed}
 use Rattle.rules.proofs.Lines.{line_none, line_fresh, line_place, line_kept}
 use Rattle.rules.proofs.linear.line_unagreed.Goals as goal
 
@@ -12,7 +12,7 @@ returns-then-outage c =
     let a = c.args in
     let s = slots a.values.now a.versions.now a.statuses.now in
     let v = a.agreed_versions.now in
-    c.bare.ensures ∙ line_none a.head s v a.at (run-zeroed a.head s v a.at _ c.requires.5 c.if-outage.true)
+    c.bare.ensures ∙ line_none a.head s v a.at (run_zeroed a.head s v a.at _ c.requires.5 c.if-outage.true)
 
 pub begin-requires : goal.begin-requires
 begin-requires c =

@@ -17,7 +17,11 @@ pub returns-then-head-lt1 : goal.returns-then-head-lt1
 returns-then-head-lt1 c = simp (dated (goal.at.returns-then-head-lt1 c).Else-not-is_date, lt-leb _ _ c.if-head-lt1.true)
 
 pub returns-then-head-gt-MOST_DAYS : goal.returns-then-head-gt-MOST_DAYS
-returns-then-head-gt-MOST_DAYS c = simp (dated (goal.at.returns-then-head-gt-MOST_DAYS c).Else-not-is_date, le-leb _ _ c.if-head-lt1.false, lt-leb _ _ c.if-head-gt-MOST_DAYS.true)
+returns-then-head-gt-MOST_DAYS c = simp (
+  dated (goal.at.returns-then-head-gt-MOST_DAYS c).Else-not-is_date,
+  le-leb _ _ c.if-head-lt1.false,
+  lt-leb _ _ c.if-head-gt-MOST_DAYS.true,
+)
 
 pub ends_in_time-requires : goal.ends_in_time-requires
 ends_in_time-requires c = (dated (goal.at.ends_in_time-requires c).Else-not-is_date, c.if-head-gt-MOST_DAYS.false)

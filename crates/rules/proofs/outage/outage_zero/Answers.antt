@@ -1,7 +1,7 @@
 -- `outage::outage_zero`: inside a run the answer stands; at its first slot both sides are looked at.
 use mathlib.Core.Path.{sym, ◌∙◌}
 use native.Mathlib.Omega.{arith}
-use Rattle.rules.proofs.Outages.{gap, delivered, zero_none, zero_first, zero-kept, zero_before_lem, zero-after}
+use Rattle.rules.proofs.Outages.{gap, delivered, zero_none, zero_first, zero_kept, zero_before_lem, zero_after}
 use Rattle.rules.proofs.outage.outage_zero.Goals as goal
 
 pub returns-then-versions-at-ne0 : goal.returns-then-versions-at-ne0
@@ -17,7 +17,7 @@ pub returns-then-versions-last-eq0 : goal.returns-then-versions-last-eq0
 returns-then-versions-last-eq0 c =
     let a = c.args in
     let g = gap a.versions.now a.statuses.now a.at c.if-versions-at-ne0.false in
-    c.requires.2 ∙ zero-kept _ _ _ _ _ (omega arith) c.requires.1 g (gap _ a.statuses.now _ c.if-versions-last-eq0.true)
+    c.requires.2 ∙ zero_kept _ _ _ _ _ (omega arith) c.requires.1 g (gap _ a.statuses.now _ c.if-versions-last-eq0.true)
 
 pub returns-then-outage_bit : goal.returns-then-outage_bit
 returns-then-outage_bit c =
@@ -31,5 +31,5 @@ returns c =
     let a = c.args in
     let g = gap a.versions.now a.statuses.now a.at c.if-versions-at-ne0.false in
     c.outage_after-2.ensures
-    ∙ sym (zero-after _ _ _ _ _ (omega arith) c.requires.1 g (delivered _ a.statuses.now _ c.if-versions-last-eq0.false)
+    ∙ sym (zero_after _ _ _ _ _ (omega arith) c.requires.1 g (delivered _ a.statuses.now _ c.if-versions-last-eq0.false)
     (sym c.outage_bit.ensures ∙ c.if-outage_bit.false))

@@ -11,11 +11,11 @@ use Rattle.rules.specs.Lent.{slots, agreed_lists}
 use Rattle.rules.specs.Filling.{is_outage_zero, is_agreed, filled_at, shape_at}
 use Rattle.rules.specs.Inner.Summaries.{summary_of, actual_added}
 use Rattle.rules.proofs.Bounds.{Bounded, bounded, count_high}
-use Rattle.rules.proofs.Directs.{none_direct, run_line, summary-run}
+use Rattle.rules.proofs.Directs.{none_direct, run_line, summary_run}
 use Rattle.rules.proofs.Outages.{zero_on, zero_applies}
 use Rattle.rules.proofs.Lines.{line_on, walk_outage, walk_line}
-use Rattle.rules.proofs.Ruled.{line-drawn, ruled}
-use Rattle.rules.proofs.Summaries.{summary_on, summary-fits}
+use Rattle.rules.proofs.Ruled.{line_drawn, ruled}
+use Rattle.rules.proofs.Summaries.{summary_on, summary_fits}
 use Rattle.rules.proofs.spans.summarise.Goals as goal
 use Rattle.rules.proofs.spans.summarise.Goals.{After-outage_zero-outage, After-unscaled-shaped, At-loop-k, Else-at-run, In-loop-k}
 
@@ -37,35 +37,46 @@ most c = count_high c.args.head (bounds (goal.at.At-loop-k c).At-loop-k)
 
 -- there is room for one slot more, or for a run of them
 room : (c : At-loop-k) (x : ℕ) → let a = c.args in
-    x ≡ shape_at a.head (lent (goal.at.At-loop-k c).At-loop-k) (settled (goal.at.At-loop-k c).At-loop-k) a.holidays.now (a.first.at + c.loop-k.k)
+    x ≡ shape_at a.head (lent (goal.at.At-loop-k c).At-loop-k) (settled (goal.at.At-loop-k c).At-loop-k) a.holidays.now
+    (a.first.at + c.loop-k.k)
     → (c.loop-k.sum.actual ≤ 11_519_999_884_800) × (c.loop-k.sum.shapes ≤ 115_200_000_000) × (c.loop-k.sum.count ≤ 115_200)
     × (x ≤ 6_000_000)
 room c x e =
     let a = c.args in
-    summary-fits a.head (lent (goal.at.At-loop-k c).At-loop-k) (settled (goal.at.At-loop-k c).At-loop-k) a.holidays.now a.first.at c.loop-k.k (bounds (goal.at.At-loop-k c).At-loop-k) c.requires.1.low
+    summary_fits a.head (lent (goal.at.At-loop-k c).At-loop-k) (settled (goal.at.At-loop-k c).At-loop-k) a.holidays.now a.first.at
+    c.loop-k.k (bounds (goal.at.At-loop-k c).At-loop-k) c.requires.1.low
     (omega (arith, c.loop-k.invariant.inside, c.requires.2)) _ x c.loop-k.invariant.known e
 
 -- another slot than a direct one has a cause and is not agreed
 cause : (c : Else-at-run) → let i = c.args.first.at + c.loop-k.k in
-    (good_at c.args.head (lent (goal.at.Else-at-run c).At-loop-k) i ≡ false) × (is_agreed (settled (goal.at.Else-at-run c).At-loop-k).versions i ≡ false)
+    (good_at c.args.head (lent (goal.at.Else-at-run c).At-loop-k) i ≡ false) ×
+    (is_agreed (settled (goal.at.Else-at-run c).At-loop-k).versions i ≡ false)
 cause c =
     let a = c.args in
-    none_direct a.head (lent (goal.at.Else-at-run c).At-loop-k) (settled (goal.at.Else-at-run c).At-loop-k) _ _ _ _ c.add_up-run.ensures.0 c.if-at-run.false
+    none_direct a.head (lent (goal.at.Else-at-run c).At-loop-k) (settled (goal.at.Else-at-run c).At-loop-k) _ _ _ _ c.add_up-run.ensures.0
+    c.if-at-run.false
     (omega (arith, c.loop-k-test.true))
 
-zeroed : (c : After-outage_zero-outage) → c.outage_zero-outage.result ≡ is_outage_zero c.args.head (lent (goal.at.After-outage_zero-outage c).At-loop-k) (c.args.first.at + c.loop-k.k)
+zeroed : (c : After-outage_zero-outage) → c.outage_zero-outage.result ≡ is_outage_zero c.args.head
+    (lent (goal.at.After-outage_zero-outage c).At-loop-k) (c.args.first.at + c.loop-k.k)
 zeroed c =
-    c.outage_zero-outage.ensures ∙ zero_applies c.args.head (lent (goal.at.After-outage_zero-outage c).At-loop-k) _ c.requires.0.fitted.versions _
+    c.outage_zero-outage.ensures ∙ zero_applies c.args.head (lent (goal.at.After-outage_zero-outage c).At-loop-k) _
+    c.requires.0.fitted.versions _
 
 -- what the rules give it
 ruled_here : (c : After-unscaled-shaped) → let a = c.args in
     let i = a.first.at + c.loop-k.k in let r = c.unscaled-shaped.result in
-    (r.outcome ≡ filled_at a.head (lent (goal.at.After-unscaled-shaped c).At-loop-k) (settled (goal.at.After-unscaled-shaped c).At-loop-k) a.holidays.now i)
-    × (r.shape ≡ shape_at a.head (lent (goal.at.After-unscaled-shaped c).At-loop-k) (settled (goal.at.After-unscaled-shaped c).At-loop-k) a.holidays.now i)
+    (r.outcome ≡ filled_at a.head (lent (goal.at.After-unscaled-shaped c).At-loop-k) (settled (goal.at.After-unscaled-shaped c).At-loop-k)
+    a.holidays.now i)
+    × (r.shape ≡ shape_at a.head (lent (goal.at.After-unscaled-shaped c).At-loop-k) (settled (goal.at.After-unscaled-shaped c).At-loop-k)
+    a.holidays.now i)
 ruled_here c =
     let a = c.args in
-    ruled a.head (bounds (goal.at.After-unscaled-shaped c).At-loop-k) (lent (goal.at.After-unscaled-shaped c).At-loop-k) (settled (goal.at.After-unscaled-shaped c).At-loop-k) _ (below (goal.at.After-unscaled-shaped c).In-loop-k) (cause (goal.at.After-unscaled-shaped c).Else-at-run).0 (cause (goal.at.After-unscaled-shaped c).Else-at-run).1 _
-    (zeroed (goal.at.After-unscaled-shaped c).After-outage_zero-outage) _ c.line_unagreed-line.ensures a.holidays.now _ _ c.unscaled-shaped.ensures.0
+    ruled a.head (bounds (goal.at.After-unscaled-shaped c).At-loop-k) (lent (goal.at.After-unscaled-shaped c).At-loop-k)
+    (settled (goal.at.After-unscaled-shaped c).At-loop-k) _ (below (goal.at.After-unscaled-shaped c).In-loop-k)
+    (cause (goal.at.After-unscaled-shaped c).Else-at-run).0 (cause (goal.at.After-unscaled-shaped c).Else-at-run).1 _
+    (zeroed (goal.at.After-unscaled-shaped c).After-outage_zero-outage) _ c.line_unagreed-line.ensures a.holidays.now _ _
+    c.unscaled-shaped.ensures.0
     c.unscaled-shaped.ensures.1
 
 pub overflow_add-to : goal.overflow_add-to
@@ -100,7 +111,14 @@ add_up-run-requires c =
 
 pub add_actual-sum-requires : goal.add_actual-sum-requires
 add_actual-sum-requires c =
-    omega (arith, (room (goal.at.add_actual-sum-requires c).At-loop-k _ refl).0, c.add_up-run.ensures.2, c.add_up-run.ensures.0.inside, c.requires.2, most (goal.at.add_actual-sum-requires c).At-loop-k)
+    omega (
+      arith,
+      (room (goal.at.add_actual-sum-requires c).At-loop-k _ refl).0,
+      c.add_up-run.ensures.2,
+      c.add_up-run.ensures.0.inside,
+      c.requires.2,
+      most (goal.at.add_actual-sum-requires c).At-loop-k,
+    )
 
 pub overflow_sub-k : goal.overflow_sub-k
 overflow_sub-k c = omega (arith, c.add_up-run.ensures.0.further)
@@ -120,10 +138,12 @@ loop-k-preserved-then-at-run c =
       outage = rw k to.outage;
       line =
           rw k (c.bare-line.ensures
-          ∙ run_line a.head (lent (goal.at.loop-k-preserved-then-at-run c).At-loop-k) (settled (goal.at.loop-k-preserved-then-at-run c).At-loop-k) _ end to.direct c.if-at-run.true);
+          ∙ run_line a.head (lent (goal.at.loop-k-preserved-then-at-run c).At-loop-k)
+          (settled (goal.at.loop-k-preserved-then-at-run c).At-loop-k) _ end to.direct c.if-at-run.true);
       known =
           c.add_actual-sum.ensures ∙ ap (actual_added c.loop-k.sum) c.add_up-run.ensures.1
-          ∙ summary-run a.head (lent (goal.at.loop-k-preserved-then-at-run c).At-loop-k) (settled (goal.at.loop-k-preserved-then-at-run c).At-loop-k) _ end to.direct a.holidays.now a.first.at c.loop-k.k refl
+          ∙ summary_run a.head (lent (goal.at.loop-k-preserved-then-at-run c).At-loop-k)
+          (settled (goal.at.loop-k-preserved-then-at-run c).At-loop-k) _ end to.direct a.holidays.now a.first.at c.loop-k.k refl
           c.loop-k.sum
           c.loop-k.invariant.known (end - a.first.at) (sym k) to.further;
     }
@@ -153,7 +173,9 @@ unscaled-shaped-requires c =
     let slot = cause (goal.at.unscaled-shaped-requires c).Else-at-run in (
       c.requires.0,
       below (goal.at.unscaled-shaped-requires c).In-loop-k,
-      line-drawn c.args.head (bounds (goal.at.unscaled-shaped-requires c).At-loop-k) (lent (goal.at.unscaled-shaped-requires c).At-loop-k) (settled (goal.at.unscaled-shaped-requires c).At-loop-k) _ (below (goal.at.unscaled-shaped-requires c).In-loop-k) slot.0 slot.1 _ (zeroed (goal.at.unscaled-shaped-requires c).After-outage_zero-outage) _
+      line_drawn c.args.head (bounds (goal.at.unscaled-shaped-requires c).At-loop-k) (lent (goal.at.unscaled-shaped-requires c).At-loop-k)
+          (settled (goal.at.unscaled-shaped-requires c).At-loop-k) _ (below (goal.at.unscaled-shaped-requires c).In-loop-k) slot.0 slot.1 _
+          (zeroed (goal.at.unscaled-shaped-requires c).After-outage_zero-outage) _
           c.line_unagreed-line.ensures,
     )
 
@@ -187,4 +209,5 @@ pub returns : goal.returns
 returns c =
     let a = c.args in
     let e : c.loop-k.k ≡ a.count = omega (arith, c.loop-k-test.false, c.loop-k.invariant.inside) in
-    c.loop-k.invariant.known ∙ ap (summary_of a.head (lent (goal.at.returns c).At-loop-k) (settled (goal.at.returns c).At-loop-k) a.holidays.now a.first.at) e
+    c.loop-k.invariant.known ∙ ap (summary_of a.head (lent (goal.at.returns c).At-loop-k) (settled (goal.at.returns c).At-loop-k)
+    a.holidays.now a.first.at) e

@@ -12,7 +12,8 @@ use Rattle.rules.specs.Inner.Walks.{zero_before, line_before}
 use Rattle.rules.specs.Inner.Summaries.{summary_of}
 use Rattle.rules.proofs.spans.summarise.Given as goal
 
-pub record Held (h : Head) (s : Slots) (a : Agreed) (holidays : List ℕ) (start count : ℕ) (m : Summary) (o : Bool) (l : StraightLine) (k : ℕ) :
+pub record Held (h : Head) (s : Slots) (a : Agreed) (holidays : List ℕ) (start count : ℕ) (m : Summary) (o : Bool) (l : StraightLine)
+    (k : ℕ) :
     Type 0
   where
     pub inside : k ≤ count
@@ -21,7 +22,8 @@ pub record Held (h : Head) (s : Slots) (a : Agreed) (holidays : List ℕ) (start
     pub known : m ≡ summary_of h s a holidays start k
 
 abbrev pub invariant-loop-k : goal.invariant-loop-k
-invariant-loop-k l = Held l.head (slots l.values l.versions l.statuses) (agreed_lists l.agreed l.agreed_versions) l.holidays l.start l.count l.sum l.outage l.line l.k
+invariant-loop-k l = Held l.head (slots l.values l.versions l.statuses) (agreed_lists l.agreed l.agreed_versions) l.holidays l.start l.count
+    l.sum l.outage l.line l.k
 
 abbrev pub decreases-loop-k : goal.decreases-loop-k
 decreases-loop-k l = l.count - l.k

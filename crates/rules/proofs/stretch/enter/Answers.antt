@@ -10,7 +10,7 @@ use Rattle.rules.specs.Lent.{slots, agreed_lists, cells}
 use Rattle.rules.specs.Inner.Stretches.{next_meant}
 use Rattle.rules.proofs.Bounds.{bounded, day_below}
 use Rattle.rules.proofs.Boundaries.{next_tells}
-use Rattle.rules.proofs.Stretches.{carried_on, carried_ends, begins-some, begins-none, stretch_some, stretch_none, next_behind}
+use Rattle.rules.proofs.Stretches.{carried_on, carried_ends, begins_some, begins_none, stretch_some, stretch_none, next_behind}
 use Rattle.rules.proofs.stretch.enter.Goals as goal
 
 pub returns-then-at-carried : goal.returns-then-at-carried
@@ -79,7 +79,7 @@ returns-in-At c =
     let k = carried_ends a.head w b a.walk.at c.requires.1.inside
     (c.if-at-carried.false ∙ ap (λ (s : Stretch). s.until) c.requires.1.stretch) in
     let r = rw c.slots_per_day.ensures at c.reach.ensures in
-    (r.0 ∙ begins-some a.head w b a.walk.at k.0 last e, r.1 ∙ stretch_some a.head w b a.walk.at last k.1 e)
+    (r.0 ∙ begins_some a.head w b a.walk.at k.0 last e, r.1 ∙ stretch_some a.head w b a.walk.at last k.1 e)
 
 pub returns-in-Nowhere : goal.returns-in-Nowhere
 returns-in-Nowhere c =
@@ -94,7 +94,7 @@ returns-in-Nowhere c =
     (sym c.next_read-next.ensures ∙ ap next_meant c.in-Nowhere.is)) in
     let k = carried_ends a.head w b a.walk.at c.requires.1.inside
     (c.if-at-carried.false ∙ ap (λ (s : Stretch). s.until) c.requires.1.stretch) in (
-      c.no_span-in-Nowhere.ensures.0 ∙ sym (begins-none a.head w b a.walk.at k.0 e),
+      c.no_span-in-Nowhere.ensures.0 ∙ sym (begins_none a.head w b a.walk.at k.0 e),
       c.no_span-in-Nowhere.ensures.1 ∙ c.unscaled_to.ensures
           ∙ (rw c.slot_count.ensures (sym (stretch_none a.head w b a.walk.at e))),
     )

@@ -10,7 +10,7 @@ use Rattle.rules.specs.Lent.{slots, agreed_lists, cells}
 use Rattle.rules.specs.Inner.Summaries.{summary_of}
 use Rattle.rules.proofs.Bounds.{bounded}
 use Rattle.rules.proofs.Places.{slots_within}
-use Rattle.rules.proofs.SpanSums.{compared_advance, meet-span, meet-stretch}
+use Rattle.rules.proofs.SpanSums.{compared_advance, meet_span, meet_stretch}
 use Rattle.rules.proofs.stretch.meet.Goals as goal
 
 pub overflow_mul-last : goal.overflow_mul-last
@@ -70,6 +70,6 @@ returns c =
     let s : m ≡ summary_of a.head b.slots b.agreed b.holidays (a.first * slots_per_day a.head)
     ((a.last - a.first) * slots_per_day a.head) = c.summarise-sum.ensures ∙ (simp (e, w.at_first)) in
     let f = c.compare-found.ensures in (
-      meet-span a.head b a.first a.last m s _ f,
-      c.stretch_by.ensures ∙ (simp (e, w.at_first) (meet-stretch a.head b a.first a.last m s _ f)),
+      meet_span a.head b a.first a.last m s _ f,
+      c.stretch_by.ensures ∙ (simp (e, w.at_first) (meet_stretch a.head b a.first a.last m s _ f)),
     )

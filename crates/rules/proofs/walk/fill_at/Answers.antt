@@ -2,7 +2,7 @@
 use mathlib.Core.Path.{◌∙◌, sym, refl}
 use native.Mathlib.Omega.{arith}
 use Rattle.rules.specs.Lent.{slots, agreed_lists}
-use Rattle.rules.proofs.Runs.{run-good}
+use Rattle.rules.proofs.Runs.{run_good}
 use Rattle.rules.proofs.Outages.{zero_none, zero_applies, good_delivered, filled_good}
 use Rattle.rules.proofs.Lines.{line_none, walk_outage, walk_line, walk_next}
 use Rattle.rules.proofs.Shapes.{shape_good}
@@ -19,7 +19,7 @@ returns-then-is_good c =
       c.delivered.ensures ∙ filled_good a.head s x a.holidays.now i g,
       shape_good a.head s x a.holidays.now i g,
       walk_next a.head s v i _ refl _ (sym (zero_none s.versions s.statuses _ _ (good_delivered a.head s i g))) _
-          (c.bare.ensures ∙ line_none a.head s v i (run-good a.head s v i g)),
+          (c.bare.ensures ∙ line_none a.head s v i (run_good a.head s v i g)),
     )
 
 pub outage_zero-outage-requires : goal.outage_zero-outage-requires

@@ -47,7 +47,8 @@ loop-left-preserved c =
       fits = (four (goal.at.loop-left-preserved c).In-loop-left).1;
       near = omega (arith, held.near);
       passed =
-          four_more a.versions.now a.week a.from _ _ a.weeks (four (goal.at.loop-left-preserved c).In-loop-left).0 c.loop-left-test.true held.fewer gaps
+          four_more a.versions.now a.week a.from _ _ a.weeks (four (goal.at.loop-left-preserved c).In-loop-left).0 c.loop-left-test.true
+          held.fewer gaps
           held.passed;
     }
 

@@ -24,10 +24,15 @@ pub overflow_mul-value : goal.overflow_mul-value
 overflow_mul-value c = omega (arith, few_eight (room (goal.at.overflow_mul-value c).Else-byte-gt57) c.loop-i.invariant c.loop-i-test.true)
 
 pub overflow_add-value : goal.overflow_add-value
-overflow_add-value c = omega (arith, few_eight (room (goal.at.overflow_add-value c).Else-byte-gt57) c.loop-i.invariant c.loop-i-test.true, c.if-byte-gt57.false)
+overflow_add-value c = omega (
+  arith,
+  few_eight (room (goal.at.overflow_add-value c).Else-byte-gt57) c.loop-i.invariant c.loop-i-test.true,
+  c.if-byte-gt57.false,
+)
 
 pub loop-i-preserved : goal.loop-i-preserved
-loop-i-preserved c = few_next (room (goal.at.loop-i-preserved c).Else-byte-gt57) c.loop-i.invariant c.loop-i-test.true c.if-byte-lt48.false (omega (arith, c.if-byte-gt57.false))
+loop-i-preserved c = few_next (room (goal.at.loop-i-preserved c).Else-byte-gt57) c.loop-i.invariant c.loop-i-test.true c.if-byte-lt48.false
+    (omega (arith, c.if-byte-gt57.false))
 
 pub returns : goal.returns
 returns c =

@@ -22,7 +22,8 @@ returns-then-byte-gt57 c = c.loop-i.invariant.digits
 
 pub loop-i-preserved : goal.loop-i-preserved
 loop-i-preserved c =
-    few_to (few_next (room (goal.at.loop-i-preserved c).Else-byte-gt57) c.loop-i.invariant c.loop-i-test.true c.if-byte-lt48.false (omega (arith, c.if-byte-gt57.false)))
+    few_to (few_next (room (goal.at.loop-i-preserved c).Else-byte-gt57) c.loop-i.invariant c.loop-i-test.true c.if-byte-lt48.false
+    (omega (arith, c.if-byte-gt57.false)))
 
 pub returns : goal.returns
 returns c =

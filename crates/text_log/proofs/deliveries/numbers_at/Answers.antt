@@ -39,14 +39,25 @@ pub returns-then-not-version : goal.returns-then-not-version
 returns-then-not-version c = λ t. absurd (false≢true (sym c.no_delivery-then-not-version.ensures ∙ t))
 
 pub field_at-value-requires : goal.field_at-value-requires
-field_at-value-requires c = omega (arith, (version_found (goal.at.field_at-value-requires c).Else-not-version).near, (slot_found (goal.at.field_at-value-requires c).Else-not-slot).near, c.requires)
+field_at-value-requires c = omega (
+  arith,
+  (version_found (goal.at.field_at-value-requires c).Else-not-version).near,
+  (slot_found (goal.at.field_at-value-requires c).Else-not-slot).near,
+  c.requires,
+)
 
 pub returns-then-not-value : goal.returns-then-not-value
 returns-then-not-value c = λ t. absurd (false≢true (sym c.no_delivery-then-not-value.ensures ∙ t))
 
 pub field_at-status-requires : goal.field_at-status-requires
 field_at-status-requires c =
-    omega (arith, (value_found (goal.at.field_at-status-requires c).Else-not-value).near, (version_found (goal.at.field_at-status-requires c).Else-not-version).near, (slot_found (goal.at.field_at-status-requires c).Else-not-slot).near, c.requires)
+    omega (
+      arith,
+      (value_found (goal.at.field_at-status-requires c).Else-not-value).near,
+      (version_found (goal.at.field_at-status-requires c).Else-not-version).near,
+      (slot_found (goal.at.field_at-status-requires c).Else-not-slot).near,
+      c.requires,
+    )
 
 pub returns-then-not-status : goal.returns-then-not-status
 returns-then-not-status c = λ t. absurd (false≢true (sym c.no_delivery-then-not-status.ensures ∙ t))

@@ -28,7 +28,12 @@ pub returns-then-values-eq0 : goal.returns-then-values-eq0
 returns-then-values-eq0 c = λ some. absurd (some refl)
 
 pub field_end-statuses-requires : goal.field_end-statuses-requires
-field_end-statuses-requires c = omega (arith, (version_found (goal.at.field_end-statuses-requires c).Else-values-eq0).field.near, (slot_found (goal.at.field_end-statuses-requires c).Else-versions-eq0).field.near, c.requires)
+field_end-statuses-requires c = omega (
+  arith,
+  (version_found (goal.at.field_end-statuses-requires c).Else-values-eq0).field.near,
+  (slot_found (goal.at.field_end-statuses-requires c).Else-versions-eq0).field.near,
+  c.requires,
+)
 
 pub returns-then-statuses-eq0 : goal.returns-then-statuses-eq0
 returns-then-statuses-eq0 c = λ some. absurd (some refl)

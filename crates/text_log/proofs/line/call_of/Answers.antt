@@ -2,7 +2,7 @@
 use mathlib.Core.Path.{sym, ◌∙◌}
 use lib.Seq.{length-take-le}
 use Rattle.text_log.proofs.Splitting.{pieces}
-use Rattle.text_log.proofs.Calls.{first_word, call_open, call-delivery, call-holiday, call-register, call-agreed, call_none}
+use Rattle.text_log.proofs.Calls.{first_word, call_open, call_delivery, call_holiday, call_register, call_agreed, call_none}
 use Rattle.text_log.proofs.line.call_of.Goals as goal
 
 pub slice_bounds-word-end : goal.slice_bounds-word-end
@@ -18,14 +18,14 @@ returns-then-is_same c =
 pub returns-then-is_same-2 : goal.returns-then-is_same-2
 returns-then-is_same-2 c =
     c.delivery_after.ensures
-    ∙ call-delivery _ _ _
+    ∙ call_delivery _ _ _
     (first_word _ c.end_of-end.result _ (pieces 32 _ _ c.end_of-end.result c.end_of-end.ensures.2))
     (sym c.is_same.ensures ∙ c.if-is_same.false) (sym c.is_same-2.ensures ∙ c.if-is_same-2.true)
 
 pub returns-then-is_same-3 : goal.returns-then-is_same-3
 returns-then-is_same-3 c =
     c.holiday_after.ensures
-    ∙ call-holiday _ _ _ (first_word _ c.end_of-end.result _
+    ∙ call_holiday _ _ _ (first_word _ c.end_of-end.result _
     (pieces 32 _ _ c.end_of-end.result c.end_of-end.ensures.2)) (sym c.is_same.ensures
     ∙ c.if-is_same.false) (sym c.is_same-2.ensures
     ∙ c.if-is_same-2.false) (sym c.is_same-3.ensures ∙ c.if-is_same-3.true)
@@ -33,7 +33,7 @@ returns-then-is_same-3 c =
 pub returns-then-is_same-4 : goal.returns-then-is_same-4
 returns-then-is_same-4 c =
     c.register_after.ensures
-    ∙ call-register _ _ _
+    ∙ call_register _ _ _
     (first_word _ c.end_of-end.result _ (pieces 32 _ _ c.end_of-end.result c.end_of-end.ensures.2))
     (sym c.is_same.ensures ∙ c.if-is_same.false)
     (sym c.is_same-2.ensures ∙ c.if-is_same-2.false)
@@ -42,7 +42,7 @@ returns-then-is_same-4 c =
 pub returns-then-is_same-5 : goal.returns-then-is_same-5
 returns-then-is_same-5 c =
     c.agreed_after.ensures
-    ∙ call-agreed _ _ _ (first_word _ c.end_of-end.result _
+    ∙ call_agreed _ _ _ (first_word _ c.end_of-end.result _
     (pieces 32 _ _ c.end_of-end.result c.end_of-end.ensures.2)) (sym c.is_same.ensures
     ∙ c.if-is_same.false) (sym c.is_same-2.ensures ∙ c.if-is_same-2.false) (sym c.is_same-3.ensures
     ∙ c.if-is_same-3.false) (sym c.is_same-4.ensures

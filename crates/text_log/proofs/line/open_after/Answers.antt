@@ -2,7 +2,7 @@
 use mathlib.Core.Path.{sym, ◌∙◌}
 use Rattle.text_log.proofs.Splitting.{pieces}
 use Rattle.text_log.proofs.Fields.{no_words, more_words}
-use Rattle.text_log.proofs.Calls.{no_fields, no_date, no-open, is_open}
+use Rattle.text_log.proofs.Calls.{no_fields, no_date, no_open, is_open}
 use Rattle.text_log.proofs.line.open_after.Goals as goal
 
 pub returns-then-line-end : goal.returns-then-line-end
@@ -17,7 +17,7 @@ returns-in_default c =
 
 pub returns-then-not-fields : goal.returns-then-not-fields
 returns-then-not-fields c =
-    no-open _ _ _ (more_words c.args.line.now c.args.end
+    no_open _ _ _ (more_words c.args.line.now c.args.end
     c.if-line-end.false
     ∙ pieces 32 _ _ c.end_of-date.result c.end_of-date.ensures.2) _ _ _ (sym c.date_of.ensures
     ∙ c.in-Is.is) (sym c.values_after-fields.ensures.0 ∙ c.if-not-fields.true)
