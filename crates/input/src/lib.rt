@@ -1,33 +1,31 @@
-// Standard input, read to its end.
+// An input, read to its end.
 #![tactic(auto)]
 
 ghost use Rattle.std.specs.Prelude.{length};
-ghost use Rattle.input.specs.Reading.{AtMost};
+ghost use Rattle.input.specs.Reading.{AtMost, Takes};
 
-use libc::STDIN_FILENO;
+use std::io;
+use std::io::Read;
 
 // What reading to the end of the input gave: so many bytes, or an error.
 #[derive(Clone, Copy)]
 pub enum Input {
     Bytes(usize),
-    Failed,
+    Failed(io::Error),
 }
 
 // Reads until the input ends or `buf` is full, whatever sizes the pipe delivers.
-pub fn read_all(buf: &mut [u8]) -> Input
-    ensures { AtMost result (length buf.new) }
+pub fn read_all<R: Read>(reader: &mut R, buf: &mut [u8]) -> Input
+    ensures most { AtMost result (length buf.new) }
+    ensures bytes { Takes (R.remaining reader.old) (R.remaining reader.new) result buf.new }
 {
     let mut n: usize = 0;
     while n < buf.len() {
-        let got = libc::read(STDIN_FILENO, &mut buf[n..]);
-        if got < 0 {
-            return Input::Failed;
+        match reader.read(&mut buf[n..]) {
+            Ok(0) => return Input::Bytes(n),
+            Ok(more) => n += more,
+            Err(e) => return Input::Failed(e),
         }
-        let more = io::count(got, &buf[n..]);
-        if more == 0 {
-            return Input::Bytes(n);
-        }
-        n += more;
     }
     Input::Bytes(n)
 }
