@@ -29,3 +29,49 @@ pub fn read_all<R: Read>(reader: &mut R, buf: &mut [u8]) -> Input
     }
     Input::Bytes(n)
 }
+
+#[cfg(test)]
+mod tests {
+    use super::*;
+    use std::test::Fail;
+
+    // Gives a byte and then fails.
+    #[derive(Drop)]
+    struct Broken {
+        given: bool,
+    }
+
+    impl Read for Broken {
+        fn read(&mut self, buf: &mut [u8]) -> io::Result<usize> {
+            if self.given || buf.is_empty() {
+                return Err(io::Error::other("gone"));
+            }
+            self.given = true;
+            buf[0] = 7;
+            Ok(1)
+        }
+    }
+
+    #[test]
+    fn to_the_end(rt: HostRuntime) -> Result<(), Fail> {
+        let mut reader: &[u8] = b"three";
+        let mut buf = [0u8; 8];
+        let n = match read_all(&mut reader, &mut buf) {
+            Input::Bytes(n) => n,
+            Input::Failed(e) => return Err(Fail::from(e)),
+        };
+        assert_eq!(rt; n, 5);
+        assert_eq!(rt; &buf[..5], b"three".as_slice());
+        Ok(())
+    }
+
+    #[test]
+    fn until_it_fails(rt: HostRuntime) {
+        let mut buf = [0u8; 8];
+        let failed = match read_all(&mut Broken { given: false }, &mut buf) {
+            Input::Bytes(_) => false,
+            Input::Failed(_) => true,
+        };
+        assert!(rt; failed);
+    }
+}
