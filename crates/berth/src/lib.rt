@@ -47,11 +47,12 @@ fn make_calls(
     counts: &mut [u16],
     widths: &mut [u16],
 ) -> u64
-    requires { let book = lent_book values versions statuses holidays readings read_versions agreed agreed_versions counts widths in
+    requires { let book = lent_book values.old versions.old statuses.old holidays.old readings.old read_versions.old
+        agreed.old agreed_versions.old counts.old widths.old in
         (head_ok head ≡ true) × (book_fits head book ≡ true) }
     ensures { (result ≡ true_total head seed loss)
-        × (lent_book values.exit versions.exit statuses.exit holidays.exit readings.exit read_versions.exit
-        agreed.exit agreed_versions.exit counts.exit widths.exit ≡ left_by head (run_calls head seed loss)) }
+        × (lent_book values.new versions.new statuses.new holidays.new readings.new read_versions.new
+        agreed.new agreed_versions.new counts.new widths.new ≡ left_by head (run_calls head seed loss)) }
 {
     book::open(
         head,
@@ -89,12 +90,13 @@ fn run(
     out: &mut [u8],
 ) -> Report
     requires { (head_ok head ≡ true)
-        × (book_fits head (lent_book values versions statuses holidays readings read_versions agreed agreed_versions counts widths)
+        × (book_fits head (lent_book values.old versions.old statuses.old holidays.old readings.old read_versions.old
+        agreed.old agreed_versions.old counts.old widths.old)
         ≡ true)
         × (file_size head ≤ length out.old) }
     ensures { (result ≡ report_of head seed loss)
-        × (lent_book values.exit versions.exit statuses.exit holidays.exit readings.exit read_versions.exit
-        agreed.exit agreed_versions.exit counts.exit widths.exit ≡ left_by head (run_calls head seed loss))
+        × (lent_book values.new versions.new statuses.new holidays.new readings.new read_versions.new
+        agreed.new agreed_versions.new counts.new widths.new ≡ left_by head (run_calls head seed loss))
         × (out.new
         ≡ plain_file head (run_calls head seed loss) ++ drop (length (plain_file head (run_calls head seed loss))) out.old) }
 {
@@ -147,11 +149,11 @@ pub fn simulate(
     widths: &mut [u16],
     out: &mut [u8],
 ) -> Simulated
-    ensures { let book = lent_book values.entry versions.entry statuses.entry holidays.entry readings.entry
-        read_versions.entry agreed.entry agreed_versions.entry counts.entry widths.entry in
+    ensures { let book = lent_book values.old versions.old statuses.old holidays.old readings.old
+        read_versions.old agreed.old agreed_versions.old counts.old widths.old in
         (result ≡ simulate_answer head seed loss book out.old)
-        × (lent_book values.exit versions.exit statuses.exit holidays.exit readings.exit read_versions.exit
-        agreed.exit agreed_versions.exit counts.exit widths.exit
+        × (lent_book values.new versions.new statuses.new holidays.new readings.new read_versions.new
+        agreed.new agreed_versions.new counts.new widths.new
         ≡ simulate_lists head seed loss book out.old)
         × (out.new ≡ simulate_bytes head seed loss book out.old) }
 {

@@ -53,8 +53,8 @@ pub fn refusal(
     widths: &[u16],
     out: &[u8],
 ) -> u8
-    ensures { let book = lent_book values.entry versions.entry statuses.entry holidays.entry readings.entry
-        read_versions.entry agreed.entry agreed_versions.entry counts.entry widths.entry in
+    ensures { let book = lent_book values.now versions.now statuses.now holidays.now readings.now
+        read_versions.now agreed.now agreed_versions.now counts.now widths.now in
         result ≡ first_broken (run_rules head seed loss (book_fits head book) (length out.now)) }
 {
     if !opening::head_ok(head) {

@@ -29,8 +29,8 @@ fn send(
     slot: u32,
     berth: Berth,
 )
-    ensures { let sent = lent_sent values.entry versions.entry statuses.entry counts.entry in
-        lent_sent values.exit versions.exit statuses.exit counts.exit ≡ sent_one head sent slot berth }
+    ensures { let sent = lent_sent values.old versions.old statuses.old counts.old in
+        lent_sent values.new versions.new statuses.new counts.new ≡ sent_one head sent slot berth }
 {
     if berth.lost {
         return;
@@ -60,8 +60,8 @@ pub fn send_all(
 ) -> u64
     requires { head_ok head ≡ true }
     ensures { (result ≡ true_total head seed loss)
-        × (lent_sent values.exit versions.exit statuses.exit counts.exit
-        ≡ sent_from head seed loss (lent_sent values.entry versions.entry statuses.entry counts.entry) (slot_count head)) }
+        × (lent_sent values.new versions.new statuses.new counts.new
+        ≡ sent_from head seed loss (lent_sent values.old versions.old statuses.old counts.old) (slot_count head)) }
 {
     let slots = opening::slot_count(head) as u32;
     let most = most_of(head);
@@ -85,8 +85,8 @@ pub fn read_dial(
     widths: &mut [u16],
     total: u64,
 )
-    ensures { lent_reads readings.exit read_versions.exit widths.exit
-        ≡ register_after head (register_after head (lent_reads readings.entry read_versions.entry widths.entry) 0 1 0 0)
+    ensures { lent_reads readings.new read_versions.new widths.new
+        ≡ register_after head (register_after head (lent_reads readings.old read_versions.old widths.old) 0 1 0 0)
         head.days 1 (total % dial_modulus) 0 }
 {
     book::register(head, readings, read_versions, widths, 0, 1, 0, 0);

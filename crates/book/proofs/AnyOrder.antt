@@ -121,6 +121,7 @@ module _ (h : Head) where
   -- a kept call breaks no rule
   kept_valid : (kept : List Call) (c : Call) → Kept h kept → Memᴰ c kept → Valid h c
   unfolding plain_answer
+  kept_valid [] c ok x'' = elim x'' [ ]
   kept_valid (d ∷ kept) c ok (Memᴰ.head e) =
       rw e (unless_accepted (rule 1 (not (head_ok h)) ∷ argument_rules h d) (against_kept kept d) ok.0).1
   kept_valid (d ∷ kept) c ok (Memᴰ.tail m) = kept_valid kept c ok.1 m
@@ -139,6 +140,7 @@ module _ (h : Head) where
 
   covered : (kept cs : List Call) (c : Call) → Memᴰ c cs → Valid h c → Covered c (kept_of h kept cs)
   unfolding kept_of
+  covered kept [] c x'' u = elim x'' [ ]
   covered kept (d ∷ cs) c (Memᴰ.head e) u =
       covered_within c (keep h kept d) (kept_of h (keep h kept d) cs) (kept_on (keep h kept d) cs)
       (subst (λ (x : Call). Covered c (keep h kept x)) e (covered_now kept c u))
@@ -148,6 +150,7 @@ module _ (h : Head) where
   all_kept : (kept cs : List Call) → (Memᴰ (refused 10) (plain_answers h kept cs) → ⊥) → (c : Call) → Memᴰ c cs → Valid h c
       → Memᴰ c (kept_of h kept cs)
   unfolding kept_of plain_answers
+  all_kept kept [] free c x3 u = elim x3 [ ]
   all_kept kept (d ∷ cs) free c (Memᴰ.head e) u =
       let same = valid_answer h kept c u in
       ⊎_elim (λ ok. kept_on (keep h kept d) cs c (subst (λ (x : Call). Memᴰ c (keep h kept x)) e (accepted_kept kept c (rw same ok))))

@@ -79,5 +79,6 @@ kept_of_kept h kept [] ok = ok
 kept_of_kept h kept (c ∷ cs) ok = kept_of_kept h (keep h kept c) cs (keep_kept h kept c ok)
 
 pub kept_sound : (h : Head) (kept : List Call) (c : Call) → Kept h kept → Memᴰ c kept → Sound h c
+kept_sound h [] c ok x'' = elim x'' [ ]
 kept_sound h (d ∷ kept) c ok (Memᴰ.head e) = rw e (accepted h kept d ok.0).1
 kept_sound h (d ∷ kept) c ok (Memᴰ.tail m) = kept_sound h kept c ok.1 m

@@ -33,6 +33,7 @@ said_by false x s ss c d kept here rest m = Memᴰ.tail (rest m)
 -- what is said of a slot was said by a kept delivery
 pub deliveries_from : (i : ℕ) (kept : List Call) (s : Said Measured) → Memᴰ s (deliveries i kept) → Memᴰ (delivered_as i s) kept
 unfolding deliveries
+deliveries_from i [] s m = elim m [ ]
 deliveries_from i (delivery slot version value status ∷ kept) s m =
     said_by (eqb slot i) (record { version = version; content = record { value = value; status = status } }) s
     (deliveries i kept) (delivered_as i s) (delivery slot version value status) kept
@@ -44,6 +45,7 @@ deliveries_from i (agreed slot version value ∷ kept) s m = Memᴰ.tail (delive
 -- and of a boundary by a kept register read
 pub reads_from : (d : ℕ) (kept : List Call) (s : Said DialRead) → Memᴰ s (kept_reads d kept) → Memᴰ (read_as d s) kept
 unfolding kept_reads
+reads_from d [] s m = elim m [ ]
 reads_from d (delivery slot version value status ∷ kept) s m = Memᴰ.tail (reads_from d kept s m)
 reads_from d (holiday day ∷ kept) s m = Memᴰ.tail (reads_from d kept s m)
 reads_from d (register boundary version reading width ∷ kept) s m =
@@ -55,6 +57,7 @@ reads_from d (agreed slot version value ∷ kept) s m = Memᴰ.tail (reads_from 
 -- and of an agreed slot by a kept agreed call
 pub agreements_from : (i : ℕ) (kept : List Call) (s : Said ℕ) → Memᴰ s (agreements i kept) → Memᴰ (agreed_as i s) kept
 unfolding agreements
+agreements_from i [] s m = elim m [ ]
 agreements_from i (delivery slot version value status ∷ kept) s m = Memᴰ.tail (agreements_from i kept s m)
 agreements_from i (holiday day ∷ kept) s m = Memᴰ.tail (agreements_from i kept s m)
 agreements_from i (register boundary version reading width ∷ kept) s m = Memᴰ.tail (agreements_from i kept s m)
@@ -77,6 +80,7 @@ other_call ne (Memᴰ.tail m) = m
 
 pub deliveries_of : (i : ℕ) (kept : List Call) (s : Said Measured) → Memᴰ (delivered_as i s) kept → Memᴰ s (deliveries i kept)
 unfolding deliveries
+deliveries_of i [] s m = elim m [ ]
 deliveries_of i (delivery slot version value status ∷ kept) s m =
     said_of (eqb slot i) (record { version = version; content = record { value = value; status = status } }) s
     (deliveries i kept) (delivered_as i s) (delivery slot version value status) kept (λ e. parts e) (deliveries_of i kept s) m
@@ -97,6 +101,7 @@ deliveries_of i (agreed slot version value ∷ kept) s m =
 
 pub reads_of : (d : ℕ) (kept : List Call) (s : Said DialRead) → Memᴰ (read_as d s) kept → Memᴰ s (kept_reads d kept)
 unfolding kept_reads
+reads_of d [] s m = elim m [ ]
 reads_of d (delivery slot version value status ∷ kept) s m =
     reads_of d kept s (other_call (λ e. let z : ◌≡◌ {A = ℕ} 0 1 = cc in omega arith) m)
 reads_of d (holiday day ∷ kept) s m = reads_of d kept s (other_call (λ e. let z : ◌≡◌ {A = ℕ} 0 1 = cc in omega arith) m)
@@ -116,6 +121,7 @@ reads_of d (agreed slot version value ∷ kept) s m = reads_of d kept s (other_c
 
 pub agreements_of : (i : ℕ) (kept : List Call) (s : Said ℕ) → Memᴰ (agreed_as i s) kept → Memᴰ s (agreements i kept)
 unfolding agreements
+agreements_of i [] s m = elim m [ ]
 agreements_of i (delivery slot version value status ∷ kept) s m =
     agreements_of i kept s (other_call (λ e. let z : ◌≡◌ {A = ℕ} 0 1 = cc in omega arith) m)
 agreements_of i (holiday day ∷ kept) s m = agreements_of i kept s (other_call (λ e. let z : ◌≡◌ {A = ℕ} 0 1 = cc in omega arith) m)
@@ -144,6 +150,7 @@ named_from d (agreed slot version value ∷ kept) e = Memᴰ.tail (named_from d 
 
 pub named_of : (d : ℕ) (kept : List Call) → Memᴰ (holiday d) kept → named d kept ≡ true
 unfolding named
+named_of d [] m = elim m [ ]
 named_of d (delivery slot version value status ∷ kept) m = named_of d kept (other_call (λ e. let z : ◌≡◌ {A = ℕ} 0 1 = cc in omega arith) m)
 named_of d (holiday day ∷ kept) (Memᴰ.head e) = let at : day ≡ d = cc in rw (eq-eqb day d at)
 named_of d (holiday day ∷ kept) (Memᴰ.tail m) = rw (named_of d kept m) (or-true (eqb day d))

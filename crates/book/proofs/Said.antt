@@ -1,5 +1,5 @@
 -- The highest version among what the kept calls say of a place, and the content that goes with it.
-use mathlib.Core.Path.{◌≡◌, refl, sym, ◌∙◌}
+use mathlib.Core.Path.{◌≡◌, refl, sym, subst, ◌∙◌}
 use mathlib.Core.Bool.{Bool, true, false, cond, false≢true}
 use mathlib.Core.List.{List, [], ◌∷◌, Memᴰ}
 use mathlib.Core.Logic.{⊎_elim}
@@ -11,7 +11,7 @@ use borrow.Author.Tests.{ltb-true, ltb-false, eq-eqb, ne_eqb}
 use Rattle.base.specs.Lists.{up_to}
 use Rattle.base.proofs.Logic.{either}
 use Rattle.book.specs.Answers.{Answer, is_accepted, is_stored, by_version}
-use Rattle.book.specs.Answers.Answer.{stored, late, repeat, refused}
+use Rattle.book.specs.Answers.Answer.{done, stored, late, repeat, refused}
 use Rattle.book.specs.Filling.{stored_in}
 use Rattle.book.specs.Plain.{Said, highest_version, content_with}
 use Rattle.book.proofs.Tables.{up_to_filed}
@@ -50,6 +50,7 @@ module _ {A : Type 0} (zeros : A) where
   -- no call has a version above the highest, and more calls have no lower one
   pub member_low : (s : Said A) (ss : List (Said A)) → Memᴰ s ss → s.version ≤ highest_version ss
   unfolding highest_version
+  member_low s [] x' = elim x' [ ]
   member_low s (t ∷ ss) (Memᴰ.head e) = rw e (le-max_left t.version (highest_version ss))
   member_low s (t ∷ ss) (Memᴰ.tail m) = le_trans (member_low s ss m) (le-max_right t.version (highest_version ss))
 
@@ -65,8 +66,8 @@ module _ {A : Type 0} (zeros : A) where
       → Q (highest_version ss) (latest zeros ss) → Q (highest_version (s ∷ ss)) (latest zeros (s ∷ ss))
   unfolding highest_version content_with
   older s ss Q lt q =
-      let e : max s.version (highest_version ss) ≡ highest_version ss = max-eq_right (le_of_lt lt) in
-      rw (e, ne_eqb s.version (highest_version ss) (λ d. omega arith)) q
+      let e : highest_version (s ∷ ss) ≡ highest_version ss = max-eq_right (le_of_lt lt) in
+      subst (λ (v : ℕ). Q v (content_with zeros v (s ∷ ss))) (sym e) (rw (ne_eqb s.version (highest_version ss) (λ d. omega arith)) q)
 
   -- what holds of zeros and of each call holds of the highest version with its content
   pub from : (ss : List (Said A)) (Q : ℕ → A → Type 0) → Q 0 zeros
@@ -86,6 +87,7 @@ module _ {A : Type 0} (zeros : A) where
       → (a : Answer) → Ruled (highest_version ss) s.version same a → is_accepted a ≡ true
       → (m : ℕ → A → ℕ) → m (highest_version (s ∷ ss)) (latest zeros (s ∷ ss))
       ≡ cond (is_stored a) (m s.version s.content) (m (highest_version ss) (latest zeros ss))
+  step s ss same alike done r ok m = elim r [ ]
   step s ss same alike stored (above lt) ok m =
       newest s ss (λ v a. m v a ≡ m s.version s.content) (le_of_lt lt) refl
   step s ss same alike late (below lt) ok m = older s ss (λ v a. m v a ≡ m (highest_version ss) (latest zeros ss)) lt refl

@@ -1,7 +1,6 @@
 -- The tests 1 and 2, which each filling call makes first: the head, and the lengths of its lists.
-use mathlib.Core.Bool.{Bool, true, false, not}
+use mathlib.Core.Bool.{Bool, true, false}
 use mathlib.Core.Path.{◌≡◌, sym, ◌∙◌}
-use borrow.Author.Tests.{not-true, not-false}
 use Rattle.base.specs.Refusals.{unless}
 use Rattle.rules.specs.declared.Head.{Head}
 use Rattle.rules.specs.Opening.{head_ok}
@@ -11,11 +10,11 @@ use Rattle.book.specs.Arguments.{Call, argument_rules}
 use Rattle.book.specs.Filling.{input_rules}
 
 -- what the code's `if !test` tells of a test that a definition names
-pub passes : {r t : Bool} → r ≡ t → not r ≡ false → t ≡ true
-passes {r} e h = sym e ∙ not-false r h
+pub passes : {r t : Bool} → r ≡ t → r ≡ true → t ≡ true
+passes e h = sym e ∙ h
 
-pub fails : {r t : Bool} → r ≡ t → not r ≡ true → t ≡ false
-fails {r} e h = sym e ∙ not-true r h
+pub fails : {r t : Bool} → r ≡ t → r ≡ false → t ≡ false
+fails e h = sym e ∙ h
 
 module _ (h : Head) (fit : Bool) (call : Call) (rest : Answer) where
   pub refused_2 : head_ok h ≡ true → fit ≡ false → unless refused (input_rules h fit call) rest ≡ refused 2

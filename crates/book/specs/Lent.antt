@@ -1,18 +1,17 @@
 -- The lent lists of boundaries, and all ten, as the contracts name them (01, Opening; 02, W1, W6 and W10).
 use Rattle.std.specs.Prelude.{List, ℕ}
-use Rattle.std.specs.Borrow.{Bor}
 use Rattle.rules.specs.Lent.{lent_cells}
 use Rattle.book.specs.Cells.{Reads, Book}
 
 abbrev pub read_lists : List ℕ → List ℕ → List ℕ → Reads
 read_lists readings read_versions widths = record { readings = readings; read_versions = read_versions; widths = widths }
 
-abbrev pub lent_reads : Bor (List ℕ) → Bor (List ℕ) → Bor (List ℕ) → Reads
-lent_reads readings read_versions widths = read_lists readings.now read_versions.now widths.now
+abbrev pub lent_reads : List ℕ → List ℕ → List ℕ → Reads
+lent_reads readings read_versions widths = read_lists readings read_versions widths
 
-abbrev pub lent_book : Bor (List ℕ) → Bor (List ℕ) → Bor (List ℕ) → Bor (List ℕ) → Bor (List ℕ) → Bor (List ℕ) → Bor (List ℕ)
-    → Bor (List ℕ) → Bor (List ℕ) → Bor (List ℕ) → Book
+abbrev pub lent_book : List ℕ → List ℕ → List ℕ → List ℕ → List ℕ → List ℕ → List ℕ
+    → List ℕ → List ℕ → List ℕ → Book
 lent_book values versions statuses holidays readings read_versions agreed agreed_versions counts widths = record {
   cells = lent_cells values versions statuses holidays readings read_versions agreed agreed_versions widths;
-  counts = counts.now;
+  counts = counts;
 }

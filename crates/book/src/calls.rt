@@ -45,11 +45,11 @@ pub fn make(
     call: Call,
 ) -> Received
     ensures { let book =
-        lent_book values.entry versions.entry statuses.entry holidays.entry readings.entry read_versions.entry
-        agreed.entry agreed_versions.entry counts.entry widths.entry in
+        lent_book values.old versions.old statuses.old holidays.old readings.old read_versions.old
+        agreed.old agreed_versions.old counts.old widths.old in
         (received_meant result ≡ answer head book (call_meant call))
-        × (lent_book values.exit versions.exit statuses.exit holidays.exit readings.exit read_versions.exit
-        agreed.exit agreed_versions.exit counts.exit widths.exit
+        × (lent_book values.new versions.new statuses.new holidays.new readings.new read_versions.new
+        agreed.new agreed_versions.new counts.new widths.new
         ≡ after head book (call_meant call)) }
 {
     match call {

@@ -42,11 +42,11 @@ pub fn file_delivery(
     value: u32,
     status: u8,
 ) -> Received
-    requires { Deliverable head (lent_slots values versions statuses) counts.old slot }
-    ensures { let slots = lent_slots values.entry versions.entry statuses.entry in
+    requires { Deliverable head (lent_slots values.old versions.old statuses.old) counts.old slot }
+    ensures { let slots = lent_slots values.old versions.old statuses.old in
         let found = against_delivery head slots counts.old slot version value status in
         (received_meant result ≡ found)
-        × (lent_slots values.exit versions.exit statuses.exit
+        × (lent_slots values.new versions.new statuses.new
         ≡ slots_with found slots slot version value status)
         × (counts.new ≡ counts_with found versions.old counts.old slot (slot / slots_per_day head)) }
 {

@@ -47,11 +47,11 @@ pub fn open(
     widths: &mut [u16],
 ) -> Performed
     ensures { let book =
-        lent_book values.entry versions.entry statuses.entry holidays.entry readings.entry read_versions.entry
-        agreed.entry agreed_versions.entry counts.entry widths.entry in
+        lent_book values.old versions.old statuses.old holidays.old readings.old read_versions.old
+        agreed.old agreed_versions.old counts.old widths.old in
         (opened_meant result ≡ open_answer head book)
-        × (lent_book values.exit versions.exit statuses.exit holidays.exit readings.exit read_versions.exit
-        agreed.exit agreed_versions.exit counts.exit widths.exit
+        × (lent_book values.new versions.new statuses.new holidays.new readings.new read_versions.new
+        agreed.new agreed_versions.new counts.new widths.new
         ≡ open_after head book) }
 {
     if !opening::head_ok(head) {
@@ -97,9 +97,9 @@ pub fn deliver(
     value: u32,
     status: u32,
 ) -> Received
-    ensures { let slots = lent_slots values.entry versions.entry statuses.entry in
+    ensures { let slots = lent_slots values.old versions.old statuses.old in
         (received_meant result ≡ deliver_answer head slots counts.old slot version value status)
-        × (lent_slots values.exit versions.exit statuses.exit
+        × (lent_slots values.new versions.new statuses.new
         ≡ deliver_after head slots counts.old slot version value status)
         × (counts.new ≡ counts_after head slots counts.old slot version value status) }
 {
@@ -169,9 +169,9 @@ pub fn register(
     reading: u32,
     width: u32,
 ) -> Received
-    ensures { let before = lent_reads readings.entry read_versions.entry widths.entry in
+    ensures { let before = lent_reads readings.old read_versions.old widths.old in
         (received_meant result ≡ register_answer head before boundary version reading width)
-        × (lent_reads readings.exit read_versions.exit widths.exit
+        × (lent_reads readings.new read_versions.new widths.new
         ≡ register_after head before boundary version reading width) }
 {
     if !opening::head_ok(head) {
@@ -199,9 +199,9 @@ pub fn agree(
     version: u32,
     value: u32,
 ) -> Received
-    ensures { let a = lent_agreed agreed.entry agreed_versions.entry in
+    ensures { let a = lent_agreed agreed.old agreed_versions.old in
         (received_meant result ≡ agree_answer head a slot version value)
-        × (lent_agreed agreed.exit agreed_versions.exit
+        × (lent_agreed agreed.new agreed_versions.new
         ≡ agree_after head a slot version value) }
 {
     if !opening::head_ok(head) {

@@ -15,9 +15,9 @@ pub fn file_number(
     number: u32,
 ) -> Received
     requires { length versions.old ≡ length numbers.old }
-    ensures { let lent = lent_agreed numbers.entry versions.entry in
+    ensures { let lent = lent_agreed numbers.old versions.old in
         (received_meant result ≡ number_answer lent place version number)
-        × (lent_agreed numbers.exit versions.exit
+        × (lent_agreed numbers.new versions.new
         ≡ number_after lent place version number) }
 {
     let at = place as usize;

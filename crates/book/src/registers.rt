@@ -18,9 +18,9 @@ pub fn file_register(
     width: u32,
 ) -> Received
     requires { (length versions.old ≡ length readings.old) × (length widths.old ≡ length readings.old) }
-    ensures { let lent = lent_reads readings.entry versions.entry widths.entry in
+    ensures { let lent = lent_reads readings.old versions.old widths.old in
         (received_meant result ≡ read_answer lent boundary version reading width)
-        × (lent_reads readings.exit versions.exit widths.exit
+        × (lent_reads readings.new versions.new widths.new
         ≡ read_after lent boundary version reading width) }
 {
     let at = boundary as usize;

@@ -26,7 +26,7 @@ fn agreed_fault(version: u32, value: u32) -> bool
 
 fn bad_slot(values: &[u32], versions: &[u32], statuses: &[u8]) -> bool
     requires { (length versions.now ≡ length values.now) × (length statuses.now ≡ length values.now) }
-    ensures { let s = lent_slots values.entry versions.entry statuses.entry in
+    ensures { let s = lent_slots values.now versions.now statuses.now in
         result ≡ any (slot_fault_at s) 0 (length s.values) }
 {
     let mut bad = false;
@@ -53,7 +53,7 @@ fn bad_day(holidays: &[u8]) -> bool
 
 fn bad_read(readings: &[u32], versions: &[u32], widths: &[u16]) -> bool
     requires { (length versions.now ≡ length readings.now) × (length widths.now ≡ length readings.now) }
-    ensures { let dial = lent_reads readings.entry versions.entry widths.entry in
+    ensures { let dial = lent_reads readings.now versions.now widths.now in
         result ≡ any (read_fault_at dial) 0 (length dial.readings) }
 {
     let mut i = 0;
@@ -68,7 +68,7 @@ fn bad_read(readings: &[u32], versions: &[u32], widths: &[u16]) -> bool
 
 fn bad_agreed(values: &[u32], versions: &[u32]) -> bool
     requires { length versions.now ≡ length values.now }
-    ensures { result ≡ any (agreed_fault_at (lent_agreed values.entry versions.entry)) 0 (length values.now) }
+    ensures { result ≡ any (agreed_fault_at (lent_agreed values.now versions.now)) 0 (length values.now) }
 {
     let mut bad = false;
     let mut i = 0;
@@ -91,11 +91,12 @@ fn cells_ok(
     agreed_versions: &[u32],
     widths: &[u16],
 ) -> bool
-    requires { cells_fit head (lent_cells values versions statuses holidays readings read_versions agreed agreed_versions widths)
+    requires { cells_fit head (lent_cells values.now versions.now statuses.now holidays.now readings.now read_versions.now
+        agreed.now agreed_versions.now widths.now)
         ≡ true }
     ensures { result ≡ cells_ok head
-        (lent_cells values.entry versions.entry statuses.entry holidays.entry readings.entry read_versions.entry
-        agreed.entry agreed_versions.entry widths.entry) }
+        (lent_cells values.now versions.now statuses.now holidays.now readings.now read_versions.now
+        agreed.now agreed_versions.now widths.now) }
 {
     if bad_slot(values, versions, statuses) {
         return false;
@@ -156,11 +157,12 @@ pub fn book_ok(
     widths: &[u16],
 ) -> bool
     requires { (head_ok head ≡ true)
-        × (book_fits head (lent_book values versions statuses holidays readings read_versions agreed agreed_versions counts widths)
+        × (book_fits head (lent_book values.now versions.now statuses.now holidays.now readings.now read_versions.now
+        agreed.now agreed_versions.now counts.now widths.now)
         ≡ true) }
     ensures { result ≡ book_ok head
-        (lent_book values.entry versions.entry statuses.entry holidays.entry readings.entry read_versions.entry
-        agreed.entry agreed_versions.entry counts.entry widths.entry) }
+        (lent_book values.now versions.now statuses.now holidays.now readings.now read_versions.now
+        agreed.now agreed_versions.now counts.now widths.now) }
 {
     if !cells_ok(
         head,

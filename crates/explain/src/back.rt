@@ -12,8 +12,8 @@ use rules::{Head, linear, outage, tests, walk};
 
 // The slot behind the last good slot before slot `at`, or slot 0.
 fn since_good(head: Head, values: &[u32], versions: &[u32], statuses: &[u8], at: usize) -> usize
-    requires { Fitted head (lent_slots values versions statuses) × (at ≤ slot_count head) }
-    ensures { Since head (lent_slots values.entry versions.entry statuses.entry) at result }
+    requires { Fitted head (lent_slots values.now versions.now statuses.now) × (at ≤ slot_count head) }
+    ensures { Since head (lent_slots values.now versions.now statuses.now) at result }
 {
     let mut from = at;
     while 0 < from {
@@ -35,10 +35,10 @@ pub fn fills_before(
     agreed_versions: &[u32],
     at: usize,
 ) -> Walk
-    requires { Fitted head (lent_slots values versions statuses)
+    requires { Fitted head (lent_slots values.now versions.now statuses.now)
         × (length agreed_versions.now ≡ slot_count head)
         × (at < slot_count head) }
-    ensures { let s = lent_slots values.entry versions.entry statuses.entry in
+    ensures { let s = lent_slots values.now versions.now statuses.now in
         result ≡ walk_at head s agreed_versions.now at }
 {
     let mut k = since_good(head, values, versions, statuses, at);
@@ -76,11 +76,11 @@ pub fn fill_slot(
     agreed_versions: &[u32],
     at: usize,
 ) -> Filled
-    requires { Lent head (lent_slots values versions statuses) holidays.now
-        × Settled head (lent_agreed agreed agreed_versions)
+    requires { Lent head (lent_slots values.now versions.now statuses.now) holidays.now
+        × Settled head (lent_agreed agreed.now agreed_versions.now)
         × (at < slot_count head) }
-    ensures { let s = lent_slots values.entry versions.entry statuses.entry in
-        let a = lent_agreed agreed.entry agreed_versions.entry in
+    ensures { let s = lent_slots values.now versions.now statuses.now in
+        let a = lent_agreed agreed.now agreed_versions.now in
         (result.outcome ≡ filled_at head s a holidays.now at)
         × (result.shape ≡ shape_at head s a holidays.now at)
         × (result.next ≡ walk_at head s a.versions (at + 1)) }

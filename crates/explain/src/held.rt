@@ -52,12 +52,12 @@ fn sums(
     start: usize,
     count: usize,
 ) -> Summary
-    requires { Lent head (lent_slots values versions statuses) holidays.now
-        × Settled head (lent_agreed agreed agreed_versions)
+    requires { Lent head (lent_slots values.now versions.now statuses.now) holidays.now
+        × Settled head (lent_agreed agreed.now agreed_versions.now)
         × (start < slot_count head)
         × (start + count ≤ slot_count head) }
-    ensures { let s = lent_slots values.entry versions.entry statuses.entry in
-        let a = lent_agreed agreed.entry agreed_versions.entry in
+    ensures { let s = lent_slots values.now versions.now statuses.now in
+        let a = lent_agreed agreed.now agreed_versions.now in
         result ≡ summary_of head s a holidays.now start count }
 {
     let here = back::fills_before(head, values, versions, statuses, agreed_versions, start);
@@ -145,13 +145,13 @@ fn between(
     first: usize,
     last: usize,
 ) -> Held
-    requires { Lent head (lent_slots values versions statuses) holidays.now
+    requires { Lent head (lent_slots values.now versions.now statuses.now) holidays.now
         × Dialled head readings.now
-        × Settled head (lent_agreed agreed agreed_versions)
+        × Settled head (lent_agreed agreed.now agreed_versions.now)
         × Widths head widths.now
         × Between head slot first last }
-    ensures { let s = lent_slots values.entry versions.entry statuses.entry in
-        let a = lent_agreed agreed.entry agreed_versions.entry in
+    ensures { let s = lent_slots values.now versions.now statuses.now in
+        let a = lent_agreed agreed.now agreed_versions.now in
         let b = cells s holidays.now readings.now [] a widths.now in
         (result.span ≡ spanned_by head b (some first) (some last)) × (result.by ≡ (span_stretch head b first last slot).by) }
 {
@@ -227,10 +227,11 @@ pub fn hold(
     widths: &[u16],
     slot: usize,
 ) -> Held
-    requires { Whole head (lent_cells values versions statuses holidays readings read_versions agreed agreed_versions widths)
+    requires { Whole head (lent_cells values.now versions.now statuses.now holidays.now readings.now read_versions.now
+        agreed.now agreed_versions.now widths.now)
         × (slot < slot_count head) }
-    ensures { let b = lent_cells values.entry versions.entry statuses.entry holidays.entry readings.entry read_versions.entry
-        agreed.entry agreed_versions.entry widths.entry in
+    ensures { let b = lent_cells values.now versions.now statuses.now holidays.now readings.now read_versions.now
+        agreed.now agreed_versions.now widths.now in
         let d = slot / slots_per_day head in
         (result.span ≡ spanned_by head b (earlier b d) (later head b d))
         × (result.by ≡ (stretch_at head b slot).by) }

@@ -90,10 +90,11 @@ fn tell(
     widths: &[u16],
     slot: usize,
 ) -> Explanation
-    requires { Whole head (lent_cells values versions statuses holidays readings read_versions agreed agreed_versions widths)
+    requires { Whole head (lent_cells values.now versions.now statuses.now holidays.now readings.now read_versions.now
+        agreed.now agreed_versions.now widths.now)
         × (slot < slot_count head) }
-    ensures { let b = lent_cells values.entry versions.entry statuses.entry holidays.entry readings.entry read_versions.entry
-        agreed.entry agreed_versions.entry widths.entry in
+    ensures { let b = lent_cells values.now versions.now statuses.now holidays.now readings.now read_versions.now
+        agreed.now agreed_versions.now widths.now in
         result ≡ explanation_of head b slot }
 {
     let cause = tests::cause_of(
@@ -184,10 +185,11 @@ fn explain_fitted(
     widths: &[u16],
     slot: usize,
 ) -> Explained
-    requires { let book = lent_book values versions statuses holidays readings read_versions agreed agreed_versions counts widths in
+    requires { let book = lent_book values.now versions.now statuses.now holidays.now readings.now read_versions.now
+        agreed.now agreed_versions.now counts.now widths.now in
         (head_ok head ≡ true) × (book_fits head book ≡ true) × (slot < slot_count head) }
-    ensures { let book = lent_book values.entry versions.entry statuses.entry holidays.entry readings.entry
-        read_versions.entry agreed.entry agreed_versions.entry counts.entry widths.entry in
+    ensures { let book = lent_book values.now versions.now statuses.now holidays.now readings.now
+        read_versions.now agreed.now agreed_versions.now counts.now widths.now in
         result ≡ explain_answer head book slot }
 {
     if !sound::book_ok(
@@ -238,8 +240,8 @@ pub fn explain(
     widths: &[u16],
     slot: u32,
 ) -> Explained
-    ensures { let book = lent_book values.entry versions.entry statuses.entry holidays.entry readings.entry
-        read_versions.entry agreed.entry agreed_versions.entry counts.entry widths.entry in
+    ensures { let book = lent_book values.now versions.now statuses.now holidays.now readings.now
+        read_versions.now agreed.now agreed_versions.now counts.now widths.now in
         result ≡ explain_answer head book slot }
 {
     if !opening::head_ok(head) {

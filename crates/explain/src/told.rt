@@ -109,8 +109,8 @@ pub fn found_by(
     holidays: &[u8],
     slot: usize,
 ) -> References
-    requires { Lent head (lent_slots values versions statuses) holidays.now × (slot < slot_count head) }
-    ensures { let s = lent_slots values.entry versions.entry statuses.entry in
+    requires { Lent head (lent_slots values.now versions.now statuses.now) holidays.now × (slot < slot_count head) }
+    ensures { let s = lent_slots values.now versions.now statuses.now in
         result ≡ found_of rule head s holidays.now slot }
 {
     if !is_same_day(rule) {

@@ -8,7 +8,7 @@ use native.Mathlib.Omega.{arith}
 use borrow.Author.Tests.{eqb-true}
 use lib.ListN.{length, take, drop, take-append-drop, length-drop}
 use lib.Seq.{take-add, take_all}
-use Rattle.base.specs.Lists.{sum, up_to}
+use Rattle.base.specs.Lists.{up_to}
 use Rattle.base.proofs.Lists.{length_up_to, get_d_up_to, up_to_cong}
 use Rattle.base.proofs.Logic.{passed}
 use Rattle.base.proofs.Sums.{all_at}

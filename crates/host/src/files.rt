@@ -41,8 +41,8 @@ pub extern "C" fn sawmauve_publish(
     out: &mut [u8],
 ) -> u64
     ensures { let head = head_of year month day days interval limit tolerance in
-        let book = lent_book values.entry versions.entry statuses.entry holidays.entry readings.entry read_versions.entry
-        agreed.entry agreed_versions.entry counts.entry widths.entry in
+        let book = lent_book values.now versions.now statuses.now holidays.now readings.now read_versions.now
+        agreed.now agreed_versions.now counts.now widths.now in
         (result ≡ publish_code (publish_answer head book out.old))
         × (out.new ≡ publish_after head book out.old) }
 {

@@ -75,11 +75,11 @@ pub extern "C" fn sawmauve_open(
     widths: &mut [u16],
 ) -> u32
     ensures { let head = head_of year month day days interval limit tolerance in
-        let book = lent_book values.entry versions.entry statuses.entry holidays.entry readings.entry read_versions.entry
-        agreed.entry agreed_versions.entry counts.entry widths.entry in
+        let book = lent_book values.old versions.old statuses.old holidays.old readings.old read_versions.old
+        agreed.old agreed_versions.old counts.old widths.old in
         (result ≡ answer_code (open_answer head book))
-        × (lent_book values.exit versions.exit statuses.exit holidays.exit readings.exit read_versions.exit
-        agreed.exit agreed_versions.exit counts.exit widths.exit
+        × (lent_book values.new versions.new statuses.new holidays.new readings.new read_versions.new
+        agreed.new agreed_versions.new counts.new widths.new
         ≡ open_after head book) }
 {
     let head = head_of(year, month, day, days, interval, limit, tolerance);
@@ -117,9 +117,9 @@ pub extern "C" fn sawmauve_deliver(
     status: u32,
 ) -> u32
     ensures { let head = head_of year month day days interval limit tolerance in
-        let slots = lent_slots values.entry versions.entry statuses.entry in
+        let slots = lent_slots values.old versions.old statuses.old in
         (result ≡ answer_code (deliver_answer head slots counts.old slot version value status))
-        × (lent_slots values.exit versions.exit statuses.exit
+        × (lent_slots values.new versions.new statuses.new
         ≡ deliver_after head slots counts.old slot version value status)
         × (counts.new ≡ counts_after head slots counts.old slot version value status) }
 {
@@ -145,9 +145,9 @@ pub extern "C" fn sawmauve_agree(
     value: u32,
 ) -> u32
     ensures { let head = head_of year month day days interval limit tolerance in
-        let lent = lent_agreed agreed.entry agreed_versions.entry in
+        let lent = lent_agreed agreed.old agreed_versions.old in
         (result ≡ answer_code (agree_answer head lent slot version value))
-        × (lent_agreed agreed.exit agreed_versions.exit
+        × (lent_agreed agreed.new agreed_versions.new
         ≡ agree_after head lent slot version value) }
 {
     let head = head_of(year, month, day, days, interval, limit, tolerance);
@@ -192,9 +192,9 @@ pub extern "C" fn sawmauve_register(
     width: u32,
 ) -> u32
     ensures { let head = head_of year month day days interval limit tolerance in
-        let lent = lent_reads readings.entry read_versions.entry widths.entry in
+        let lent = lent_reads readings.old read_versions.old widths.old in
         (result ≡ answer_code (register_answer head lent boundary version reading width))
-        × (lent_reads readings.exit read_versions.exit widths.exit
+        × (lent_reads readings.new read_versions.new widths.new
         ≡ register_after head lent boundary version reading width) }
 {
     let head = head_of(year, month, day, days, interval, limit, tolerance);

@@ -49,8 +49,8 @@ pub extern "C" fn sawmauve_nem12(
     nineteen: u32,
     out: &mut [u8],
 ) -> u64
-    ensures { let given = lent_texts identifier.entry from.entry to.entry configuration.entry register.entry suffix.entry
-        stream.entry serial.entry next_read.entry reason.entry created.entry in
+    ensures { let given = lent_texts identifier.now from.now to.now configuration.now register.now suffix.now
+        stream.now serial.now next_read.now reason.now created.now in
         let codes = codes_of two three five eighteen nineteen in
         (result ≡ exported_code (export_answer file.now given codes out.old))
         × (out.new ≡ export_after file.now given codes out.old) }

@@ -1,6 +1,5 @@
 -- The fields of an export (02, W8), in the form of AEMO's Meter Data File Format Specification NEM12.
 use Rattle.std.specs.Prelude.{Bool, true, false, cond, not, ◌&&◌, ◌||◌, List, [], ◌∷◌, ◌++◌, ℕ, zero, suc, ◌+◌, ◌/◌, eqb}
-use Rattle.std.specs.Borrow.{Bor}
 use Rattle.base.specs.Lists.{all}
 use Rattle.base.specs.Text.{ascii}
 use Rattle.calendar.specs.Calendar.{date_of}
@@ -41,11 +40,11 @@ texts identifier from to configuration register suffix stream serial next_read r
 }
 
 -- lent, as the contracts name them
-abbrev pub lent_texts : Bor (List ℕ) → Bor (List ℕ) → Bor (List ℕ) → Bor (List ℕ) → Bor (List ℕ) → Bor (List ℕ) → Bor (List ℕ)
-    → Bor (List ℕ) → Bor (List ℕ) → Bor (List ℕ) → Bor (List ℕ) → Texts
+abbrev pub lent_texts : List ℕ → List ℕ → List ℕ → List ℕ → List ℕ → List ℕ → List ℕ
+    → List ℕ → List ℕ → List ℕ → List ℕ → Texts
 lent_texts identifier from to configuration register suffix stream serial next_read reason created =
-    texts identifier.now from.now to.now configuration.now register.now suffix.now stream.now serial.now next_read.now
-    reason.now created.now
+    texts identifier from to configuration register suffix stream serial next_read
+    reason created
 
 -- ---- Fields and records
 

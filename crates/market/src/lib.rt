@@ -53,8 +53,8 @@ fn put_body(
     codes: Codes,
 ) -> usize
     requires { (read_file file.now ≡ Accepted g) × (length created.now ≡ 14) }
-    ensures { let texts = lent_texts identifier.entry from.entry to.entry configuration.entry register.entry suffix.entry
-        stream.entry serial.entry next_read.entry reason.entry created.entry in
+    ensures { let texts = lent_texts identifier.now from.now to.now configuration.now register.now suffix.now
+        stream.now serial.now next_read.now reason.now created.now in
         Added out.old 0 out.new result (body_of texts (content_of codes file.now)) }
 {
     let head = headers::put_100(out, 0, created, from, to);
@@ -92,8 +92,8 @@ fn body_length(
     codes: Codes,
 ) -> usize
     requires { (read_file file.now ≡ Accepted g) × (length created.now ≡ 14) }
-    ensures { let texts = lent_texts identifier.entry from.entry to.entry configuration.entry register.entry suffix.entry
-        stream.entry serial.entry next_read.entry reason.entry created.entry in
+    ensures { let texts = lent_texts identifier.now from.now to.now configuration.now register.now suffix.now
+        stream.now serial.now next_read.now reason.now created.now in
         result ≡ capped (length (body_of texts (content_of codes file.now))) }
 {
     let mut aside = [0u8; 1];
@@ -144,12 +144,12 @@ fn export_in(
     codes: Codes,
     out: &mut [u8],
 ) -> Exported
-    requires { let texts = lent_texts identifier from to configuration register suffix stream serial next_read reason created in
+    requires { let texts = lent_texts identifier.now from.now to.now configuration.now register.now suffix.now stream.now serial.now next_read.now reason.now created.now in
         (read_file file.now ≡ Accepted g)
         × (identifier_ok identifier.now ≡ true)
         × (supplied_ok texts codes ≡ true) }
-    ensures { let texts = lent_texts identifier.entry from.entry to.entry configuration.entry register.entry suffix.entry
-        stream.entry serial.entry next_read.entry reason.entry created.entry in
+    ensures { let texts = lent_texts identifier.now from.now to.now configuration.now register.now suffix.now
+        stream.now serial.now next_read.now reason.now created.now in
         (result ≡ export_answer file.now texts codes out.old)
         × (out.new ≡ export_after file.now texts codes out.old) }
 {
@@ -212,8 +212,8 @@ fn export_of(
     out: &mut [u8],
 ) -> Exported
     requires { read_file file.now ≡ Accepted g }
-    ensures { let texts = lent_texts identifier.entry from.entry to.entry configuration.entry register.entry suffix.entry
-        stream.entry serial.entry next_read.entry reason.entry created.entry in
+    ensures { let texts = lent_texts identifier.now from.now to.now configuration.now register.now suffix.now
+        stream.now serial.now next_read.now reason.now created.now in
         (result ≡ export_answer file.now texts codes out.old)
         × (out.new ≡ export_after file.now texts codes out.old) }
 {
@@ -271,8 +271,8 @@ pub fn nem12(
     codes: Codes,
     out: &mut [u8],
 ) -> Exported
-    ensures { let texts = lent_texts identifier.entry from.entry to.entry configuration.entry register.entry suffix.entry
-        stream.entry serial.entry next_read.entry reason.entry created.entry in
+    ensures { let texts = lent_texts identifier.now from.now to.now configuration.now register.now suffix.now
+        stream.now serial.now next_read.now reason.now created.now in
         (result ≡ export_answer file.now texts codes out.old)
         × (out.new ≡ export_after file.now texts codes out.old) }
 {

@@ -20,10 +20,10 @@ use Rattle.book.specs.Cells.{Book, book_fits}
 use Rattle.book.specs.Opening.{opened, open_answer, opened_in, open_after}
 use Rattle.book.specs.Filling.{after_all}
 use Rattle.book.proofs.Soundness.{book_sound}
-use Rattle.log.specs.declared.line.Opening.{Opening}
-use Rattle.log.specs.Log.{lines, Item, items, Reading, read_open, head_with, or_built_in, with_table, with_opening, read_closed, read_log}
-use Rattle.log.specs.Log.Item.{passed, table, opening, call, neither}
-use Rattle.log.specs.Log.Reading.{log as log-, no_opening as no_opening_, not_a_call as not_a_call_, refused as refused-}
+use Rattle.text_log.specs.declared.line.Opening.{Opening}
+use Rattle.text_log.specs.Log.{lines, Item, items, Reading, read_open, head_with, or_built_in, with_table, with_opening, read_closed, read_log}
+use Rattle.text_log.specs.Log.Item.{passed, table, opening, call, neither}
+use Rattle.text_log.specs.Log.Reading.{log as log-, no_opening as no_opening_, not_a_call as not_a_call_, refused as refused-}
 use Rattle.play.specs.declared.Checked.{Checked}
 use Rattle.play.specs.declared.Checked.TheVariants as coded
 use Rattle.play.specs.declared.Played.{Played}

@@ -13,19 +13,19 @@ use Rattle.rules.specs.declared.limits.Loaded.TheVariants as loaded
 use Rattle.rules.specs.Limits.{load_answer}
 use Rattle.rules.specs.Opening.{head_ok}
 use Rattle.book.specs.Arguments.{Call}
-use Rattle.log.specs.declared.limits.Limits.{Limits}
-use Rattle.log.specs.declared.line.LogLine.{LogLine}
-use Rattle.log.specs.declared.line.LogLine.TheVariants as line
-use Rattle.log.specs.declared.line.Opening.{Opening}
-use Rattle.log.specs.declared.lines.Cut.{Cut}
-use Rattle.log.specs.Log.{lines, Item, item_in, item_of, items, calls_in, Reading, read_open, head_with, or_built_in, with_table, with_opening}
-use Rattle.log.specs.Log.{read_closed, read_log}
-use Rattle.log.specs.Log.Item.{passed, table, opening, call, neither}
-use Rattle.log.specs.Log.Reading.{not_a_call, refused}
-use Rattle.log.specs.Inner.Lines.{LineAt, ItemAt, FoundAt}
-use Rattle.log.specs.Inner.Deliveries.{DeliveryTo}
-use Rattle.log.proofs.Cutting.{item_at}
-use Rattle.log.proofs.OnePass.{delivery_found}
+use Rattle.text_log.specs.declared.limits.Limits.{Limits}
+use Rattle.text_log.specs.declared.line.LogLine.{LogLine}
+use Rattle.text_log.specs.declared.line.LogLine.TheVariants as line
+use Rattle.text_log.specs.declared.line.Opening.{Opening}
+use Rattle.text_log.specs.declared.lines.Cut.{Cut}
+use Rattle.text_log.specs.Log.{lines, Item, item_in, item_of, items, calls_in, Reading, read_open, head_with, or_built_in, with_table, with_opening}
+use Rattle.text_log.specs.Log.{read_closed, read_log}
+use Rattle.text_log.specs.Log.Item.{passed, table, opening, call, neither}
+use Rattle.text_log.specs.Log.Reading.{not_a_call, refused}
+use Rattle.text_log.specs.Inner.Lines.{LineAt, ItemAt, FoundAt}
+use Rattle.text_log.specs.Inner.Deliveries.{DeliveryTo}
+use Rattle.text_log.proofs.Cutting.{item_at}
+use Rattle.text_log.proofs.OnePass.{delivery_found}
 use Rattle.play.specs.declared.Checked.TheVariants as coded
 use Rattle.play.specs.declared.reading.Step.{Step}
 use Rattle.play.specs.declared.reading.Step.TheVariants.{On, Opened, NotACall, Refused}

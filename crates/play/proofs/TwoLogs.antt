@@ -18,9 +18,9 @@ use Rattle.book.specs.Plain.{plain_answer, keep, plain_answers}
 use Rattle.book.proofs.Agreement.{answers_agree}
 use Rattle.claim.specs.Claim.{Claim}
 use Rattle.claim.proofs.WholeLists.{claim}
-use Rattle.log.specs.Log.{Item, items, calls_in, read_log}
-use Rattle.log.specs.Log.Item.{passed, table, opening, call, neither}
-use Rattle.log.specs.Log.Reading.{log}
+use Rattle.text_log.specs.Log.{Item, items, calls_in, read_log}
+use Rattle.text_log.specs.Log.Item.{passed, table, opening, call, neither}
+use Rattle.text_log.specs.Log.Reading.{log}
 use Rattle.play.specs.Playing.{log_calls, lengths_ok, item_code, after_item, codes, lists_as, play_after, answers_as, answers_after}
 use Rattle.play.specs.Claim.{plain_codes, TwoLogs}
 use Rattle.play.proofs.Ending.{head_good, after_where_fits}

@@ -10,11 +10,11 @@ use lib.Seq.{take-suc-set, take-length}
 use Rattle.rules.specs.declared.Head.{Head}
 use Rattle.book.specs.Cells.{Book, slots_fit, days_fit, reads_fit, agreed_fits, cells_fit, counts_fit, book_fits}
 use Rattle.book.specs.Filling.{after_all}
-use Rattle.log.specs.declared.limits.Limits.{Limits}
-use Rattle.log.specs.declared.line.LogLine.{LogLine}
-use Rattle.log.specs.Log.{lines, Item, item_in, items, calls_in}
-use Rattle.log.specs.Log.Item.{passed, table, opening, call, neither}
-use Rattle.log.specs.Inner.Lines.{FoundAt}
+use Rattle.text_log.specs.declared.limits.Limits.{Limits}
+use Rattle.text_log.specs.declared.line.LogLine.{LogLine}
+use Rattle.text_log.specs.Log.{lines, Item, item_in, items, calls_in}
+use Rattle.text_log.specs.Log.Item.{passed, table, opening, call, neither}
+use Rattle.text_log.specs.Inner.Lines.{FoundAt}
 use Rattle.play.specs.Playing.{log_calls, item_code, after_item, codes}
 use Rattle.play.proofs.Stepping.{lines_first, none_left}
 

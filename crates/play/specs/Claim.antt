@@ -10,9 +10,9 @@ use Rattle.book.specs.Plain.{plain_answer, keep}
 use Rattle.publishing.specs.declared.Published.TheVariants.{Length, Refused}
 use Rattle.publishing.specs.Publishing.{publish_answer, publish_after}
 use Rattle.claim.specs.Claim.{plain_of, plain_file, SameOutcomes, AcceptedCall, SameCalls}
-use Rattle.log.specs.Log.{Item, items, read_log}
-use Rattle.log.specs.Log.Item.{passed, table, opening, call, neither}
-use Rattle.log.specs.Log.Reading.{log}
+use Rattle.text_log.specs.Log.{Item, items, read_log}
+use Rattle.text_log.specs.Log.Item.{passed, table, opening, call, neither}
+use Rattle.text_log.specs.Log.Reading.{log}
 use Rattle.play.specs.Playing.{log_calls, lengths_ok, play_after, answers_after}
 
 -- a byte for each line as the plain book answers it: 102 for the opening, 103 for a line without a call

@@ -6,9 +6,9 @@ use Rattle.book.specs.Arguments.{Call}
 use Rattle.book.specs.Cells.{Book, book_fits}
 use Rattle.book.specs.Opening.{opened}
 use Rattle.book.specs.Filling.{answer, after, after_all}
-use Rattle.log.specs.Log.{lines, Item, items, calls_in, Reading, read_log}
-use Rattle.log.specs.Log.Item.{passed, table, opening, call, neither}
-use Rattle.log.specs.Log.Reading.{log, no_opening, not_a_call, refused}
+use Rattle.text_log.specs.Log.{lines, Item, items, calls_in, Reading, read_log}
+use Rattle.text_log.specs.Log.Item.{passed, table, opening, call, neither}
+use Rattle.text_log.specs.Log.Reading.{log, no_opening, not_a_call, refused}
 use Rattle.play.specs.declared.Checked.{Checked}
 use Rattle.play.specs.declared.Checked.TheVariants as coded
 use Rattle.play.specs.declared.Played.{Played}

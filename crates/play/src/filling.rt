@@ -5,15 +5,15 @@ ghost use Rattle.book.specs.Lent.{lent_book};
 ghost use Rattle.book.specs.Answers.{answer_code, received_meant, opened_meant};
 ghost use Rattle.book.specs.Cells.{book_fits};
 ghost use Rattle.book.specs.Filling.{after_all};
-ghost use Rattle.log.specs.declared.limits.Limits.{Limits as limits_type};
-ghost use Rattle.log.specs.Log.{item_in, items, lines as lines_of};
+ghost use Rattle.text_log.specs.declared.limits.Limits.{Limits as limits_type};
+ghost use Rattle.text_log.specs.Log.{item_in, items, lines as lines_of};
 ghost use Rattle.play.specs.Playing.{item_code, after_item, codes, log_calls};
 ghost use Rattle.play.specs.Inner.Filling.{is_done};
 
 use base::Performed;
 use book::{Received, calls};
-use log::line::LogLine;
-use log::lines;
+use text_log::line::LogLine;
+use text_log::lines;
 use rules::Head;
 
 pub fn is_done(opened: Performed) -> bool
@@ -52,14 +52,15 @@ fn play_line(
     line: LogLine,
 ) -> u8
     requires { (head_ok head ≡ true)
-        × (book_fits head (lent_book values versions statuses holidays readings read_versions agreed agreed_versions counts widths)
+        × (book_fits head (lent_book values.old versions.old statuses.old holidays.old readings.old read_versions.old
+        agreed.old agreed_versions.old counts.old widths.old)
         ≡ true) }
     ensures { let book =
-        lent_book values.entry versions.entry statuses.entry holidays.entry readings.entry read_versions.entry
-        agreed.entry agreed_versions.entry counts.entry widths.entry in
+        lent_book values.old versions.old statuses.old holidays.old readings.old read_versions.old
+        agreed.old agreed_versions.old counts.old widths.old in
         (limits : limits_type) → (result ≡ item_code head book (item_in line limits))
-        × (lent_book values.exit versions.exit statuses.exit holidays.exit readings.exit read_versions.exit
-        agreed.exit agreed_versions.exit counts.exit widths.exit
+        × (lent_book values.new versions.new statuses.new holidays.new readings.new read_versions.new
+        agreed.new agreed_versions.new counts.new widths.new
         ≡ after_item head book (item_in line limits)) }
 {
     match line {
@@ -101,15 +102,16 @@ pub fn fill_all(
     answers: &mut [u8],
 )
     requires { (head_ok head ≡ true)
-        × (book_fits head (lent_book values versions statuses holidays readings read_versions agreed agreed_versions counts widths)
+        × (book_fits head (lent_book values.old versions.old statuses.old holidays.old readings.old read_versions.old
+        agreed.old agreed_versions.old counts.old widths.old)
         ≡ true)
         × (length answers.old ≡ length (lines_of log.now)) }
     ensures { let book =
-        lent_book values.entry versions.entry statuses.entry holidays.entry readings.entry read_versions.entry
-        agreed.entry agreed_versions.entry counts.entry widths.entry in
+        lent_book values.old versions.old statuses.old holidays.old readings.old read_versions.old
+        agreed.old agreed_versions.old counts.old widths.old in
         (answers.new ≡ codes head book (items log.now))
-        × (lent_book values.exit versions.exit statuses.exit holidays.exit readings.exit read_versions.exit
-        agreed.exit agreed_versions.exit counts.exit widths.exit
+        × (lent_book values.new versions.new statuses.new holidays.new readings.new read_versions.new
+        agreed.new agreed_versions.new counts.new widths.new
         ≡ after_all head book (log_calls log.now)) }
 {
     let mut at = 0;

@@ -57,11 +57,11 @@ pub fn play(
 ) -> Played
     ensures { let bytes = log.now in
         let book =
-        lent_book values.entry versions.entry statuses.entry holidays.entry readings.entry read_versions.entry
-        agreed.entry agreed_versions.entry counts.entry widths.entry in
+        lent_book values.old versions.old statuses.old holidays.old readings.old read_versions.old
+        agreed.old agreed_versions.old counts.old widths.old in
         (result ≡ play_answer bytes book answers.old)
-        × (lent_book values.exit versions.exit statuses.exit holidays.exit readings.exit read_versions.exit
-        agreed.exit agreed_versions.exit counts.exit widths.exit
+        × (lent_book values.new versions.new statuses.new holidays.new readings.new read_versions.new
+        agreed.new agreed_versions.new counts.new widths.new
         ≡ play_after bytes book answers.old)
         × (answers.new ≡ answers_after bytes book answers.old) }
 {

@@ -1,16 +1,16 @@
 // What the bytes of a log are: its lines up to the opening, and those after it.
 ghost use Rattle.std.specs.Prelude.{◌≡◌, suc, ◌<◌, length, drop};
 ghost use Rattle.rules.specs.Limits.{load_answer};
-ghost use Rattle.log.specs.Log.{table_of, item_in, items, read_open, or_built_in};
-ghost use Rattle.log.specs.Log.Item.{table as table_item};
+ghost use Rattle.text_log.specs.Log.{table_of, item_in, items, read_open, or_built_in};
+ghost use Rattle.text_log.specs.Log.Item.{table as table_item};
 ghost use Rattle.play.specs.Playing.{checked_of};
 ghost use Rattle.play.specs.Inner.Steps.{head_step, opening_step, step_of, goes_on, table_after, opening_at, OpeningMeant};
 ghost use Rattle.play.specs.Inner.Steps.{is_outside, calls_at, TestedAt, Reached};
 
 use crate::Checked;
-use log::limits::Limits;
-use log::line::{Entry, LogLine, Opening};
-use log::{deliveries, limits, line, lines};
+use text_log::limits::Limits;
+use text_log::line::{Entry, LogLine, Opening};
+use text_log::{deliveries, limits, line, lines};
 use rules::limits::Loaded;
 use rules::{Head, limits as demand, opening};
 

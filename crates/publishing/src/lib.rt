@@ -39,10 +39,11 @@ fn put_file(
     out: &mut [u8],
     spans: usize,
 )
-    requires { let b = lent_cells values versions statuses holidays readings read_versions agreed agreed_versions widths in
+    requires { let b = lent_cells values.now versions.now statuses.now holidays.now readings.now read_versions.now
+        agreed.now agreed_versions.now widths.now in
         Roomy head b out.old × (spans ≡ length (spans_of head b)) }
-    ensures { let b = lent_cells values.entry versions.entry statuses.entry holidays.entry readings.entry read_versions.entry
-        agreed.entry agreed_versions.entry widths.entry in
+    ensures { let b = lent_cells values.now versions.now statuses.now holidays.now readings.now read_versions.now
+        agreed.now agreed_versions.now widths.now in
         out.new ≡ file_of (published head b) ++ drop (file_length head b) out.old }
 {
     let table = 6 * opening::slot_count(head);
@@ -96,9 +97,10 @@ fn put_sound(
     widths: &[u16],
     out: &mut [u8],
 ) -> Published
-    requires { Sound head (lent_cells values versions statuses holidays readings read_versions agreed agreed_versions widths) }
-    ensures { let b = lent_cells values.entry versions.entry statuses.entry holidays.entry readings.entry read_versions.entry
-        agreed.entry agreed_versions.entry widths.entry in
+    requires { Sound head (lent_cells values.now versions.now statuses.now holidays.now readings.now read_versions.now
+        agreed.now agreed_versions.now widths.now) }
+    ensures { let b = lent_cells values.now versions.now statuses.now holidays.now readings.now read_versions.now
+        agreed.now agreed_versions.now widths.now in
         Put head b out.old result out.new }
 {
     let spans = readings::span_count(read_versions);
@@ -138,8 +140,8 @@ pub fn lists_fit(
     widths: &[u16],
 ) -> bool
     requires { head_ok head ≡ true }
-    ensures { let book = lent_book values.entry versions.entry statuses.entry holidays.entry readings.entry
-        read_versions.entry agreed.entry agreed_versions.entry counts.entry widths.entry in
+    ensures { let book = lent_book values.now versions.now statuses.now holidays.now readings.now
+        read_versions.now agreed.now agreed_versions.now counts.now widths.now in
         result ≡ book_fits head book }
 {
     lengths::book_fits(
@@ -172,10 +174,11 @@ fn put_fitted(
     widths: &[u16],
     out: &mut [u8],
 ) -> Published
-    requires { let book = lent_book values versions statuses holidays readings read_versions agreed agreed_versions counts widths in
+    requires { let book = lent_book values.now versions.now statuses.now holidays.now readings.now read_versions.now
+        agreed.now agreed_versions.now counts.now widths.now in
         (head_ok head ≡ true) × (book_fits head book ≡ true) }
-    ensures { let book = lent_book values.entry versions.entry statuses.entry holidays.entry readings.entry
-        read_versions.entry agreed.entry agreed_versions.entry counts.entry widths.entry in
+    ensures { let book = lent_book values.now versions.now statuses.now holidays.now readings.now
+        read_versions.now agreed.now agreed_versions.now counts.now widths.now in
         Left head book out.old result out.new }
 {
     if !sound::book_ok(
@@ -223,8 +226,8 @@ pub fn publish(
     widths: &[u16],
     out: &mut [u8],
 ) -> Published
-    ensures { let book = lent_book values.entry versions.entry statuses.entry holidays.entry readings.entry
-        read_versions.entry agreed.entry agreed_versions.entry counts.entry widths.entry in
+    ensures { let book = lent_book values.now versions.now statuses.now holidays.now readings.now
+        read_versions.now agreed.now agreed_versions.now counts.now widths.now in
         (result ≡ publish_answer head book out.old)
         × (out.new ≡ publish_after head book out.old) }
 {

@@ -127,10 +127,10 @@ fn put_direct(
     before: bool,
     so_far: Totals,
 ) -> DirectPut
-    requires { let s = lent_slots values versions statuses in
-        PutFrom head s (lent_agreed agreed agreed_versions) out.old from to before so_far }
-    ensures { let s = lent_slots values.entry versions.entry statuses.entry in
-        let a = lent_agreed agreed.entry agreed_versions.entry in
+    requires { let s = lent_slots values.now versions.now statuses.now in
+        PutFrom head s (lent_agreed agreed.now agreed_versions.now) out.old from to before so_far }
+    ensures { let s = lent_slots values.now versions.now statuses.now in
+        let a = lent_agreed agreed.now agreed_versions.now in
         PutTo head s a out.old out.new from to so_far result }
 {
     let mut outage = before;
@@ -179,10 +179,11 @@ fn put_inside(
     out: &mut [u8],
     from: Progress,
 ) -> Progress
-    requires { let b = lent_cells values versions statuses holidays readings read_versions agreed agreed_versions widths in
+    requires { let b = lent_cells values.now versions.now statuses.now holidays.now readings.now read_versions.now
+        agreed.now agreed_versions.now widths.now in
         Entering head b out.old from }
-    ensures { let b = lent_cells values.entry versions.entry statuses.entry holidays.entry readings.entry read_versions.entry
-        agreed.entry agreed_versions.entry widths.entry in
+    ensures { let b = lent_cells values.now versions.now statuses.now holidays.now readings.now read_versions.now
+        agreed.now agreed_versions.now widths.now in
         PutInside head b out.old out.new from result }
 {
     let pass = from.pass;
@@ -268,10 +269,11 @@ fn put_stretch(
     table: usize,
     here: Progress,
 ) -> Progress
-    requires { let b = lent_cells values versions statuses holidays readings read_versions agreed agreed_versions widths in
+    requires { let b = lent_cells values.now versions.now statuses.now holidays.now readings.now read_versions.now
+        agreed.now agreed_versions.now widths.now in
         Next head b out.old table here }
-    ensures { let b = lent_cells values.entry versions.entry statuses.entry holidays.entry readings.entry read_versions.entry
-        agreed.entry agreed_versions.entry widths.entry in
+    ensures { let b = lent_cells values.now versions.now statuses.now holidays.now readings.now read_versions.now
+        agreed.now agreed_versions.now widths.now in
         PutStretch head b out.old out.new here result }
 {
     let pass = here.pass;
@@ -335,10 +337,11 @@ pub fn put_tables(
     out: &mut [u8],
     table: usize,
 ) -> Totals
-    requires { let b = lent_cells values versions statuses holidays readings read_versions agreed agreed_versions widths in
+    requires { let b = lent_cells values.now versions.now statuses.now holidays.now readings.now read_versions.now
+        agreed.now agreed_versions.now widths.now in
         Roomy head b out.old × (table ≡ 6 * slot_count head) }
-    ensures { let b = lent_cells values.entry versions.entry statuses.entry holidays.entry readings.entry read_versions.entry
-        agreed.entry agreed_versions.entry widths.entry in
+    ensures { let b = lent_cells values.now versions.now statuses.now holidays.now readings.now read_versions.now
+        agreed.now agreed_versions.now widths.now in
         (result ≡ totals_of (outcomes head b)) × (out.new ≡ buffer_at head b out.old (slot_count head)) }
 {
     let n = opening::slot_count(head);

@@ -5,8 +5,8 @@ use Prim.Native.Nat.{ℕ}
 use native.Mathlib.Omega.{arith}
 use borrow.Author.Tests.{eq-eqb, ne_eqb}
 use lib.ListN.{length, set}
-use Rattle.log.specs.declared.line.LogLine.{LogLine}
-use Rattle.log.specs.Line.{entry_of}
+use Rattle.text_log.specs.declared.line.LogLine.{LogLine}
+use Rattle.text_log.specs.Line.{entry_of}
 use Rattle.play.specs.declared.Checked.{Checked}
 use Rattle.play.specs.Playing.{checked}
 use Rattle.questions.specs.Logs.{check_code, log_figures, log_code, log_after, line_code, line_fields, one_code, one_fields}

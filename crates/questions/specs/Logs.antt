@@ -2,9 +2,9 @@
 use Rattle.std.specs.Prelude.{cond, List, [], ◌∷◌, ℕ, eqb, length}
 use Rattle.book.specs.declared.calls.Call.{Call}
 use Rattle.book.specs.declared.calls.Call.TheVariants.{Delivery, Agreed, Holiday, Register}
-use Rattle.log.specs.declared.line.LogLine.{LogLine}
-use Rattle.log.specs.declared.line.LogLine.TheVariants.{Passed, Table, Open, Fill, NoCall}
-use Rattle.log.specs.Line.{entry_of}
+use Rattle.text_log.specs.declared.line.LogLine.{LogLine}
+use Rattle.text_log.specs.declared.line.LogLine.TheVariants.{Passed, Table, Open, Fill, NoCall}
+use Rattle.text_log.specs.Line.{entry_of}
 use Rattle.play.specs.declared.Checked.{Checked}
 use Rattle.play.specs.declared.Checked.TheVariants.{Log, NoOpening, NotACall, Refused}
 use Rattle.play.specs.declared.Played.{Played}

@@ -154,8 +154,8 @@ pub extern "C" fn sawmauve_explain(
     fields: &mut [u64],
 ) -> u32
     ensures { let head = head_of year month day days interval limit tolerance in
-        let book = lent_book values.entry versions.entry statuses.entry holidays.entry readings.entry read_versions.entry
-        agreed.entry agreed_versions.entry counts.entry widths.entry in
+        let book = lent_book values.now versions.now statuses.now holidays.now readings.now read_versions.now
+        agreed.now agreed_versions.now counts.now widths.now in
         (result ≡ explain_code head book slot fields.old)
         × (fields.new ≡ fields_after head book slot fields.old) }
 {

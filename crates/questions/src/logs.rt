@@ -6,7 +6,7 @@ ghost use Rattle.questions.specs.Logs.{check_code, check_line, log_figures, log_
 ghost use Rattle.questions.specs.Logs.{call_code, call_fields, line_code, line_fields, one_code, one_fields};
 
 use book::calls::Call;
-use log::line::LogLine;
+use text_log::line::LogLine;
 use play::{Checked, Played};
 
 // The nine figures of a log, and 0; else the number of what it is.
@@ -100,11 +100,11 @@ pub extern "C" fn sawmauve_play(
 ) -> u32
     ensures { let bytes = log.now in
         let book =
-        lent_book values.entry versions.entry statuses.entry holidays.entry readings.entry read_versions.entry
-        agreed.entry agreed_versions.entry counts.entry widths.entry in
+        lent_book values.old versions.old statuses.old holidays.old readings.old read_versions.old
+        agreed.old agreed_versions.old counts.old widths.old in
         (result ≡ played_code (play_answer bytes book answers.old))
-        × (lent_book values.exit versions.exit statuses.exit holidays.exit readings.exit read_versions.exit
-        agreed.exit agreed_versions.exit counts.exit widths.exit
+        × (lent_book values.new versions.new statuses.new holidays.new readings.new read_versions.new
+        agreed.new agreed_versions.new counts.new widths.new
         ≡ play_after bytes book answers.old)
         × (answers.new ≡ answers_after bytes book answers.old) }
 {
@@ -215,6 +215,6 @@ pub extern "C" fn sawmauve_call(line: &[u8], fields: &mut [u32]) -> u32
     if fields.len() != 7 {
         return 2;
     }
-    let found = log::line::line_of(line);
+    let found = text_log::line::line_of(line);
     tell_line(found, fields)
 }

@@ -49,13 +49,13 @@ pub extern "C" fn sawmauve_simulate(
     report: &mut [i64],
 ) -> u32
     ensures { let head = head_of year month day days interval limit tolerance in
-        let book = lent_book values.entry versions.entry statuses.entry holidays.entry readings.entry read_versions.entry
-        agreed.entry agreed_versions.entry counts.entry widths.entry in
+        let book = lent_book values.old versions.old statuses.old holidays.old readings.old read_versions.old
+        agreed.old agreed_versions.old counts.old widths.old in
         let given = out.old in
         let told = report.old in
         (result ≡ simulated_code (host_answer head seed loss book given told))
-        × (lent_book values.exit versions.exit statuses.exit holidays.exit readings.exit read_versions.exit
-        agreed.exit agreed_versions.exit counts.exit widths.exit
+        × (lent_book values.new versions.new statuses.new holidays.new readings.new read_versions.new
+        agreed.new agreed_versions.new counts.new widths.new
         ≡ host_lists head seed loss book given told)
         × (out.new ≡ host_bytes head seed loss book given told)
         × (report.new ≡ host_report head seed loss book given told) }

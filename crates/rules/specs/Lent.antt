@@ -1,6 +1,5 @@
 -- The lent lists as the contracts name them: what they hold now, as the records of Opening (01, Opening; 02, W1 and W10).
 use Rattle.std.specs.Prelude.{List, ℕ}
-use Rattle.std.specs.Borrow.{Bor}
 use Rattle.rules.specs.Opening.{Slots, Agreed, Cells}
 
 abbrev pub slots : List ℕ → List ℕ → List ℕ → Slots
@@ -13,14 +12,14 @@ abbrev pub cells : Slots → List ℕ → List ℕ → List ℕ → Agreed → L
 cells s holidays readings read_versions agreed widths =
     record { slots = s; holidays = holidays; readings = readings; read_versions = read_versions; agreed = agreed; widths = widths }
 
-abbrev pub lent_slots : Bor (List ℕ) → Bor (List ℕ) → Bor (List ℕ) → Slots
-lent_slots values versions statuses = slots values.now versions.now statuses.now
+abbrev pub lent_slots : List ℕ → List ℕ → List ℕ → Slots
+lent_slots values versions statuses = slots values versions statuses
 
-abbrev pub lent_agreed : Bor (List ℕ) → Bor (List ℕ) → Agreed
-lent_agreed agreed agreed_versions = agreed_lists agreed.now agreed_versions.now
+abbrev pub lent_agreed : List ℕ → List ℕ → Agreed
+lent_agreed agreed agreed_versions = agreed_lists agreed agreed_versions
 
-abbrev pub lent_cells : Bor (List ℕ) → Bor (List ℕ) → Bor (List ℕ) → Bor (List ℕ) → Bor (List ℕ) → Bor (List ℕ) → Bor (List ℕ)
-    → Bor (List ℕ) → Bor (List ℕ) → Cells
+abbrev pub lent_cells : List ℕ → List ℕ → List ℕ → List ℕ → List ℕ → List ℕ → List ℕ
+    → List ℕ → List ℕ → Cells
 lent_cells values versions statuses holidays readings read_versions agreed agreed_versions widths =
-    cells (lent_slots values versions statuses) holidays.now readings.now read_versions.now
-    (lent_agreed agreed agreed_versions) widths.now
+    cells (lent_slots values versions statuses) holidays readings read_versions
+    (lent_agreed agreed agreed_versions) widths

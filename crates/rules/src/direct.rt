@@ -26,9 +26,9 @@ pub fn add_up(
     to: usize,
     before: bool,
 ) -> Added
-    requires { DirectFrom head (lent_slots values versions statuses) (lent_agreed agreed agreed_versions) from to before }
-    ensures { let s = lent_slots values.entry versions.entry statuses.entry in
-        let a = lent_agreed agreed.entry agreed_versions.entry in
+    requires { DirectFrom head (lent_slots values.now versions.now statuses.now) (lent_agreed agreed.now agreed_versions.now) from to before }
+    ensures { let s = lent_slots values.now versions.now statuses.now in
+        let a = lent_agreed agreed.now agreed_versions.now in
         DirectTo head s a from to result.end result.outage
         × (result.sum ≡ sum (λ i. (direct_of head s a i).value) from (result.end - from))
         × (result.sum ≤ (result.end - from) * 4_294_967_295) }

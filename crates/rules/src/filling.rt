@@ -52,8 +52,8 @@ fn is_reference(
     holidays: &[u8],
     at: usize,
 ) -> bool
-    requires { Lent head (lent_slots values versions statuses) holidays.now × (at < slot_count head) }
-    ensures { result ≡ is_reference head (lent_slots values.entry versions.entry statuses.entry) holidays.now at }
+    requires { Lent head (lent_slots values.now versions.now statuses.now) holidays.now × (at < slot_count head) }
+    ensures { result ≡ is_reference head (lent_slots values.now versions.now statuses.now) holidays.now at }
 {
     if !tests::is_good(head, values, versions, statuses, at) {
         return false;
@@ -73,8 +73,8 @@ pub fn find_references(
     holidays: &[u8],
     slot: usize,
 ) -> References
-    requires { Lent head (lent_slots values versions statuses) holidays.now × (slot < slot_count head) }
-    ensures { let s = lent_slots values.entry versions.entry statuses.entry in
+    requires { Lent head (lent_slots values.now versions.now statuses.now) holidays.now × (slot < slot_count head) }
+    ensures { let s = lent_slots values.now versions.now statuses.now in
         let xs = references head s holidays.now slot in
         (result.days ≡ in_four (reference_days head s holidays.now slot)) × (result.values ≡ in_four xs) × (result.count ≡ length xs) }
 {
@@ -165,8 +165,8 @@ fn same_day(
     holidays: &[u8],
     at: usize,
 ) -> Shaped
-    requires { Lent head (lent_slots values versions statuses) holidays.now × (at < slot_count head) }
-    ensures { let xs = references head (lent_slots values.entry versions.entry statuses.entry) holidays.now at in
+    requires { Lent head (lent_slots values.now versions.now statuses.now) holidays.now × (at < slot_count head) }
+    ensures { let xs = references head (lent_slots values.now versions.now statuses.now) holidays.now at in
         (result.outcome ≡ from_references xs) × (result.shape ≡ shape_of result.outcome xs) }
 {
     let found = find_references(head, values, versions, statuses, holidays, at);
@@ -224,10 +224,10 @@ pub fn unscaled(
     outage: bool,
     line: StraightLine,
 ) -> Shaped
-    requires { Lent head (lent_slots values versions statuses) holidays.now
+    requires { Lent head (lent_slots values.now versions.now statuses.now) holidays.now
         × (at < slot_count head)
         × (0 < line.length → Drawn line) }
-    ensures { let xs = references head (lent_slots values.entry versions.entry statuses.entry) holidays.now at in
+    ensures { let xs = references head (lent_slots values.now versions.now statuses.now) holidays.now at in
         (result.outcome ≡ ruled_by outage line xs) × (result.shape ≡ shape_of result.outcome xs) }
 {
     if outage {
@@ -266,15 +266,15 @@ pub fn fill_cause(
     outage: bool,
     before: StraightLine,
 ) -> RuledSlot
-    requires { let s = lent_slots values versions statuses in
+    requires { let s = lent_slots values.now versions.now statuses.now in
         Lent head s holidays.now
-        × Settled head (lent_agreed agreed agreed_versions)
+        × Settled head (lent_agreed agreed.now agreed_versions.now)
         × (at < slot_count head)
         × (good_at head s at ≡ false)
         × (outage ≡ is_outage_zero head s at)
         × (before ≡ line_before head s agreed_versions.now at) }
-    ensures { let s = lent_slots values.entry versions.entry statuses.entry in
-        let a = lent_agreed agreed.entry agreed_versions.entry in
+    ensures { let s = lent_slots values.now versions.now statuses.now in
+        let a = lent_agreed agreed.now agreed_versions.now in
         (result.outcome ≡ filled_at head s a holidays.now at)
         × (result.shape ≡ shape_at head s a holidays.now at)
         × (result.line ≡ line_at head s a.versions at) }

@@ -64,12 +64,12 @@ fn length_within(
     agreed_versions: &[u32],
     at: usize,
 ) -> usize
-    requires { let s = lent_slots values versions statuses in
+    requires { let s = lent_slots values.now versions.now statuses.now in
         Fitted head s
         × (length agreed_versions.now ≡ slot_count head)
         × (at < slot_count head)
         × (in_run head s agreed_versions.now at ≡ true) }
-    ensures { let s = lent_slots values.entry versions.entry statuses.entry in
+    ensures { let s = lent_slots values.now versions.now statuses.now in
         result ≡ length_within head s agreed_versions.now at }
 {
     let most = (MOST_MINUTES / head.interval) as usize;
@@ -103,13 +103,13 @@ fn begin(
     agreed_versions: &[u32],
     at: usize,
 ) -> StraightLine
-    requires { let s = lent_slots values versions statuses in
+    requires { let s = lent_slots values.now versions.now statuses.now in
         Fitted head s
         × (length agreed_versions.now ≡ slot_count head)
         × (at < slot_count head)
         × (in_run head s agreed_versions.now at ≡ true)
         × (run_before head s agreed_versions.now at ≡ 0) }
-    ensures { let s = lent_slots values.entry versions.entry statuses.entry in
+    ensures { let s = lent_slots values.now versions.now statuses.now in
         result ≡ line_at head s agreed_versions.now at }
 {
     if at < 1 {
@@ -144,7 +144,7 @@ pub fn line_unagreed(
     outage: bool,
     before: StraightLine,
 ) -> StraightLine
-    requires { let s = lent_slots values versions statuses in
+    requires { let s = lent_slots values.now versions.now statuses.now in
         Fitted head s
         × (length agreed_versions.now ≡ slot_count head)
         × (at < slot_count head)
@@ -152,7 +152,7 @@ pub fn line_unagreed(
         × (is_agreed agreed_versions.now at ≡ false)
         × (outage ≡ is_outage_zero head s at)
         × (before ≡ line_before head s agreed_versions.now at) }
-    ensures { let s = lent_slots values.entry versions.entry statuses.entry in
+    ensures { let s = lent_slots values.now versions.now statuses.now in
         result ≡ line_at head s agreed_versions.now at }
 {
     if outage {
@@ -181,14 +181,14 @@ pub fn line_on(
     outage: bool,
     before: StraightLine,
 ) -> StraightLine
-    requires { let s = lent_slots values versions statuses in
+    requires { let s = lent_slots values.now versions.now statuses.now in
         Fitted head s
         × (length agreed_versions.now ≡ slot_count head)
         × (at < slot_count head)
         × (good_at head s at ≡ false)
         × (outage ≡ is_outage_zero head s at)
         × (before ≡ line_before head s agreed_versions.now at) }
-    ensures { let s = lent_slots values.entry versions.entry statuses.entry in
+    ensures { let s = lent_slots values.now versions.now statuses.now in
         result ≡ line_at head s agreed_versions.now at }
 {
     if 0 < agreed_versions[at] {

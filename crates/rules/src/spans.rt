@@ -101,13 +101,13 @@ pub fn summarise(
     first: Walk,
     count: usize,
 ) -> Summary
-    requires { let s = lent_slots values versions statuses in
+    requires { let s = lent_slots values.now versions.now statuses.now in
         Lent head s holidays.now
-        × Settled head (lent_agreed agreed agreed_versions)
+        × Settled head (lent_agreed agreed.now agreed_versions.now)
         × (first.at + count ≤ slot_count head)
         × (first ≡ walk_at head s agreed_versions.now first.at) }
-    ensures { let s = lent_slots values.entry versions.entry statuses.entry in
-        let a = lent_agreed agreed.entry agreed_versions.entry in
+    ensures { let s = lent_slots values.now versions.now statuses.now in
+        let a = lent_agreed agreed.now agreed_versions.now in
         result ≡ summary_of head s a holidays.now first.at count }
 {
     let mut sum = Summary {

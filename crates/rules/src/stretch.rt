@@ -90,14 +90,14 @@ fn meet(
     first: usize,
     last: usize,
 ) -> Met
-    requires { let s = lent_slots values versions statuses in
+    requires { let s = lent_slots values.now versions.now statuses.now in
         Lent head s holidays.now
         × Dialled head readings.now
-        × Settled head (lent_agreed agreed agreed_versions)
+        × Settled head (lent_agreed agreed.now agreed_versions.now)
         × Starts head s agreed_versions.now walk first last
         × Widths head widths.now }
-    ensures { let s = lent_slots values.entry versions.entry statuses.entry in
-        let a = lent_agreed agreed.entry agreed_versions.entry in
+    ensures { let s = lent_slots values.now versions.now statuses.now in
+        let a = lent_agreed agreed.now agreed_versions.now in
         let b = cells s holidays.now readings.now [] a widths.now in
         (result.span ≡ span_of head b first last) × (result.stretch ≡ span_stretch head b first last walk.at) }
 {
@@ -154,10 +154,11 @@ fn reach(
     day: usize,
     last: usize,
 ) -> Entered
-    requires { let b = lent_cells values versions statuses holidays readings read_versions agreed agreed_versions widths in
-        Whole head b × Starts head (lent_slots values versions statuses) agreed_versions.now walk day last }
-    ensures { let b = lent_cells values.entry versions.entry statuses.entry holidays.entry readings.entry read_versions.entry
-        agreed.entry agreed_versions.entry widths.entry in
+    requires { let b = lent_cells values.now versions.now statuses.now holidays.now readings.now read_versions.now
+        agreed.now agreed_versions.now widths.now in
+        Whole head b × Starts head (lent_slots values.now versions.now statuses.now) agreed_versions.now walk day last }
+    ensures { let b = lent_cells values.now versions.now statuses.now holidays.now readings.now read_versions.now
+        agreed.now agreed_versions.now widths.now in
         (result.begins ≡ begins_with head b day last) × (result.stretch ≡ stretch_from head b day last walk.at) }
 {
     if read_versions[day] == 0 {
@@ -200,10 +201,11 @@ pub fn enter(
     walk: Walk,
     carried: Stretch,
 ) -> Entered
-    requires { let b = lent_cells values versions statuses holidays readings read_versions agreed agreed_versions widths in
+    requires { let b = lent_cells values.now versions.now statuses.now holidays.now readings.now read_versions.now
+        agreed.now agreed_versions.now widths.now in
         Whole head b × Before head b walk carried }
-    ensures { let b = lent_cells values.entry versions.entry statuses.entry holidays.entry readings.entry read_versions.entry
-        agreed.entry agreed_versions.entry widths.entry in
+    ensures { let b = lent_cells values.now versions.now statuses.now holidays.now readings.now read_versions.now
+        agreed.now agreed_versions.now widths.now in
         (result.begins ≡ begins_at head b walk.at) × (result.stretch ≡ stretch_at head b walk.at) }
 {
     let at = walk.at;

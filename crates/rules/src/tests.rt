@@ -48,8 +48,8 @@ fn is_nothing(found: Cause) -> bool
 }
 
 pub fn is_good(head: Head, values: &[u32], versions: &[u32], statuses: &[u8], at: usize) -> bool
-    requires { Fitted head (lent_slots values versions statuses) × (at < slot_count head) }
-    ensures { result ≡ good_at head (lent_slots values.entry versions.entry statuses.entry) at }
+    requires { Fitted head (lent_slots values.now versions.now statuses.now) × (at < slot_count head) }
+    ensures { result ≡ good_at head (lent_slots values.now versions.now statuses.now) at }
 {
     if versions[at] == 0 {
         return false;

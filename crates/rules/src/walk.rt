@@ -36,13 +36,13 @@ pub fn fill_at(
     agreed_versions: &[u32],
     walk: Walk,
 ) -> Filled
-    requires { let s = lent_slots values versions statuses in
+    requires { let s = lent_slots values.now versions.now statuses.now in
         Lent head s holidays.now
-        × Settled head (lent_agreed agreed agreed_versions)
+        × Settled head (lent_agreed agreed.now agreed_versions.now)
         × (walk.at < slot_count head)
         × (walk ≡ walk_at head s agreed_versions.now walk.at) }
-    ensures { let s = lent_slots values.entry versions.entry statuses.entry in
-        let a = lent_agreed agreed.entry agreed_versions.entry in
+    ensures { let s = lent_slots values.now versions.now statuses.now in
+        let a = lent_agreed agreed.now agreed_versions.now in
         (result.outcome ≡ filled_at head s a holidays.now walk.at)
         × (result.shape ≡ shape_at head s a holidays.now walk.at)
         × (result.next ≡ walk_at head s a.versions (walk.at + 1)) }

@@ -1,10 +1,10 @@
 -- What the two calls answer, and what they leave in their output.
-use mathlib.Core.Bool.{Bool, true, false, not, ◌&&◌, and-true}
+use mathlib.Core.Bool.{Bool, true, false, ◌&&◌, and-true}
 use mathlib.Core.List.{List}
 use mathlib.Core.Path.{◌≡◌, refl, sym, ◌∙◌}
 use Prim.Native.Nat.{ℕ}
 use native.Mathlib.Omega.{arith}
-use borrow.Author.Tests.{eqb-true, not-true, not-false}
+use borrow.Author.Tests.{eqb-true}
 use lib.Dec.{eqb}
 use lib.ListN.{length}
 use Rattle.base.proofs.Logic.{and_parts}
@@ -17,11 +17,11 @@ use Rattle.strips.specs.Inner.Laying.{Sized}
 use Rattle.strips.proofs.Lengths.{whole_records}
 
 -- what the code's `if !test` tells of a test that a definition names
-pub passes : {r t : Bool} → r ≡ t → not r ≡ false → t ≡ true
-passes {r} e h = sym e ∙ not-false r h
+pub passes : {r t : Bool} → r ≡ t → r ≡ true → t ≡ true
+passes e h = sym e ∙ h
 
-pub fails : {r t : Bool} → r ≡ t → not r ≡ true → t ≡ false
-fails {r} e h = sym e ∙ not-true r h
+pub fails : {r t : Bool} → r ≡ t → r ≡ false → t ≡ false
+fails e h = sym e ∙ h
 
 module _ (interval : ℕ) (given out : List ℕ) where
   -- an answer, and the output after it

@@ -1,6 +1,5 @@
 -- The lists that a delivery is lent, while the slots are sent.
 use Rattle.std.specs.Prelude.{cond, List, ℕ, zero, suc}
-use Rattle.std.specs.Borrow.{Bor}
 use Rattle.rules.specs.declared.Head.{Head}
 use Rattle.rules.specs.Opening.{Slots}
 use Rattle.rules.specs.Lent.{lent_slots}
@@ -12,8 +11,8 @@ pub record Sent : Type 0 where
   pub slots : Slots
   pub counts : List ℕ
 
-abbrev pub lent_sent : Bor (List ℕ) → Bor (List ℕ) → Bor (List ℕ) → Bor (List ℕ) → Sent
-lent_sent values versions statuses counts = record { slots = lent_slots values versions statuses; counts = counts.now }
+abbrev pub lent_sent : List ℕ → List ℕ → List ℕ → List ℕ → Sent
+lent_sent values versions statuses counts = record { slots = lent_slots values versions statuses; counts = counts }
 
 -- after slot i, of which the berth has just made its step
 unfoldable pub sent_one : Head → Sent → ℕ → Berth → Sent

@@ -28,8 +28,8 @@ after-lists-fit-refused-by3 c = c.before.before.before.before
 
 returns : tie.Need-returns
 returns c = let a = (start c.before.before).args in
-    let b = lent_book a.values a.versions a.statuses a.holidays a.readings a.read-versions a.agreed a.agreed-versions
-    a.counts a.widths in
+    let b = lent_book a.values.now a.versions.now a.statuses.now a.holidays.now a.readings.now a.read-versions.now a.agreed.now a.agreed-versions.now
+    a.counts.now a.widths.now in
     c.refused-by.ensures
     ∙ refused_1 a.head b a.slot (sym c.before.before.head_ok.ensures ∙ not-true _ c.before.if1.true)
 
@@ -38,8 +38,8 @@ lists-fit-requires c κs = sym c.before.head_ok.ensures ∙ not-false _ c.if1.fa
 
 returns-2 : tie.Need-returns-2
 returns-2 c = let a = (start-refused-by2 c).args in
-    let b = lent_book a.values a.versions a.statuses a.holidays a.readings a.read-versions a.agreed a.agreed-versions
-    a.counts a.widths in
+    let b = lent_book a.values.now a.versions.now a.statuses.now a.holidays.now a.readings.now a.read-versions.now a.agreed.now a.agreed-versions.now
+    a.counts.now a.widths.now in
     c.refused-by2.ensures
     ∙ refused_2 a.head b a.slot (sym (after-head-ok c).head_ok.ensures ∙ not-false _ c.before.before.before.if1.false)
     (sym c.before.before.lists-fit.ensures ∙ not-true _ c.before.if2.true)
@@ -51,8 +51,8 @@ returns-3 : tie.Need-returns-3
 returns-3 c =
     let at-lists-fit = after-lists-fit-refused-by3 c in
     let a = (start at-lists-fit.before.before).args in
-    let b = lent_book a.values a.versions a.statuses a.holidays a.readings a.read-versions a.agreed a.agreed-versions
-    a.counts a.widths in
+    let b = lent_book a.values.now a.versions.now a.statuses.now a.holidays.now a.readings.now a.read-versions.now a.agreed.now a.agreed-versions.now
+    a.counts.now a.widths.now in
     c.refused-by3.ensures
     ∙ refused-3 a.head b a.slot (sym at-lists-fit.before.before.head_ok.ensures ∙ not-false _ at-lists-fit.before.if1.left)
     (sym at-lists-fit.lists-fit.ensures ∙ not-false _ c.before.before.before.if2.false)

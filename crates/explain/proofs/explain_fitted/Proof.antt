@@ -22,8 +22,8 @@ returns : tie.Need-returns
 returns c =
     let begun = start c.before.before in
     let a = begun.args in
-    let b = lent_book a.values a.versions a.statuses a.holidays a.readings a.read-versions a.agreed a.agreed-versions
-    a.counts a.widths in
+    let b = lent_book a.values.now a.versions.now a.statuses.now a.holidays.now a.readings.now a.read-versions.now a.agreed.now a.agreed-versions.now
+    a.counts.now a.widths.now in
     c.refused-by.ensures
     ∙ refused-11 a.head b a.slot begun.pre.0 begun.pre.1 begun.pre.2
     (sym c.before.before.book_ok_lem.ensures ∙ not-true _ c.before.if1.true)
@@ -33,8 +33,8 @@ unfolding book_ok
 tell-requires c κs =
     let begun = start c.before in
     let a = begun.args in
-    let b = lent_book a.values a.versions a.statuses a.holidays a.readings a.read-versions a.agreed a.agreed-versions
-    a.counts a.widths in (
+    let b = lent_book a.values.now a.versions.now a.statuses.now a.holidays.now a.readings.now a.read-versions.now a.agreed.now a.agreed-versions.now
+    a.counts.now a.widths.now in (
       whole_of a.head b.cells (record {
         head = begun.pre.0;
         fit = (fits_of a.head b begun.pre.1).0;
@@ -47,8 +47,8 @@ returns-2 : tie.Need-returns-2
 returns-2 c =
     let begun = start c.before.before in
     let a = begun.args in
-    let b = lent_book a.values a.versions a.statuses a.holidays a.readings a.read-versions a.agreed a.agreed-versions
-    a.counts a.widths in
+    let b = lent_book a.values.now a.versions.now a.statuses.now a.holidays.now a.readings.now a.read-versions.now a.agreed.now a.agreed-versions.now
+    a.counts.now a.widths.now in
     told a.head b a.slot begun.pre.0 begun.pre.1 begun.pre.2
     (sym c.before.before.book_ok_lem.ensures ∙ not-false _ c.before.if1.false) _ c.tell.ensures
 

@@ -5,12 +5,12 @@ use Rattle.rules.specs.declared.limits.Loaded.{Loaded}
 use Rattle.rules.specs.declared.limits.Loaded.TheVariants as loaded
 use Rattle.rules.specs.Limits.{load_answer}
 use Rattle.rules.specs.Opening.{head_ok}
-use Rattle.log.specs.declared.line.LogLine.{LogLine}
-use Rattle.log.specs.declared.line.LogLine.TheVariants as line
-use Rattle.log.specs.declared.line.Opening.{Opening}
-use Rattle.log.specs.Log.{lines, Item, items, read_log, read_open, head_with, or_built_in}
-use Rattle.log.specs.Log.Item.{passed, table, opening, call, neither}
-use Rattle.log.specs.Inner.Lines.{FoundAt}
+use Rattle.text_log.specs.declared.line.LogLine.{LogLine}
+use Rattle.text_log.specs.declared.line.LogLine.TheVariants as line
+use Rattle.text_log.specs.declared.line.Opening.{Opening}
+use Rattle.text_log.specs.Log.{lines, Item, items, read_log, read_open, head_with, or_built_in}
+use Rattle.text_log.specs.Log.Item.{passed, table, opening, call, neither}
+use Rattle.text_log.specs.Inner.Lines.{FoundAt}
 use Rattle.play.specs.declared.Checked.TheVariants as coded
 use Rattle.play.specs.declared.reading.OpeningFound.{OpeningFound}
 use Rattle.play.specs.declared.reading.OpeningFound.TheVariants as opened

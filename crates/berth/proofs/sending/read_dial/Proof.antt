@@ -29,7 +29,7 @@ returns c =
     let a = (after-register at-register2).register.ensures.1 in
     let b = at-register2.register2.ensures.1 in
     let e = (start (after-register at-register2)).args in
-    let old = lent_reads e.readings e.read-versions e.widths in
+    let old = lent_reads e.readings.now e.read-versions.now e.widths.now in
     let then : Reads → Reads = λ r. register_after e.head r e.head.days 1 (e.total % 100_000_000) 0 in
     b ∙ ap then a
 

@@ -1,7 +1,7 @@
 -- `filling::play_line`: by what the line is.
 use mathlib.Core.Path.{refl, ap, ◌∙◌}
 use Rattle.book.specs.Answers.{answer_code}
-use Rattle.log.specs.Log.{item_in}
+use Rattle.text_log.specs.Log.{item_in}
 use Rattle.play.specs.Playing.{item_code, after_item}
 use Rattle.base.proofs.Known.{known}
 use Rattle.play.proofs.filling.play_line.Statement.{statement}

@@ -1,14 +1,14 @@
 -- `reading::find_opening`: no line so far is the opening, and none is wrong.
 use borrow.Author.Tests.{not-true, not-false}
-use Rattle.log.specs.declared.line.Entry.{Entry}
-use Rattle.log.specs.Log.{item_in}
+use Rattle.text_log.specs.declared.line.Entry.{Entry}
+use Rattle.text_log.specs.Log.{item_in}
 use borrow.Author.Rules.{rules}
 use Rattle.base.proofs.Known.{known}
 use mathlib.Core.Path.{sym, ap, ◌∙◌}
 use Prim.Native.Nat.{◌-◌}
 use native.Mathlib.Omega.{arith}
 use lib.ListN.{length}
-use Rattle.log.specs.Log.{table_of, item_of}
+use Rattle.text_log.specs.Log.{table_of, item_of}
 use Rattle.play.proofs.Stepping.{Leading, leading_first, leading-next, leading-ends, leading_none}
 use Rattle.play.proofs.reading.find_opening.Statement.{statement}
 use Rattle.play.proofs.reading.find_opening.Tie as tie

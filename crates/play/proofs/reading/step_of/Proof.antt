@@ -1,6 +1,6 @@
 -- `reading::step_of`: by cases.
 use mathlib.Core.Path.{◌∙◌}
-use Rattle.log.specs.Log.{item_in}
+use Rattle.text_log.specs.Log.{item_in}
 use Rattle.play.proofs.Stepping.{step_passed, step_opening, step_call, step_neither}
 use Rattle.base.proofs.Known.{known}
 use Rattle.play.proofs.reading.step_of.Statement.{statement}

@@ -1,5 +1,5 @@
 -- `reading::table_after`: by cases.
-use Rattle.log.specs.Log.{item_in}
+use Rattle.text_log.specs.Log.{item_in}
 use Rattle.play.specs.Inner.Steps.{table_after}
 use Rattle.base.proofs.Known.{known}
 use Rattle.play.proofs.reading.table_after.Statement.{statement}

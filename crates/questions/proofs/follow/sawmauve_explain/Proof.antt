@@ -30,16 +30,16 @@ passed3 c = c.before.before.before.before
 returns : tie.Need-returns
 returns c = let a = (start c.before.before).args in
     let h = head_of a.year a.month a.day a.days a.interval a.limit a.tolerance in
-    let b = lent_book a.values a.versions a.statuses a.holidays a.readings a.read-versions a.agreed a.agreed-versions
-    a.counts a.widths in
+    let b = lent_book a.values.now a.versions.now a.statuses.now a.holidays.now a.readings.now a.read-versions.now a.agreed.now a.agreed-versions.now
+    a.counts.now a.widths.now in
     refused_head h b a.slot a.fields.now c.before.before.explain.result
     (rw c.before.before.before.head_of.ensures at c.before.before.explain.ensures) c.if1.true
 
 returns-2 : tie.Need-returns-2
 returns-2 c = let a = (start (after-explain c)).args in
     let h = head_of a.year a.month a.day a.days a.interval a.limit a.tolerance in
-    let b = lent_book a.values a.versions a.statuses a.holidays a.readings a.read-versions a.agreed a.agreed-versions
-    a.counts a.widths in
+    let b = lent_book a.values.now a.versions.now a.statuses.now a.holidays.now a.readings.now a.read-versions.now a.agreed.now a.agreed-versions.now
+    a.counts.now a.widths.now in
     refused_fields h b a.slot a.fields.now c.before.before.before.explain.result
     (rw (after-explain c).before.head_of.ensures at c.before.before.before.explain.ensures) c.before.if1.false c.if2.true
 
@@ -48,8 +48,8 @@ returns-3 c =
     let at-explain = after-explain-passed2 c.before.before.before in
     let a = (start at-explain).args in
     let h = head_of a.year a.month a.day a.days a.interval a.limit a.tolerance in
-    let b = lent_book a.values a.versions a.statuses a.holidays a.readings a.read-versions a.agreed a.agreed-versions
-    a.counts a.widths in
+    let b = lent_book a.values.now a.versions.now a.statuses.now a.holidays.now a.readings.now a.read-versions.now a.agreed.now a.agreed-versions.now
+    a.counts.now a.widths.now in
     refused-rest h b a.slot a.fields.now at-explain.explain.result
     (simp at-explain.before.head_of.ensures at at-explain.explain.ensures) c.before.before.before.if2.false
     c.before.if3.true
@@ -63,8 +63,8 @@ returns-4 c =
     let at-explain = after-explain-passed2 past2 in
     let a = (start at-explain).args in
     let h = head_of a.year a.month a.day a.days a.interval a.limit a.tolerance in
-    let b = lent_book a.values a.versions a.statuses a.holidays a.readings a.read-versions a.agreed a.agreed-versions
-    a.counts a.widths in
+    let b = lent_book a.values.now a.versions.now a.statuses.now a.holidays.now a.readings.now a.read-versions.now a.agreed.now a.agreed-versions.now
+    a.counts.now a.widths.now in
     let x = explained h b a.slot a.fields.now at-explain.explain.result
     (simp at-explain.before.head_of.ensures at at-explain.explain.ensures) past2.if2.left (passed3 c.before).if3.false in
     (x.0, c.before.before.put.ensures ∙ c.before.before.before.fields-of.ensures ∙ x.1)

@@ -1,0 +1,55 @@
+-- Numbers and dates of a log.
+use Rattle.std.specs.Prelude.{Bool, true, not, cond, ◌&&◌, List, [], ◌∷◌, ℕ, ◌+◌, ◌-◌, ◌*◌, leb, eqb, length, get_or, take, drop}
+use Rattle.base.specs.Lists.{every}
+use Rattle.text_log.specs.declared.number.Number.{Number}
+use Rattle.text_log.specs.declared.number.Number.TheVariants as number
+use Rattle.text_log.specs.declared.number.Date.{Date}
+use Rattle.text_log.specs.declared.number.Date.TheVariants as date
+
+-- `0` to `9`
+abbrev pub is_digit : ℕ → Bool
+is_digit b = leb 48 b && leb b 57
+
+unfoldable pub are_digits : List ℕ → Bool
+are_digits [] = true
+are_digits (b ∷ bs) = is_digit b && are_digits bs
+
+-- the value of the digits, the highest first, after those with the value n
+unfoldable pub value_after : ℕ → List ℕ → ℕ
+value_after n [] = n
+value_after n (b ∷ bs) = value_after (10 * n + (b - 48)) bs
+
+abbrev pub value_of : List ℕ → ℕ
+value_of word = value_after 0 word
+
+-- one or more digits, whose value is at most 4,294,967,295; leading zeros are taken
+unfoldable pub is_number : List ℕ → Bool
+is_number word = every (not (eqb (length word) 0) ∷ are_digits word ∷ leb (value_of word) 4294967295 ∷ [])
+
+unfoldable pub number_of : List ℕ → Number
+number_of word = cond (is_number word) (number.Is (value_of word)) number.Not
+
+-- year, month and day of a date
+abbrev pub year_part : List ℕ → List ℕ
+year_part word = take 4 word
+
+abbrev pub month_part : List ℕ → List ℕ
+month_part word = take 2 (drop 5 word)
+
+abbrev pub day_part : List ℕ → List ℕ
+day_part word = take 2 (drop 8 word)
+
+-- four digits, `-`, two digits, `-`, two digits
+unfoldable pub is_date_word : List ℕ → Bool
+is_date_word word =
+    every
+    (eqb (length word) 10
+    ∷ eqb (get_or word 4 0) 45
+    ∷ eqb (get_or word 7 0) 45
+    ∷ is_number (year_part word)
+    ∷ is_number (month_part word)
+    ∷ is_number (day_part word)
+    ∷ [])
+
+unfoldable pub date_of_word : List ℕ → Date
+date_of_word word = cond (is_date_word word) (date.Is (value_of (year_part word)) (value_of (month_part word)) (value_of (day_part word))) date.Not
