@@ -22,7 +22,7 @@ returns-then-not-pairs_fit c =
     (sym c.pairs_fit.ensures ∙ c.if-not-pairs_fit.true)
 
 pub nonzero_div-n : goal.nonzero_div-n
-nonzero_div-n c = omega (arith, some_interval _ _ (entry-passed2 c.before).requires)
+nonzero_div-n c = omega (arith, some_interval _ _ c.requires)
 
 pub total_days-requires : goal.total_days-requires
 total_days-requires c =

@@ -1,6 +1,5 @@
 -- `writing::put_digits` meets its contract.
 use borrow.Author.Rules.{rules}
-use Rattle.base.proofs.Known.{known}
 use mathlib.Core.Path.{◌≡◌, refl, sym, ap, ◌∙◌}
 use Prim.Native.Nat.{◌+◌}
 use native.Mathlib.Omega.{arith}

@@ -1,6 +1,5 @@
 -- `writing::put_digits` meets its contract.
 use mathlib.Core.List.{List}
-use Rattle.base.proofs.Known.{known}
 use mathlib.Core.Path.{◌≡◌}
 use Prim.Native.Nat.{ℕ, ◌≤◌}
 use Rattle.line.specs.Line.{digits}

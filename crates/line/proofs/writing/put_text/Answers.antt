@@ -1,8 +1,6 @@
 -- `writing::put_text` meets its contract.
 use borrow.Author.Rules.{rules}
-use Rattle.base.proofs.Known.{known}
 use mathlib.Core.Path.{◌≡◌, ap, ◌∙◌}
-use Prim.Native.Nat.{◌-◌}
 use native.Mathlib.Omega.{arith}
 use lib.ListN.{length, take}
 use lib.Seq.{take-length}

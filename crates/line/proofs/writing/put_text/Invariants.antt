@@ -1,6 +1,5 @@
 -- `writing::put_text` meets its contract.
 use mathlib.Core.List.{List}
-use Rattle.base.proofs.Known.{known}
 use mathlib.Core.Path.{◌≡◌}
 use Prim.Native.Nat.{ℕ, ◌≤◌, ◌-◌}
 use lib.ListN.{length, take}

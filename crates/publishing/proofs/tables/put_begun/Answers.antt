@@ -28,9 +28,9 @@ pub returns-in-Nothing : goal.returns-in-Nothing
 unfolding table
 returns-in-Nothing c =
     let e = c.in-Nothing.is in (
-  omega (arith, ap (λ (x : Begins). length (list_of x)) e),
-  sym (ap (λ (x : Begins). written c.args.out.now
-      (c.args.at + 14 * c.args.count) (table (span_row true) (list_of x))) e
-      ∙ written_none c.args.out.now
-      (c.args.at + 14 * c.args.count)),
-)
+      omega (arith, ap (λ (x : Begins). length (list_of x)) e),
+      sym (ap (λ (x : Begins). written c.args.out.now
+          (c.args.at + 14 * c.args.count) (table (span_row true) (list_of x))) e
+          ∙ written_none c.args.out.now
+          (c.args.at + 14 * c.args.count)),
+    )

@@ -1,6 +1,5 @@
 -- `tables::put_direct`. Before each slot the records of the direct slots so far are written.
 use mathlib.Core.Bool.{true, false}
-use mathlib.Core.Logic.{⊎_elim}
 use mathlib.Core.Path.{◌≡◌, refl, sym, ◌∙◌}
 use Prim.Native.Nat.{ℕ, ◌+◌, ◌-◌, ◌*◌, ◌≤◌, ◌<◌}
 use native.Mathlib.Nat.{le_refl}
@@ -20,7 +19,7 @@ use Rattle.publishing.specs.Inner.Publishing.{direct_totals, Countable}
 use Rattle.publishing.proofs.Buffers.{written_none}
 use Rattle.publishing.proofs.Records.{ran_on, ran_end}
 use Rattle.publishing.proofs.tables.put_direct.Goals as goal
-use Rattle.publishing.proofs.tables.put_direct.Goals.{At-loop-at, In-loop-at}
+use Rattle.publishing.proofs.tables.put_direct.Goals.{At-loop-at, In-loop-at, then-is_good, else-is_good+else-agreed_versions-at-eq0}
 
 abbrev lent : At-loop-at → Slots
 lent c = let a = c.args in slots a.values.now a.versions.now a.statuses.now
@@ -137,23 +136,20 @@ loop-at-preserved c =
     let a = settled (goal.at.loop-at-preserved c).At-loop-at in
     let i = c.loop-at.at in
     let on = ran_on h s a _ _ _ _ _ _ _ i c.loop-at.invariant in
-    ⊎_elim
-    (λ w.
-    let is = sym c.is_good.ensures ∙ w.0.taken in
-    let zero = sym (zero_none s.versions s.statuses (slot_count h) i (good_delivered h s i is)) in
-    on w.2.result _ _ _ c.requires.room c.loop-at-test.true (direct_good h s a i is)
-    (w.2.ensures ∙ good-outcome h s a i is)
-    (w.9 ∙ zero) (w.10 ∙ w.7.ensures) (w.8 ∙ w.4.ensures))
-    (λ w.
-    let cause = sym c.is_good.ensures ∙ w.0.left in
-    let zero = rw c.requires.direct.fitted.versions at w.9.ensures in
-    on w.4.result _ _ _ c.requires.room c.loop-at-test.true (direct_agreed h s a i w.2.left)
-    (w.4.ensures ∙ agreed-outcome h s a i cause)
-    (w.12 ∙ zero) (w.13 ∙ w.10.ensures) (w.11 ∙ w.6.ensures))
-    c.if-is_good.branch
-
-pub shape_of-out : goal.shape_of-out
-shape_of-out c = c.loop-at.invariant.long
+    elim c.if-is_good.branch [
+      | then-is_good w ↦
+          let is = sym c.is_good.ensures ∙ w.if-is_good.true in
+          let zero = sym (zero_none s.versions s.statuses (slot_count h) i (good_delivered h s i is)) in
+          on w.delivered-good.result _ _ _ c.requires.room c.loop-at-test.true (direct_good h s a i is)
+          (w.delivered-good.ensures ∙ good-outcome h s a i is)
+          (w.outage-is ∙ zero) (w.totals-is ∙ w.add-totals.ensures) (w.out-is ∙ w.put_slot.ensures)
+      | else-is_good+else-agreed_versions-at-eq0 w ↦
+          let cause = sym c.is_good.ensures ∙ w.if-is_good.false in
+          let zero = rw c.requires.direct.fitted.versions at w.outage_zero-outage.ensures in
+          on w.by_agreement-settled.result _ _ _ c.requires.room c.loop-at-test.true (direct_agreed h s a i w.if-agreed_versions-at-eq0.false)
+          (w.by_agreement-settled.ensures ∙ agreed-outcome h s a i cause)
+          (w.outage-is ∙ zero) (w.totals-is ∙ w.add-totals-else-is_good.ensures) (w.out-is ∙ w.put_slot-else-is_good.ensures)
+    ]
 
 pub returns : goal.returns
 returns c =

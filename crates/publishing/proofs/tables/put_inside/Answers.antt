@@ -1,7 +1,7 @@
 -- `tables::put_inside`. Before each turn what is known and written is that of the slots so far, inside the stretch.
 use mathlib.Core.Bool.{false}
 use mathlib.Core.Path.{◌≡◌, refl, sym, ap, ◌∙◌}
-use Prim.Native.Nat.{◌+◌, ◌-◌, ◌*◌, ◌≤◌, ◌<◌}
+use Prim.Native.Nat.{◌+◌, ◌*◌, ◌≤◌, ◌<◌}
 use native.Mathlib.Nat.{le_refl}
 use native.Mathlib.Omega.{arith}
 use lib.ListN.{length}
@@ -148,13 +148,12 @@ line_unagreed-line-requires c =
     )
 
 pub unscaled-shaped-requires : goal.unscaled-shaped-requires
-unscaled-shaped-requires c =
-    (
-      c.requires.roomy.whole.lent,
-      below (goal.at.unscaled-shaped-requires c).In-loop-at,
-      line-drawn c.args.head (bounds (goal.at.unscaled-shaped-requires c).Start) (lent (goal.at.unscaled-shaped-requires c).Start).slots (lent (goal.at.unscaled-shaped-requires c).Start).agreed _ (below (goal.at.unscaled-shaped-requires c).In-loop-at) (cause (goal.at.unscaled-shaped-requires c).Else-at-put).0 (cause (goal.at.unscaled-shaped-requires c).Else-at-put).1 _
-          (zeroed (goal.at.unscaled-shaped-requires c).After-outage_zero-outage) _ c.line_unagreed-line.ensures,
-    )
+unscaled-shaped-requires c = (
+  c.requires.roomy.whole.lent,
+  below (goal.at.unscaled-shaped-requires c).In-loop-at,
+  line-drawn c.args.head (bounds (goal.at.unscaled-shaped-requires c).Start) (lent (goal.at.unscaled-shaped-requires c).Start).slots (lent (goal.at.unscaled-shaped-requires c).Start).agreed _ (below (goal.at.unscaled-shaped-requires c).In-loop-at) (cause (goal.at.unscaled-shaped-requires c).Else-at-put).0 (cause (goal.at.unscaled-shaped-requires c).Else-at-put).1 _
+      (zeroed (goal.at.unscaled-shaped-requires c).After-outage_zero-outage) _ c.line_unagreed-line.ensures,
+)
 
 pub fit-fitted-requires : goal.fit-fitted-requires
 fit-fitted-requires c =
@@ -167,7 +166,7 @@ overflow_mul-at c = omega (arith, below (goal.at.overflow_mul-at c).In-loop-at, 
 
 pub put_slot-requires : goal.put_slot-requires
 put_slot-requires c =
-    omega (arith, below (goal.at.put_slot-requires c).In-loop-at, room (goal.at.put_slot-requires c).Start, c.loop-at.invariant.long, c.put_direct-put.kept)
+    omega (arith, below (goal.at.put_slot-requires c).In-loop-at, room (goal.at.put_slot-requires c).Start, c.loop-at.invariant.long, c.put_direct-put.auto.out)
 
 pub add-totals-requires : goal.add-totals-requires
 add-totals-requires c =

@@ -55,7 +55,7 @@ pub put_inside-requires : goal.put_inside-requires
 unfolding progress_at pass_at
 put_inside-requires c =
     record {
-      roomy = record { whole = c.requires.roomy.whole; room = omega (arith, c.requires.roomy.room, c.put_begun-spans.kept) };
+      roomy = record { whole = c.requires.roomy.whole; room = omega (arith, c.requires.roomy.room, c.put_begun-spans.auto.out) };
       inside = c.requires.inside;
       walk = ap (λ (p : Progress). p.pass.walk) c.requires.known;
       stretch = c.enter-entered.ensures.1;
@@ -78,7 +78,7 @@ returns c =
           (found.spans ∙ c.put_begun-spans.ensures.0 ∙ spans_begun h (bounds (goal.at.returns c).Start) b i c.requires.inside _ (before (goal.at.returns c).Start) _ begins)
           found.totals;
       bytes = λ x n e.
-          found.bytes x (n ∙ sym c.put_begun-spans.kept.0)
+          found.bytes x (n ∙ sym c.put_begun-spans.auto.out)
           (bytes_begun h (bounds (goal.at.returns c).Start) b i c.requires.inside _ (before (goal.at.returns c).Start) _ begins x _ _ _ (omega (arith, room, n)) e c.requires.place
           c.put_begun-spans.ensures.1)
           ∙ whole_buffer h b _ _ found.begun x;

@@ -1,9 +1,8 @@
 -- `tables::put_tables`. Before slot i the buffer holds the records of the first i slots and of the spans begun.
 use mathlib.Core.Path.{◌≡◌, refl, sym, ap, ◌∙◌}
-use Prim.Native.Nat.{◌-◌, zero-le}
+use Prim.Native.Nat.{zero-le}
 use native.Mathlib.Omega.{arith}
 use borrow.Author.Rules.{rules}
-use Rattle.base.proofs.Known.{known}
 use Rattle.rules.specs.Opening.{Cells, slot_count}
 use Rattle.rules.specs.Lent.{slots, agreed_lists, cells}
 use Rattle.rules.specs.Spans.{outcomes}

@@ -1,6 +1,6 @@
 -- `days::add_day`: after k turns k totals have the day added.
 use mathlib.Core.Path.{ap₂}
-use Prim.Native.Nat.{◌-◌, ◌+◌, ◌<◌}
+use Prim.Native.Nat.{◌+◌, ◌<◌}
 use native.Mathlib.Omega.{arith}
 use borrow.Author.Rules.{rules}
 use lib.ListN.{length}

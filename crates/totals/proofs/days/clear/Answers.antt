@@ -1,6 +1,5 @@
 -- `days::clear`: after k turns k totals are 0.
 use mathlib.Core.Path.{refl}
-use Prim.Native.Nat.{◌-◌}
 use Rattle.totals.proofs.Replaced.{replaced_none, replaced_next, replaced_all}
 use Rattle.totals.proofs.days.clear.Goals as goal
 

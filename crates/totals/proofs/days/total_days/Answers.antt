@@ -1,10 +1,8 @@
 -- `days::total_days`: before day d the totals are those of the days before it.
 use mathlib.Core.Path.{◌≡◌, sym, ap, ◌∙◌}
-use Prim.Native.Nat.{◌-◌}
 use native.Mathlib.Nat.{mul-le-mul}
 use native.Mathlib.Omega.{arith}
 use borrow.Author.Rules.{rules}
-use Rattle.base.proofs.Known.{known}
 use lib.ListN.{length}
 use Rattle.file.specs.Contents.{Bytes}
 use Rattle.totals.proofs.Adding.{day_within, before_none, before_length, before_next, before_room}

@@ -2,7 +2,6 @@
 use mathlib.Core.List.{List}
 use mathlib.Core.Path.{◌≡◌}
 use Prim.Native.Nat.{ℕ, ◌-◌, ◌≤◌}
-use Rattle.base.proofs.Known.{known}
 use Rattle.totals.specs.Inner.Adding.{totals_before}
 use Rattle.totals.proofs.days.total_days.Given as goal
 

@@ -1,11 +1,8 @@
 -- `pairs::pairs_fit`: the test of all pairs is that of the pairs from k on.
 use mathlib.Core.Path.{sym, ◌∙◌}
-use Prim.Native.Nat.{◌-◌}
 use native.Mathlib.Nat.{sub-zero}
 use borrow.Author.Rules.{rules}
-use Rattle.base.proofs.Known.{known}
 use Rattle.base.proofs.Sums.{all_more, all_fails, all_done}
-use Rattle.totals.specs.Stays.{pair_ok}
 use Rattle.totals.proofs.pairs.pairs_fit.Goals as goal
 
 pub loop-k-init : goal.loop-k-init

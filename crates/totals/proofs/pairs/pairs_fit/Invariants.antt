@@ -2,7 +2,6 @@
 use mathlib.Core.List.{List}
 use mathlib.Core.Path.{◌≡◌}
 use Prim.Native.Nat.{ℕ, ◌≤◌, ◌-◌}
-use Rattle.base.proofs.Known.{known}
 use Rattle.base.specs.Lists.{all}
 use Rattle.totals.specs.Stays.{pair_count, first_of, end_of, pair_ok, pairs_ok}
 use Rattle.totals.proofs.pairs.pairs_fit.Given as goal
