@@ -73,7 +73,7 @@ def main():
     # what is bound inside a declaration, in specs/ and proofs/
     for text in texts.values():
         code = re.sub(r"--.*", "", text)
-        names.update(n for n in TOKEN.findall(code) if n not in foreign and BOUND.fullmatch(n))
+        names.update(n for n in TOKEN.findall(code) if n not in foreign and n not in UNITS and BOUND.fullmatch(n))
     stated = set().union(*(n for p, n in shared.items() if "/specs/" in p))
     every = set().union(*own.values())
     new = {}

@@ -18,7 +18,7 @@ use Rattle.rules.specs.declared.tests.Cause.{Cause}
 use Rattle.rules.specs.Opening.{Slots, Agreed, Cells, slots_per_day}
 use Rattle.rules.specs.Tests.{cause_at, good_at}
 use Rattle.rules.specs.Filling.{is_outage_zero, is_agreed, in_run, is_linear, references, from_references, filled_at, shape_at}
-use Rattle.rules.specs.Spans.{is_s, last_read, next_read, filled, shape, start, slots_in, state_of, all_zero, E, P, C, outcome_at}
+use Rattle.rules.specs.Spans.{is_s, last_read, next_read, start, slots_in, state_of, all_zero, E, P, C, outcome_at}
 use Rattle.rules.specs.Inner.Lent.{WidthsLow}
 use Rattle.rules.specs.Inner.Walks.{line_at, line_through, walk_at}
 use Rattle.rules.specs.Inner.Summaries.{scaled_by}

@@ -13,7 +13,7 @@ use Rattle.base.proofs.Logic.{either, passed, and_parts}
 use Rattle.file.specs.declared.Figures.{Figures}
 use Rattle.file.specs.declared.Verdict.{Verdict}
 use Rattle.file.specs.declared.Verdict.TheVariants as verdict
-use Rattle.file.specs.Reader.{figures, read_file}
+use Rattle.file.specs.Reader.{read_file}
 use Rattle.market.specs.declared.Codes.{Codes}
 use Rattle.market.specs.declared.Exported.TheVariants.{Length, Refused}
 use Rattle.market.specs.declared.checks.Class.TheVariants.{Plain, Digit}

@@ -15,7 +15,7 @@ use Rattle.file.specs.declared.Figures.{Figures}
 use Rattle.file.specs.declared.Verdict.TheVariants as verdict
 use Rattle.file.specs.declared.slots.SlotRecord.{SlotRecord}
 use Rattle.file.specs.Contents.{Bytes}
-use Rattle.file.specs.Reader.{slot_at, figures, head_field_tests, record_ok, table_tests, tables_at, tables_ok, read_file}
+use Rattle.file.specs.Reader.{slot_at, head_field_tests, record_ok, table_tests, tables_at, tables_ok, read_file}
 use Rattle.file.proofs.Answers.{ready, tests_passed}
 use Rattle.file.proofs.Head.{interval_is}
 use Rattle.file.proofs.Offsets.{value_lt}

@@ -64,7 +64,7 @@ joined f a (suc k) = joined f a k ++ f (a + k)
 
 -- ---- Numbers
 
--- a value in k_wh with three decimals; no leading zero but that of 0.100
+-- a value in kWh with three decimals; no leading zero but that of 0.100
 unfoldable pub kwh : ℕ → List ℕ
 kwh v = decimal (v / 1000) ++ (ascii "." ++ digits 3 v)
 

@@ -9,11 +9,11 @@ use Rattle.market.specs.Fields.{field, fields, joined, kwh, date_field, marked, 
 unfoldable pub record100 : List ℕ → List ℕ → List ℕ → List ℕ
 record100 created from to = ascii "100" ++ fields (ascii "NEM12" ∷ take 12 created ∷ from ∷ to ∷ [])
 
--- 200, NMI, NMIConfiguration, RegisterID, NMISuffix, MDMDataStreamIdentifier, MeterSerialNumber, k_wh, L, NextScheduledReadDate
+-- 200, NMI, NMIConfiguration, RegisterID, NMISuffix, MDMDataStreamIdentifier, MeterSerialNumber, kWh, L, NextScheduledReadDate
 unfoldable pub record200 : List ℕ → List ℕ → List ℕ → List ℕ → List ℕ → List ℕ → ℕ → List ℕ → List ℕ
 record200 identifier configuration register suffix stream serial interval next_read =
     ascii "200"
-    ++ fields (identifier ∷ configuration ∷ register ∷ suffix ∷ stream ∷ serial ∷ ascii "k_wh" ∷ decimal interval ∷ next_read ∷ [])
+    ++ fields (identifier ∷ configuration ∷ register ∷ suffix ∷ stream ∷ serial ∷ ascii "kWh" ∷ decimal interval ∷ next_read ∷ [])
 
 -- 300, the date, the values of the n slots from slot a, quality and reason, the creation time whole, an empty field
 unfoldable pub record300 : List ℕ → List ℕ → ℕ → (ℕ → ℕ) → ℕ → ℕ → Mark → List ℕ
