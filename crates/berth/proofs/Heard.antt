@@ -2,7 +2,7 @@
 use mathlib.Core.Bool.{Bool, true, false, cond}
 use mathlib.Core.List.{List, [], ◌∷◌, ◌++◌}
 use mathlib.Core.Logic.{⊎_elim}
-use mathlib.Core.Path.{◌≡◌, refl, ◌∙◌}
+use mathlib.Core.Path.{◌≡◌, refl, sym, ◌∙◌}
 use Prim.Native.Nat.{ℕ, zero, suc, ◌%◌, ◌≤◌, ◌<◌}
 use native.Mathlib.Nat.{eq-or-lt_of_le}
 use native.Mathlib.Omega.{arith}
@@ -65,7 +65,7 @@ module _ (h : Head) (seed loss : ℕ) where
   unfolding deliveries kept_reads agreements named
   heard_sent n kept k t = record {
     before = λ i lt.
-        ⊎_elim (λ (e : i ≡ n). rw (e, eq-eqb n n refl, k.after n (omega arith), t))
+        ⊎_elim (λ (e : i ≡ n). rw (eq-eqb n i (sym e), k.after i (omega arith), e, t))
         (λ l. rw (ne_eqb n i (λ e. omega arith)) (k.before i (omega arith)))
         (eq-or-lt_of_le (omega arith));
     after = λ i le. rw (ne_eqb n i (λ e. omega arith)) (k.after i (omega arith));

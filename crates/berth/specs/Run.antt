@@ -1,5 +1,5 @@
 -- A run from a seed: its calls, what it reports, and what it leaves (02, W12).
-use Rattle.std.specs.Prelude.{Bool, cond, not, List, [], ◌∷◌, ◌++◌, ℕ, zero, suc, ◌+◌, ◌%◌, ltb, eqb, pos, ◌-ℤ◌, length, drop}
+use Rattle.std.specs.Prelude.{Bool, cond, not, List, [], ◌∷◌, ◌++◌, ℕ, zero, suc, ◌%◌, ltb, eqb, pos, ◌-ℤ◌, length, drop}
 use Rattle.base.specs.Lists.{sum}
 use Rattle.base.specs.Refusals.{Rule, unless}
 use Rattle.base.specs.Refusals.Rule.{rule}

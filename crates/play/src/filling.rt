@@ -12,9 +12,9 @@ ghost use Rattle.play.specs.Inner.Filling.{is_done};
 
 use base::Performed;
 use book::{Received, calls};
+use rules::Head;
 use text_log::line::LogLine;
 use text_log::lines;
-use rules::Head;
 
 pub fn is_done(opened: Performed) -> bool
     ensures { result ≡ is_done (opened_meant opened) }

@@ -8,11 +8,11 @@ ghost use Rattle.play.specs.Inner.Steps.{head_step, opening_step, step_of, goes_
 ghost use Rattle.play.specs.Inner.Steps.{is_outside, calls_at, TestedAt, Reached};
 
 use crate::Checked;
+use rules::limits::Loaded;
+use rules::{Head, limits as demand, opening};
 use text_log::limits::Limits;
 use text_log::line::{Entry, LogLine, Opening};
 use text_log::{deliveries, limits, line, lines};
-use rules::limits::Loaded;
-use rules::{Head, limits as demand, opening};
 
 // What a line before the opening comes to.
 #[derive(Clone, Copy)]

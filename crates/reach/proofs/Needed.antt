@@ -1,6 +1,6 @@
 -- No clause of how far one late figure reaches can be left out.
 use mathlib.Core.List.{List, [], ◌∷◌, ◌++◌}
-use mathlib.Core.Logic.{◌⊎◌, inl, ⊎_elim}
+use mathlib.Core.Logic.{inl, ⊎_elim}
 use mathlib.Core.Path.{◌≡◌, refl, ap, ◌∙◌}
 use Prim.Native.Nat.{ℕ, ◌+◌, ◌*◌, ◌≤◌}
 use native.Mathlib.Omega.{arith}
@@ -19,7 +19,7 @@ use Rattle.reach.specs.Needed.{Late, Moves, OnlyLater, Needed}
 use Rattle.reach.proofs.Sparse.{Sparse, left_good, spanless}
 use Rattle.reach.proofs.Farthest.{year, more, weeks_kept, feast_kept, again, sparse_again, weeks_before, feast_before, weeks_method}
 use Rattle.reach.proofs.Farthest.{feast_method}
-use Rattle.reach.proofs.Outside.{cut, apart, no_span_lem}
+use Rattle.reach.proofs.Outside.{cut, no_span_lem}
 use Rattle.reach.proofs.Answered.{answer_plain}
 use Rattle.reach.proofs.OneDay.{first_needed, second_needed, fourth_needed}
 
