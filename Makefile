@@ -4,7 +4,7 @@ DESTDIR =
 VERSION = 0.3.0
 CARGO = cd sawmauve && CARGO_TARGET_DIR=../build/cargo SAWMAUVE_LIB=../build SAWMAUVE_KIT="$$(rt version)" cargo
 CROSSCHECK = $(subst cd sawmauve,cd crosscheck,$(CARGO))
-CRATES := $(shell find crates -path '*/must-fail' -prune -o -type f -print) crates.txt
+CRATES := $(shell find crates \( -name out -o -name 'must-fail*' \) -prune -o -type f -print) crates.txt
 RUST := $(shell find sawmauve/src -type f) sawmauve/Cargo.toml sawmauve/Cargo.lock sawmauve/build.rs
 PLACE = $(DESTDIR)$(PREFIX)
 DIST = sawmauve-$(VERSION)-x86_64-linux

@@ -22,8 +22,8 @@ seed=${1:-1}
 for verb in dials strips stays limits nem12 simulate reach explain logs reconcile; do
     "$crosscheck" "$verb" --seed "$seed"
 done
-rt check show > /dev/null
-"$crosscheck" dates target/bin/show
+(cd crates/show && rt run < /dev/null > /dev/null 2>&1)
+"$crosscheck" dates crates/show/out/show
 # the sample month's export, read back by a reader that knows nothing of the writer
 work=$(mktemp -d)
 trap 'rm -rf "$work"' EXIT

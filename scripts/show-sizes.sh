@@ -2,14 +2,14 @@
 # Builds the program `show` and compares its line on inputs of several sizes and deliveries. Exits 1 on a difference.
 set -u
 cd "$(dirname "$0")/.."
-rt check show > /dev/null || { echo "show is not proved"; exit 1; }
+(cd crates/show && rt run < /dev/null > /dev/null 2>&1) || { echo "show is not proved"; exit 1; }
 work=$(mktemp -d) || exit 2
 trap 'rm -rf "$work"' EXIT
 bad=0
 
 # expect LINE NAME < input: the program writes LINE and nothing else. It may run in a subshell, so it answers by its status.
 expect() {
-    target/bin/show > "$work/out" 2> "$work/err"
+    crates/show/out/show > "$work/out" 2> "$work/err"
     printf '%s\n' "$1" > "$work/want"
     if cmp -s "$work/want" "$work/out" && [ ! -s "$work/err" ]; then
         echo "ok: $2"
@@ -48,7 +48,7 @@ slowly | expect "$line" 'the whole case through a slow pipe' || bad=1
 { printf '\144\000\000\000B\000'; tail -c +7 "$work/whole"; } | expect 'refused 9' 'a wrong letter' || bad=1
 
 # a read that fails: nothing on standard output, the reason on standard error
-target/bin/show < / > "$work/out" 2> "$work/err"
+crates/show/out/show < / > "$work/out" 2> "$work/err"
 if [ ! -s "$work/out" ] && grep -q '^standard input: ' "$work/err"; then
     echo 'ok: a read that fails'
 else

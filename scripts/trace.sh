@@ -1,5 +1,5 @@
 #!/bin/sh
-# Looks up every name of docs/TRACE.md in the file that it stands for, and refuses a row that is shown by wrong builds of must-fail/more alone,
+# Looks up every name of docs/TRACE.md in the file that it stands for, and refuses a row that is shown by wrong builds of must-fail-more alone,
 # which the gate does not try; and holds the layers of CONTRIBUTING.md against crates.txt. Prints what is wrong, and exits 1 if anything is.
 set -u
 cd "$(dirname "$0")/.."
@@ -41,7 +41,7 @@ while read -r name; do
         *.specs.*|*.proofs.*) stated "$name" ;;
         *::*) coded "$name" ;;
         scripts/*|examples/*|sawmauve/*) [ -f "$name" ] ;;
-        */*) ls "crates/${name%/*}/must-fail/${name#*/}.edit" "crates/${name%/*}/must-fail/more/${name#*/}.edit" 2> /dev/null | grep -q . ;;
+        */*) ls "crates/${name%/*}/must-fail/${name#*/}.edit" "crates/${name%/*}/must-fail-more/${name#*/}.edit" 2> /dev/null | grep -q . ;;
         *) true ;;
     esac || { echo "docs/TRACE.md: $name is not there"; missing=1; }
 done < "$names"
@@ -59,9 +59,10 @@ done < "$names"
 awk '
     function wrong(what) { print "CONTRIBUTING.md: " what; bad = 1 }
     FNR == NR {
-        sub(/:/, "")
-        for (i = 2; i <= NF; i++) if ($i !~ /^(base|io|libc|os)$/) uses[$1] = uses[$1] " " $i
-        crates[$1]
+        name = $1
+        sub(/:.*/, "", name)
+        sub(/.*:/, "")
+        listed[name] = $0
         next
     }
     /^\| `[a-z_]+` \|/ {
@@ -74,13 +75,16 @@ awk '
             line = line " " used[i]
             if (!(used[i] in above)) wrong(name " uses " used[i] ", which is not above it")
         }
-        if (line != uses[name]) wrong(name " uses" uses[name] " in crates.txt, and here" line)
+        n = split(listed[name], used, " ")
+        uses = ""
+        for (i = 1; i <= n; i++) if (used[i] != "base" && used[i] in listed) uses = uses " " used[i]
+        if (line != uses) wrong(name " uses" uses " in crates.txt, and here" line)
         above[name]
         rows++
     }
     END {
-        for (name in crates) if (!(name in above)) wrong(name " has no row")
-        for (name in above) if (!(name in crates)) wrong(name " is no crate")
+        for (name in listed) if (!(name in above)) wrong(name " has no row")
+        for (name in above) if (!(name in listed)) wrong(name " is no crate")
         if (!bad) print "CONTRIBUTING.md: the layers of all " rows " crates are those of crates.txt"
         exit bad
     }' crates.txt CONTRIBUTING.md || missing=1

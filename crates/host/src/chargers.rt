@@ -7,8 +7,7 @@ ghost use Rattle.host.specs.Conversions.{unpack_code};
 use dial::Unpacked;
 
 // 0, or the refusal's number.
-#[unsafe(no_mangle)]
-pub extern "C" fn sawmauve_pack(reading: u32, bytes: &mut [u8]) -> u32
+pub fn sawmauve_pack(reading: u32, bytes: &mut [u8]) -> u32
     ensures { (result ≡ code_of (pack_answer reading bytes.old))
         × (bytes.new ≡ pack_after reading bytes.old) }
 {
@@ -16,8 +15,7 @@ pub extern "C" fn sawmauve_pack(reading: u32, bytes: &mut [u8]) -> u32
 }
 
 // The reading, or 100,000,000 plus the refusal's number.
-#[unsafe(no_mangle)]
-pub extern "C" fn sawmauve_unpack(bytes: &[u8]) -> u32
+pub fn sawmauve_unpack(bytes: &[u8]) -> u32
     ensures { result ≡ unpack_code (unpack_answer bytes.now) }
 {
     let unpacked = dial::unpack(bytes);

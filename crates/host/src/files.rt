@@ -19,8 +19,7 @@ fn published_code(published: Published) -> u64
     }
 }
 
-#[unsafe(no_mangle)]
-pub extern "C" fn sawmauve_publish(
+pub fn sawmauve_publish(
     year: u32,
     month: u32,
     day: u32,
@@ -73,16 +72,14 @@ fn read_code(verdict: Verdict) -> u32
 }
 
 // 0 for a file that the reader accepts, or the refusal's number (02, W9).
-#[unsafe(no_mangle)]
-pub extern "C" fn sawmauve_check(bytes: &[u8]) -> u32
+pub fn sawmauve_check(bytes: &[u8]) -> u32
     ensures { result ≡ read_code (read_file bytes.now) }
 {
     read_code(file::read(bytes))
 }
 
 // 0 and the nine figures, or the refusal's number; 2 for a list of figures that is not 9 long.
-#[unsafe(no_mangle)]
-pub extern "C" fn sawmauve_read(bytes: &[u8], figures: &mut [u64]) -> u32
+pub fn sawmauve_read(bytes: &[u8], figures: &mut [u64]) -> u32
     ensures { (result ≡ read_answer bytes.now figures.old)
         × (figures.new ≡ read_after bytes.now figures.old) }
 {
@@ -108,8 +105,7 @@ pub extern "C" fn sawmauve_read(bytes: &[u8], figures: &mut [u64]) -> u32
 }
 
 // The length of the tables' part of a file, 0 for a refused one.
-#[unsafe(no_mangle)]
-pub extern "C" fn sawmauve_tables(bytes: &[u8]) -> u64
+pub fn sawmauve_tables(bytes: &[u8]) -> u64
     ensures { result ≡ length (tables_part bytes.now) }
 {
     file::tables(bytes).len() as u64

@@ -1,12 +1,12 @@
-// The public calls for hosts in C and Rust: numbers, word lists and byte lists, each list a pointer and a length.
+// The calls of a book and of a file for hosts in C and Rust, which `sawmauve` exports: numbers, word lists and byte lists.
 #![tactic(auto)]
 
-mod chargers;
-mod files;
-mod limits;
-mod nem12;
-mod stays;
-mod storage;
+pub mod chargers;
+pub mod files;
+pub mod limits;
+pub mod nem12;
+pub mod stays;
+pub mod storage;
 
 ghost use Rattle.std.specs.Prelude.{◌≡◌};
 ghost use Rattle.rules.specs.Lent.{lent_slots, lent_agreed};
@@ -54,8 +54,7 @@ fn filed_code(filed: Received) -> u32
     }
 }
 
-#[unsafe(no_mangle)]
-pub extern "C" fn sawmauve_open(
+pub fn sawmauve_open(
     year: u32,
     month: u32,
     day: u32,
@@ -98,8 +97,7 @@ pub extern "C" fn sawmauve_open(
     ))
 }
 
-#[unsafe(no_mangle)]
-pub extern "C" fn sawmauve_deliver(
+pub fn sawmauve_deliver(
     year: u32,
     month: u32,
     day: u32,
@@ -129,8 +127,7 @@ pub extern "C" fn sawmauve_deliver(
     ))
 }
 
-#[unsafe(no_mangle)]
-pub extern "C" fn sawmauve_agree(
+pub fn sawmauve_agree(
     year: u32,
     month: u32,
     day: u32,
@@ -154,8 +151,7 @@ pub extern "C" fn sawmauve_agree(
     filed_code(book::agree(head, agreed, agreed_versions, slot, version, value))
 }
 
-#[unsafe(no_mangle)]
-pub extern "C" fn sawmauve_holiday(
+pub fn sawmauve_holiday(
     year: u32,
     month: u32,
     day: u32,
@@ -174,8 +170,7 @@ pub extern "C" fn sawmauve_holiday(
     filed_code(book::holiday(head, holidays, at))
 }
 
-#[unsafe(no_mangle)]
-pub extern "C" fn sawmauve_register(
+pub fn sawmauve_register(
     year: u32,
     month: u32,
     day: u32,

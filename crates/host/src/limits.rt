@@ -7,8 +7,7 @@ use rules::limits;
 use rules::limits::Loaded;
 
 // The limit, or 100,000,000 plus the refusal's number.
-#[unsafe(no_mangle)]
-pub extern "C" fn sawmauve_limit(table: &[u32], kind: u32) -> u32
+pub fn sawmauve_limit(table: &[u32], kind: u32) -> u32
     ensures { result ≡ limit_code (load_answer table.now kind) }
 {
     let loaded = limits::load(table, kind);

@@ -28,8 +28,7 @@ fn codes_of(two: u32, three: u32, five: u32, eighteen: u32, nineteen: u32) -> Co
     }
 }
 
-#[unsafe(no_mangle)]
-pub extern "C" fn sawmauve_nem12(
+pub fn sawmauve_nem12(
     file: &[u8],
     identifier: &[u8],
     from: &[u8],

@@ -131,8 +131,7 @@ fn put(fields: &mut [u64], from: [u64; 34])
 }
 
 // 0 and the 34 fields, or the refusal's number; 2 also for a list of fields that is not 34 long.
-#[unsafe(no_mangle)]
-pub extern "C" fn sawmauve_explain(
+pub fn sawmauve_explain(
     year: u32,
     month: u32,
     day: u32,

@@ -1,9 +1,9 @@
-// An office's questions for hosts in C and Rust: logs, a run of a berth on paper, the way of one slot, dates and lines. They stand
-// apart from `host`, so that what they call is still inlined there.
+// An office's questions for hosts in C and Rust, which `sawmauve` exports: logs, a run of a berth on paper, the way of one slot, dates
+// and lines.
 #![tactic(auto)]
 
-mod follow;
-mod lines;
-mod logs;
-mod names;
-mod simulating;
+pub mod follow;
+pub mod lines;
+pub mod logs;
+pub mod names;
+pub mod simulating;

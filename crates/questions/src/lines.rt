@@ -14,8 +14,7 @@ fn lined_code(lined: LineWritten) -> u64
     }
 }
 
-#[unsafe(no_mangle)]
-pub extern "C" fn sawmauve_line(file: &[u8], out: &mut [u8]) -> u64
+pub fn sawmauve_line(file: &[u8], out: &mut [u8]) -> u64
     ensures { (result ≡ lined_code (line_answer file.now out.old))
         × (out.new ≡ line_after file.now out.old) }
 {

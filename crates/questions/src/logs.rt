@@ -6,8 +6,8 @@ ghost use Rattle.questions.specs.Logs.{check_code, check_line, log_figures, log_
 ghost use Rattle.questions.specs.Logs.{call_code, call_fields, line_code, line_fields, one_code, one_fields};
 
 use book::calls::Call;
-use text_log::line::LogLine;
 use play::{Checked, Played};
+use text_log::line::LogLine;
 
 // The nine figures of a log, and 0; else the number of what it is.
 fn tell_log(found: Checked, figures: &mut [u64]) -> u32
@@ -33,8 +33,7 @@ fn tell_log(found: Checked, figures: &mut [u64]) -> u32
     }
 }
 
-#[unsafe(no_mangle)]
-pub extern "C" fn sawmauve_log(log: &[u8], figures: &mut [u64]) -> u32
+pub fn sawmauve_log(log: &[u8], figures: &mut [u64]) -> u32
     ensures { (result ≡ log_code log.now figures.old)
         × (figures.new ≡ log_after log.now figures.old) }
 {
@@ -56,8 +55,7 @@ fn line_number(found: Checked) -> u64
     }
 }
 
-#[unsafe(no_mangle)]
-pub extern "C" fn sawmauve_log_line(log: &[u8]) -> u64
+pub fn sawmauve_log_line(log: &[u8]) -> u64
     ensures { result ≡ check_line (checked log.now) }
 {
     line_number(play::check(log))
@@ -83,8 +81,7 @@ fn played_code(played: Played) -> u32
     }
 }
 
-#[unsafe(no_mangle)]
-pub extern "C" fn sawmauve_play(
+pub fn sawmauve_play(
     log: &[u8],
     values: &mut [u32],
     versions: &mut [u32],
@@ -207,8 +204,7 @@ fn tell_line(line: LogLine, fields: &mut [u32]) -> u32
     }
 }
 
-#[unsafe(no_mangle)]
-pub extern "C" fn sawmauve_call(line: &[u8], fields: &mut [u32]) -> u32
+pub fn sawmauve_call(line: &[u8], fields: &mut [u32]) -> u32
     ensures { (result ≡ one_code line.now fields.old)
         × (fields.new ≡ one_fields line.now fields.old) }
 {

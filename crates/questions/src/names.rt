@@ -17,8 +17,7 @@ fn named_code(named: Named) -> u32
     }
 }
 
-#[unsafe(no_mangle)]
-pub extern "C" fn sawmauve_slot(
+pub fn sawmauve_slot(
     year: u32,
     month: u32,
     day: u32,
@@ -48,8 +47,7 @@ pub extern "C" fn sawmauve_slot(
     named_code(naming::slot_at(head, moment))
 }
 
-#[unsafe(no_mangle)]
-pub extern "C" fn sawmauve_date(day: u32) -> u32
+pub fn sawmauve_date(day: u32) -> u32
     ensures { result ≡ date_code day }
 {
     if 36524 < day {

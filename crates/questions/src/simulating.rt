@@ -24,8 +24,7 @@ fn tell(simulated: Simulated, report: &mut [i64]) -> u32
     }
 }
 
-#[unsafe(no_mangle)]
-pub extern "C" fn sawmauve_simulate(
+pub fn sawmauve_simulate(
     year: u32,
     month: u32,
     day: u32,

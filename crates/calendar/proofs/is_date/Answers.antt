@@ -14,11 +14,10 @@ before_last : (c : Else-day-lt1)
     → let a = c.args in is_date a.year a.month a.day ≡ leb a.day (month_length a.year a.month)
 unfolding is_date
 before_last c =
-    let past3 = c.before.before in
     simp (
       le-leb _ _ c.if-year-lt2000.false,
-      le-leb _ _ past3.if-year-gt2099.false,
-      le-leb _ _ past3.if-month-lt1.false,
+      le-leb _ _ c.if-year-gt2099.false,
+      le-leb _ _ c.if-month-lt1.false,
       le-leb _ _ c.if-month-gt12.false,
       le-leb _ _ c.if-day-lt1.false,
     )
@@ -38,22 +37,20 @@ returns-then-month-lt1 c = simp (le-leb _ _ c.if-year-lt2000.false, le-leb _ _ c
 pub returns-then-month-gt12 : goal.returns-then-month-gt12
 unfolding is_date
 returns-then-month-gt12 c =
-    let b = c.before in
     simp (
-      le-leb _ _ b.if-year-lt2000.false,
-      le-leb _ _ b.if-year-gt2099.false,
-      le-leb _ _ b.if-month-lt1.false,
+      le-leb _ _ c.if-year-lt2000.false,
+      le-leb _ _ c.if-year-gt2099.false,
+      le-leb _ _ c.if-month-lt1.false,
       lt-leb _ _ c.if-month-gt12.true,
     )
 
 pub returns-then-day-lt1 : goal.returns-then-day-lt1
 unfolding is_date
 returns-then-day-lt1 c =
-    let b = c.before.before in
     simp (
       le-leb _ _ c.if-year-lt2000.false,
-      le-leb _ _ b.if-year-gt2099.false,
-      le-leb _ _ b.if-month-lt1.false,
+      le-leb _ _ c.if-year-gt2099.false,
+      le-leb _ _ c.if-month-lt1.false,
       le-leb _ _ c.if-month-gt12.false,
       lt-leb _ _ c.if-day-lt1.true,
     )

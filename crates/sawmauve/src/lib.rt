@@ -1,0 +1,203 @@
+// libsawmauve.a: the calls of `host` and `questions` as hosts in C and Rust call them, each list a pointer and a length. Each promises
+// what the function that it calls promises.
+#![tactic(auto)]
+
+mod chargers;
+mod files;
+mod follow;
+mod limits;
+mod lines;
+mod logs;
+mod names;
+mod nem12;
+mod simulating;
+mod stays;
+mod storage;
+
+ghost use Rattle.std.specs.Prelude.{◌≡◌};
+ghost use Rattle.rules.specs.Lent.{lent_slots, lent_agreed};
+ghost use Rattle.book.specs.Answers.{answer_code};
+ghost use Rattle.book.specs.Opening.{open_answer, open_after};
+ghost use Rattle.book.specs.Filling.{deliver_answer, deliver_after, counts_after, agree_answer, agree_after};
+ghost use Rattle.book.specs.Filling.{holiday_answer, holiday_after, register_answer, register_after};
+ghost use Rattle.book.specs.Lent.{lent_reads, lent_book};
+ghost use Rattle.host.specs.Codes.{head_of};
+
+#[unsafe(no_mangle)]
+pub extern "C" fn sawmauve_open(
+    year: u32,
+    month: u32,
+    day: u32,
+    days: u32,
+    interval: u32,
+    limit: u32,
+    tolerance: u32,
+    values: &mut [u32],
+    versions: &mut [u32],
+    statuses: &mut [u8],
+    holidays: &mut [u8],
+    readings: &mut [u32],
+    read_versions: &mut [u32],
+    agreed: &mut [u32],
+    agreed_versions: &mut [u32],
+    counts: &mut [u16],
+    widths: &mut [u16],
+) -> u32
+    ensures { let head = head_of year month day days interval limit tolerance in
+        let book = lent_book values.old versions.old statuses.old holidays.old readings.old read_versions.old
+        agreed.old agreed_versions.old counts.old widths.old in
+        (result ≡ answer_code (open_answer head book))
+        × (lent_book values.new versions.new statuses.new holidays.new readings.new read_versions.new
+        agreed.new agreed_versions.new counts.new widths.new
+        ≡ open_after head book) }
+{
+    host::sawmauve_open(
+        year,
+        month,
+        day,
+        days,
+        interval,
+        limit,
+        tolerance,
+        values,
+        versions,
+        statuses,
+        holidays,
+        readings,
+        read_versions,
+        agreed,
+        agreed_versions,
+        counts,
+        widths,
+    )
+}
+
+#[unsafe(no_mangle)]
+pub extern "C" fn sawmauve_deliver(
+    year: u32,
+    month: u32,
+    day: u32,
+    days: u32,
+    interval: u32,
+    limit: u32,
+    tolerance: u32,
+    values: &mut [u32],
+    versions: &mut [u32],
+    statuses: &mut [u8],
+    counts: &mut [u16],
+    slot: u32,
+    version: u32,
+    value: u32,
+    status: u32,
+) -> u32
+    ensures { let head = head_of year month day days interval limit tolerance in
+        let slots = lent_slots values.old versions.old statuses.old in
+        (result ≡ answer_code (deliver_answer head slots counts.old slot version value status))
+        × (lent_slots values.new versions.new statuses.new
+        ≡ deliver_after head slots counts.old slot version value status)
+        × (counts.new ≡ counts_after head slots counts.old slot version value status) }
+{
+    host::sawmauve_deliver(
+        year, month, day, days, interval, limit, tolerance, values, versions, statuses, counts,
+        slot, version, value, status,
+    )
+}
+
+#[unsafe(no_mangle)]
+pub extern "C" fn sawmauve_agree(
+    year: u32,
+    month: u32,
+    day: u32,
+    days: u32,
+    interval: u32,
+    limit: u32,
+    tolerance: u32,
+    agreed: &mut [u32],
+    agreed_versions: &mut [u32],
+    slot: u32,
+    version: u32,
+    value: u32,
+) -> u32
+    ensures { let head = head_of year month day days interval limit tolerance in
+        let lent = lent_agreed agreed.old agreed_versions.old in
+        (result ≡ answer_code (agree_answer head lent slot version value))
+        × (lent_agreed agreed.new agreed_versions.new
+        ≡ agree_after head lent slot version value) }
+{
+    host::sawmauve_agree(
+        year,
+        month,
+        day,
+        days,
+        interval,
+        limit,
+        tolerance,
+        agreed,
+        agreed_versions,
+        slot,
+        version,
+        value,
+    )
+}
+
+#[unsafe(no_mangle)]
+pub extern "C" fn sawmauve_holiday(
+    year: u32,
+    month: u32,
+    day: u32,
+    days: u32,
+    interval: u32,
+    limit: u32,
+    tolerance: u32,
+    holidays: &mut [u8],
+    at: u32,
+) -> u32
+    ensures { let head = head_of year month day days interval limit tolerance in
+        (result ≡ answer_code (holiday_answer head holidays.old at))
+        × (holidays.new ≡ holiday_after head holidays.old at) }
+{
+    host::sawmauve_holiday(
+        year, month, day, days, interval, limit, tolerance, holidays, at,
+    )
+}
+
+#[unsafe(no_mangle)]
+pub extern "C" fn sawmauve_register(
+    year: u32,
+    month: u32,
+    day: u32,
+    days: u32,
+    interval: u32,
+    limit: u32,
+    tolerance: u32,
+    readings: &mut [u32],
+    read_versions: &mut [u32],
+    widths: &mut [u16],
+    boundary: u32,
+    version: u32,
+    reading: u32,
+    width: u32,
+) -> u32
+    ensures { let head = head_of year month day days interval limit tolerance in
+        let lent = lent_reads readings.old read_versions.old widths.old in
+        (result ≡ answer_code (register_answer head lent boundary version reading width))
+        × (lent_reads readings.new read_versions.new widths.new
+        ≡ register_after head lent boundary version reading width) }
+{
+    host::sawmauve_register(
+        year,
+        month,
+        day,
+        days,
+        interval,
+        limit,
+        tolerance,
+        readings,
+        read_versions,
+        widths,
+        boundary,
+        version,
+        reading,
+        width,
+    )
+}
