@@ -1,23 +1,24 @@
 // The first ten draws of the simulated berth from three seeds (02, W12).
 use crate::say;
 use berth::generator::Berth;
+use std::io;
 
-fn draws(seed: u32) {
-    say::text(b"draws from");
-    say::field(seed as u64);
-    say::text(b":");
+fn draws(rt: &impl Print, seed: u32) -> io::Result<()> {
+    say::text(rt, b"draws from")?;
+    say::field(rt, seed as u64)?;
+    say::text(rt, b":")?;
     let mut berth = Berth::new(seed);
     let mut i: usize = 0;
     while i < 10 {
         berth = berth.draw();
-        say::field(berth.x as u64);
+        say::field(rt, berth.x as u64)?;
         i += 1;
     }
-    say::text(b"\n");
+    say::text(rt, b"\n")
 }
 
-pub fn first_ten() {
-    draws(1);
-    draws(2);
-    draws(4294967295);
+pub fn first_ten(rt: &impl Print) -> io::Result<()> {
+    draws(rt, 1)?;
+    draws(rt, 2)?;
+    draws(rt, 4294967295)
 }

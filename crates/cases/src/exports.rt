@@ -1,9 +1,10 @@
 // Cases that are told by an export to the market (02, W8).
 use crate::{books, say};
 use market::{Codes, Exported};
+use std::io;
 
 // The export of a day's file, or the refusal's number.
-fn export(file: &[u8]) {
+fn export(rt: &impl Print, file: &[u8]) -> io::Result<()> {
     let mut out = [0u8; 1000];
     let codes = Codes {
         two: 14,
@@ -30,22 +31,23 @@ fn export(file: &[u8]) {
     ) {
         Exported::Length(n) => {
             if n <= out.len() {
-                say::text(&out[..n]);
+                say::text(rt, &out[..n])?;
             }
+            Ok(())
         }
-        Exported::Refused(n) => say::refused(n),
+        Exported::Refused(n) => say::refused(rt, n),
     }
 }
 
 // The export of a day's book.
-fn export_rows(rows: &[[u32; 5]]) {
+fn export_rows(rt: &impl Print, rows: &[[u32; 5]]) -> io::Result<()> {
     let mut file = [0u8; 320];
     books::publish_rows(books::head_of(1, 30, 1), rows, &mut file);
-    export(&file);
+    export(rt, &file)
 }
 
 // No book gives this value: a day of 0 Wh has it put into its first slot, and into its sum.
-fn largest() {
+fn largest(rt: &impl Print) -> io::Result<()> {
     let rows = [[1, 0, 48, 0, 0]];
     let mut file = [0u8; 320];
     books::publish_rows(books::head_of(1, 30, 1), &rows, &mut file);
@@ -55,17 +57,20 @@ fn largest() {
         file[308 + k] = 255;
         k += 1;
     }
-    export(&file);
+    export(rt, &file)
 }
 
 // A day of 5 Wh in each slot; one of 0 Wh whose first and last slots are agreed; one with 4,294,967,295 Wh.
-pub fn days() {
+pub fn days(rt: &impl Print) -> io::Result<()> {
     let alike = [[1, 0, 48, 5, 0]];
-    say::text(b"a day alike:\n");
-    export_rows(&alike);
+    say::text(rt, b"a day alike:\n")?;
+    export_rows(rt, &alike)?;
     let varies = [[1, 1, 47, 0, 0], [4, 0, 1, 620, 0], [4, 47, 1, 5, 0]];
-    say::text(b"a day that varies, its first and last slot in runs of one:\n");
-    export_rows(&varies);
-    say::text(b"the largest value:\n");
-    largest();
+    say::text(
+        rt,
+        b"a day that varies, its first and last slot in runs of one:\n",
+    )?;
+    export_rows(rt, &varies)?;
+    say::text(rt, b"the largest value:\n")?;
+    largest(rt)
 }

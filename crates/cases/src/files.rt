@@ -3,33 +3,34 @@ use crate::{books, say};
 use file::Verdict;
 use publishing::Published;
 use rules::Head;
+use std::io;
 
 // Every slot but 10 delivered as 100.
-pub fn whole() {
+pub fn whole(rt: &impl Print) -> io::Result<()> {
     let rows = [[1, 0, 10, 100, 0], [1, 11, 48, 100, 0]];
     let mut file = [0u8; 320];
     let mut text = [0u8; 160];
     books::publish_rows(books::head_of(1, 30, 1), &rows, &mut file);
     let n = line::line(&file, &mut text);
-    say::text(&text[..n]);
-    trailer(&file);
+    say::text(rt, &text[..n])?;
+    trailer(rt, &file)
 }
 
 // The 32 bytes after 48 records.
-fn trailer(file: &[u8]) {
-    say::text(b"0x");
-    say::hex(say::byte_at(file, 288, 0));
+fn trailer(rt: &impl Print, file: &[u8]) -> io::Result<()> {
+    say::text(rt, b"0x")?;
+    say::hex(rt, say::byte_at(file, 288, 0))?;
     let mut k = 1;
     while k < 32 {
-        say::text(b" ");
-        say::hex(say::byte_at(file, 288, k));
+        say::text(rt, b" ")?;
+        say::hex(rt, say::byte_at(file, 288, k))?;
         k += 1;
     }
-    say::text(b"\n");
+    say::text(rt, b"\n")
 }
 
 // The day's 25 Wh agree with the advance of a dial that passes zero: lowest and highest advance and the state of the only span.
-pub fn dial() {
+pub fn dial(rt: &impl Print) -> io::Result<()> {
     let rows = [
         [1, 0, 1, 25, 0],
         [1, 1, 48, 0, 0],
@@ -38,12 +39,12 @@ pub fn dial() {
     ];
     let mut file = [0u8; 334];
     books::publish_rows(books::head_of(1, 30, 1), &rows, &mut file);
-    say::text(b"dial 99999990 then 15:");
-    span(&file);
+    say::text(rt, b"dial 99999990 then 15:")?;
+    span(rt, &file)
 }
 
 // A day of 25 Wh between two dials, each a reading and its width.
-fn fogged_day(first: [u32; 2], last: [u32; 2]) {
+fn fogged_day(rt: &impl Print, first: [u32; 2], last: [u32; 2]) -> io::Result<()> {
     let rows = [
         [1, 0, 1, 25, 0],
         [1, 1, 48, 0, 0],
@@ -52,56 +53,63 @@ fn fogged_day(first: [u32; 2], last: [u32; 2]) {
     ];
     let mut file = [0u8; 334];
     books::publish_rows(books::head_of(1, 30, 1), &rows, &mut file);
-    span(&file);
+    span(rt, &file)
 }
 
 // V in the range, above a range that wraps, and below one.
-pub fn fogged() {
-    say::text(b"dial 0 and 25, widths 50 and 10:");
-    fogged_day([0, 50], [25, 10]);
-    say::text(b"dial 0 and 99999990, widths 0 and 15:");
-    fogged_day([0, 0], [99999990, 15]);
-    say::text(b"dial 0 and 40, widths 0 and 10:");
-    fogged_day([0, 0], [40, 10]);
+pub fn fogged(rt: &impl Print) -> io::Result<()> {
+    say::text(rt, b"dial 0 and 25, widths 50 and 10:")?;
+    fogged_day(rt, [0, 50], [25, 10])?;
+    say::text(rt, b"dial 0 and 99999990, widths 0 and 15:")?;
+    fogged_day(rt, [0, 0], [99999990, 15])?;
+    say::text(rt, b"dial 0 and 40, widths 0 and 10:")?;
+    fogged_day(rt, [0, 0], [40, 10])
 }
 
 // The only span, after 48 records.
-fn span(file: &[u8]) {
-    say::text(b" R");
-    say::field(say::word_at(file, 292));
-    say::text(b" to");
-    say::field(say::word_at(file, 296));
-    say::text(b" state");
-    say::field(say::byte_at(file, 288, 12) as u64);
-    say::text(b"\n");
+fn span(rt: &impl Print, file: &[u8]) -> io::Result<()> {
+    say::text(rt, b" R")?;
+    say::field(rt, say::word_at(file, 292))?;
+    say::text(rt, b" to")?;
+    say::field(rt, say::word_at(file, 296))?;
+    say::text(rt, b" state")?;
+    say::field(rt, say::byte_at(file, 288, 12) as u64)?;
+    say::text(rt, b"\n")
 }
 
 // The agreed slot counts in V, so the day agrees with its dial; the file has layout 3 all the same.
-pub fn agreed() {
+pub fn agreed(rt: &impl Print) -> io::Result<()> {
     let rows = books::agreed_rows();
     let mut file = [0u8; 334];
     books::publish_rows(books::head_of(1, 30, 1), &rows, &mut file);
-    say::text(b"a file with an agreed slot: layout");
+    say::text(rt, b"a file with an agreed slot: layout")?;
     if let Verdict::Accepted(g) = file::read(&file) {
-        say::field(g.layout as u64);
+        say::field(rt, g.layout as u64)?;
     }
-    span(&file);
+    span(rt, &file)
 }
 
 // By itself each of three slots would get 3 of the 10 Wh.
-pub fn slot_alone() {
+pub fn slot_alone(rt: &impl Print) -> io::Result<()> {
     let rows = books::scaled_rows(1, 96);
     let mut file = [0u8; 334];
     books::publish_rows(books::head_of(1, 30, 1), &rows, &mut file);
-    say::text(b"scaling each slot by itself: sum");
+    say::text(rt, b"scaling each slot by itself: sum")?;
     if let Verdict::Accepted(g) = file::read(&file) {
-        say::field(g.sum);
+        say::field(rt, g.sum)?;
     }
-    say::text(b"\n");
+    say::text(rt, b"\n")
 }
 
 // The day number in the trailer of a book with no delivery, or the refusal's.
-fn date(label: &[u8], year: u32, month: u32, day: u32, days: u32) {
+fn date(
+    rt: &impl Print,
+    label: &[u8],
+    year: u32,
+    month: u32,
+    day: u32,
+    days: u32,
+) -> io::Result<()> {
     let head = Head {
         year: year,
         month: month,
@@ -114,24 +122,25 @@ fn date(label: &[u8], year: u32, month: u32, day: u32, days: u32) {
     let rows = [[2, 0, 0, 0, 0]];
     let mut file = [0u8; 320];
     let published = books::publish_rows(head, &rows, &mut file);
-    say::text(label);
+    say::text(rt, label)?;
     match published {
-        Published::Length(_) => first_day(&file),
-        Published::Refused(n) => say::refused(n),
+        Published::Length(_) => first_day(rt, &file)?,
+        Published::Refused(n) => say::refused(rt, n)?,
     }
-    say::text(b"\n");
+    say::text(rt, b"\n")
 }
 
-fn first_day(file: &[u8]) {
+fn first_day(rt: &impl Print, file: &[u8]) -> io::Result<()> {
     if let Verdict::Accepted(g) = file::read(file) {
-        say::text(b" day");
-        say::field(g.first as u64);
+        say::text(rt, b" day")?;
+        say::field(rt, g.first as u64)?;
     }
+    Ok(())
 }
 
-pub fn dates() {
-    date(b"2000-02-29 D 1:", 2000, 2, 29, 1);
-    date(b"2001-02-29 D 1:", 2001, 2, 29, 1);
-    date(b"2099-12-31 D 1:", 2099, 12, 31, 1);
-    date(b"2099-12-31 D 2:", 2099, 12, 31, 2);
+pub fn dates(rt: &impl Print) -> io::Result<()> {
+    date(rt, b"2000-02-29 D 1:", 2000, 2, 29, 1)?;
+    date(rt, b"2001-02-29 D 1:", 2001, 2, 29, 1)?;
+    date(rt, b"2099-12-31 D 1:", 2099, 12, 31, 1)?;
+    date(rt, b"2099-12-31 D 2:", 2099, 12, 31, 2)
 }

@@ -4,6 +4,7 @@ ghost use Rattle.std.specs.Prelude.{◌≤◌};
 
 use crate::{books, say};
 use rules::Head;
+use std::io;
 
 // The `width` bytes from `at` on are the same.
 fn same(before: &[u8], after: &[u8], at: usize, width: usize) -> bool {
@@ -18,21 +19,30 @@ fn same(before: &[u8], after: &[u8], at: usize, width: usize) -> bool {
 }
 
 // The numbers of those among `count` records, `width` bytes each from `start` on, that moved.
-fn moved(label: &[u8], before: &[u8], after: &[u8], start: usize, width: usize, count: usize)
+fn moved(
+    rt: &impl Print,
+    label: &[u8],
+    before: &[u8],
+    after: &[u8],
+    start: usize,
+    width: usize,
+    count: usize,
+) -> io::Result<()>
     requires start_bound { start ≤ 106848 }
     requires width_bound { width ≤ 288 }
     requires count_bound { count ≤ 17808 }
 {
-    say::text(label);
+    say::text(rt, label)?;
     let mut at = start;
     let mut i = 0;
     while i < count {
         if !same(before, after, at, width) {
-            say::field(i as u64);
+            say::field(rt, i as u64)?;
         }
         at += width;
         i += 1;
     }
+    Ok(())
 }
 
 // The book of the rows before the last.
@@ -47,6 +57,7 @@ fn publish_before(head: Head, rows: &[[u32; 5]], file: &mut [u8]) {
 
 // The book of the rows before the last, and of all: which of `count` parts of the slot table, and which spans, moved.
 fn tell(
+    rt: &impl Print,
     label: &[u8],
     parts: &[u8],
     head: Head,
@@ -54,7 +65,7 @@ fn tell(
     width: usize,
     count: usize,
     spans: usize,
-)
+) -> io::Result<()>
     requires width_bound { width ≤ 288 }
     requires count_bound { count ≤ 17808 }
     requires spans_bound { spans ≤ 3 }
@@ -64,16 +75,23 @@ fn tell(
     publish_before(head, rows, &mut before);
     books::publish_rows(head, rows, &mut after);
     let slots = books::slots_of(head);
-    say::text(label);
-    moved(parts, &before, &after, 0, width, count);
-    moved(b" spans", &before, &after, 6 * slots, 14, spans);
-    say::text(b"\n");
+    say::text(rt, label)?;
+    moved(rt, parts, &before, &after, 0, width, count)?;
+    moved(rt, b" spans", &before, &after, 6 * slots, 14, spans)?;
+    say::text(rt, b"\n")
 }
 
-fn tell_slots(label: &[u8], head: Head, rows: &[[u32; 5]], spans: usize)
+fn tell_slots(
+    rt: &impl Print,
+    label: &[u8],
+    head: Head,
+    rows: &[[u32; 5]],
+    spans: usize,
+) -> io::Result<()>
     requires { spans ≤ 3 }
 {
     tell(
+        rt,
         label,
         b" slots",
         head,
@@ -81,24 +99,31 @@ fn tell_slots(label: &[u8], head: Head, rows: &[[u32; 5]], spans: usize)
         6,
         books::slots_of(head),
         spans,
-    );
+    )
 }
 
 // 1. Slot 10 gets another value, between good slots and outside spans.
-fn itself() {
+fn itself(rt: &impl Print) -> io::Result<()> {
     let rows = [[1, 0, 48, 100, 0], [5, 10, 2, 90, 0]];
-    tell_slots(b"late at 10, itself:", books::head_of(1, 30, 1), &rows, 0);
+    tell_slots(
+        rt,
+        b"late at 10, itself:",
+        books::head_of(1, 30, 1),
+        &rows,
+        0,
+    )
 }
 
 // 2. Slot 10 gets the outage bit: its own outcome stays, and the gap that it touches is zeroed.
-fn beside() {
+fn beside(rt: &impl Print) -> io::Result<()> {
     let rows = [[1, 0, 11, 100, 0], [1, 12, 48, 100, 0], [5, 10, 2, 100, 2]];
     tell_slots(
+        rt,
         b"late at 10, a run beside it:",
         books::head_of(1, 30, 1),
         &rows,
         0,
-    );
+    )
 }
 
 // A book of 371 days from Sunday 2024-05-05.
@@ -115,18 +140,18 @@ fn year() -> Head {
 }
 
 // 3. Slot 10 gets the outage bit and is no reference any more. No slot before the gaps from 17482 on, 364 days later, is one.
-fn weeks_later() {
+fn weeks_later(rt: &impl Print) -> io::Result<()> {
     let rows = [
         [1, 0, 11, 100, 0],
         [1, 11, 17481, 5, 2],
         [1, 17481, 17482, 5, 0],
         [5, 10, 2, 100, 2],
     ];
-    tell_slots(b"late at 10, 364 days later:", year(), &rows, 0);
+    tell_slots(rt, b"late at 10, 364 days later:", year(), &rows, 0)
 }
 
 // The same with the gaps from 17770 on, 370 days later on a holiday.
-fn holiday_later() {
+fn holiday_later(rt: &impl Print) -> io::Result<()> {
     let rows = [
         [1, 0, 11, 100, 0],
         [1, 11, 17769, 5, 2],
@@ -134,11 +159,17 @@ fn holiday_later() {
         [2, 370, 0, 0, 0],
         [5, 10, 2, 100, 2],
     ];
-    tell_slots(b"late at 10, a holiday 370 days later:", year(), &rows, 0);
+    tell_slots(
+        rt,
+        b"late at 10, a holiday 370 days later:",
+        year(),
+        &rows,
+        0,
+    )
 }
 
 // 4. Slot 10 lifts V above R: its span disagrees, and the gaps at 20 and 30 are no longer scaled.
-fn in_span() {
+fn in_span(rt: &impl Print) -> io::Result<()> {
     let rows = [
         [1, 0, 20, 1, 0],
         [1, 21, 30, 1, 0],
@@ -147,13 +178,19 @@ fn in_span() {
         [3, 1, 1, 60, 0],
         [5, 10, 2, 100, 0],
     ];
-    tell_slots(b"late at 10, its span:", books::head_of(1, 30, 1), &rows, 1);
+    tell_slots(
+        rt,
+        b"late at 10, its span:",
+        books::head_of(1, 30, 1),
+        &rows,
+        1,
+    )
 }
 
 // The month of docs/REACH.md, February 2024: of the run of five gaps around midnight after the 4th the first comes late, at 23:00.
 // On the 11th, 20th and 25th the five half hours up to 23:30 are gaps, on the 9th, 10th and 14th the one at 12:00. The 20th is a holiday.
 // The dial is read at the starts of the 9th, 12th, 15th and 18th.
-fn february() {
+fn february(rt: &impl Print) -> io::Result<()> {
     let rows = [
         [1, 0, 190, 100, 0],
         [1, 195, 408, 100, 0],
@@ -179,14 +216,23 @@ fn february() {
         limit: books::limit_of(1),
         tolerance: 0,
     };
-    tell(b"late on 4 February:", b" days", head, &rows, 288, 29, 3);
+    tell(
+        rt,
+        b"late on 4 February:",
+        b" days",
+        head,
+        &rows,
+        288,
+        29,
+        3,
+    )
 }
 
-pub fn reaches() {
-    itself();
-    beside();
-    weeks_later();
-    holiday_later();
-    in_span();
-    february();
+pub fn reaches(rt: &impl Print) -> io::Result<()> {
+    itself(rt)?;
+    beside(rt)?;
+    weeks_later(rt)?;
+    holiday_later(rt)?;
+    in_span(rt)?;
+    february(rt)
 }

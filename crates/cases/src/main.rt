@@ -10,27 +10,29 @@ mod late;
 mod outcomes;
 mod say;
 
-fn main() {
-    files::whole();
-    outcomes::demands();
-    outcomes::linear();
-    outcomes::lines();
-    outcomes::references();
-    files::dial();
-    files::fogged();
-    outcomes::scaled();
-    outcomes::fitted();
-    files::dates();
-    outcomes::slips();
-    files::slot_alone();
-    answers::late();
-    answers::lowest();
-    answers::counted();
-    outcomes::agreed();
-    files::agreed();
-    answers::agreed();
-    answers::limits();
-    exports::days();
-    draws::first_ten();
-    late::reaches();
+use std::io;
+
+fn main(rt: HostRuntime) -> io::Result<()> {
+    files::whole(&rt)?;
+    outcomes::demands(&rt)?;
+    outcomes::linear(&rt)?;
+    outcomes::lines(&rt)?;
+    outcomes::references(&rt)?;
+    files::dial(&rt)?;
+    files::fogged(&rt)?;
+    outcomes::scaled(&rt)?;
+    outcomes::fitted(&rt)?;
+    files::dates(&rt)?;
+    outcomes::slips(&rt)?;
+    files::slot_alone(&rt)?;
+    answers::late(&rt)?;
+    answers::lowest(&rt)?;
+    answers::counted(&rt)?;
+    outcomes::agreed(&rt)?;
+    files::agreed(&rt)?;
+    answers::agreed(&rt)?;
+    answers::limits(&rt)?;
+    exports::days(&rt)?;
+    draws::first_ten(&rt)?;
+    late::reaches(&rt)
 }

@@ -1,25 +1,25 @@
 // What the program writes: texts, numbers, and what is published of a slot.
 use book::Received;
-use libc::STDOUT_FILENO;
+use std::io;
 
-pub fn text(bytes: &[u8]) {
-    io::write_all(STDOUT_FILENO, bytes);
+pub fn text(rt: &impl Print, bytes: &[u8]) -> io::Result<()> {
+    rt.write_all(bytes)
 }
 
 // A space and a number.
-pub fn field(n: u64) {
+pub fn field(rt: &impl Print, n: u64) -> io::Result<()> {
     let mut out = [0u8; 21];
     let k = line::number(n, &mut out);
-    io::write_all(STDOUT_FILENO, &out[..k]);
+    rt.write_all(&out[..k])
 }
 
 // Two hexadecimal digits.
-pub fn hex(byte: u8) {
+pub fn hex(rt: &impl Print, byte: u8) -> io::Result<()> {
     let digits = b"0123456789ABCDEF";
     let high = (byte / 16) as usize;
     let low = (byte % 16) as usize;
     let pair = [digits[high], digits[low]];
-    io::write_all(STDOUT_FILENO, &pair);
+    rt.write_all(&pair)
 }
 
 // The byte `k` places after `at`; past the end of the file, 0.
@@ -40,24 +40,24 @@ pub fn word_at(file: &[u8], at: usize) -> u64 {
 }
 
 // Value, quality and method of a slot, as published.
-pub fn outcome(file: &[u8], slot: u32) {
+pub fn outcome(rt: &impl Print, file: &[u8], slot: u32) -> io::Result<()> {
     let at = 6 * (slot as usize);
     let letter = [32, byte_at(file, at, 4)];
-    field(word_at(file, at));
-    text(&letter);
-    field(byte_at(file, at, 5) as u64);
+    field(rt, word_at(file, at))?;
+    text(rt, &letter)?;
+    field(rt, byte_at(file, at, 5) as u64)
 }
 
-pub fn refused(n: u8) {
-    text(b" refused");
-    field(n as u64);
+pub fn refused(rt: &impl Print, n: u8) -> io::Result<()> {
+    text(rt, b" refused")?;
+    field(rt, n as u64)
 }
 
-pub fn answer(filed: Received) {
+pub fn answer(rt: &impl Print, filed: Received) -> io::Result<()> {
     match filed {
-        Received::Stored => text(b" stored"),
-        Received::Late => text(b" late"),
-        Received::Repeat => text(b" repeat"),
-        Received::Refused(n) => refused(n),
+        Received::Stored => text(rt, b" stored"),
+        Received::Late => text(rt, b" late"),
+        Received::Repeat => text(rt, b" repeat"),
+        Received::Refused(n) => refused(rt, n),
     }
 }

@@ -2,18 +2,24 @@
 #![tactic(auto)]
 
 use input::Input;
-use libc::STDOUT_FILENO;
+use std::io;
+use std::io::Write;
 
-fn main() {
+// Says on standard error which stream failed, and why.
+fn tell(rt: &impl Eprint, stream: &str, error: io::Error) {
+    let _ = eprintln!(rt; "{stream}: {error}");
+}
+
+fn main(rt: HostRuntime) {
     let mut buf = [0u8; 65537];
     let mut out = [0u8; 160];
-    match input::read_all(&mut buf) {
+    match input::read_all(&mut rt.stdin(), &mut buf) {
         Input::Bytes(n) => {
             let k = line::line(&buf[..n], &mut out);
-            if !io::write_all(STDOUT_FILENO, &out[..k]) {
-                os::fail(b"standard output");
+            if let Err(error) = rt.stdout().write_all(&out[..k]) {
+                tell(&rt, "standard output", error);
             }
         }
-        Input::Failed => os::fail(b"standard input"),
+        Input::Failed(error) => tell(&rt, "standard input", error),
     }
 }
