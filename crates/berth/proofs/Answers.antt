@@ -39,8 +39,11 @@ module _ (h : Head) (seed loss : ℕ) (good : head_ok h ≡ true) (out : List �
   total_written p = rw (p, sum_back h seed loss good (drop (length file) out)) (sum_high h seed loss good)
 
   pub reported : {r : Report} {e : List ℕ} {total : ℕ} → e ≡ left → total ≡ true_total h seed loss
-      → r ≡ record { state = num 1 e (6 * slot_count h + 12); difference = pos (num 8 e (6 * slot_count h + 34)) -ℤ pos total; total = total
-          }
+      → r ≡ record {
+        state = num 1 e (6 * slot_count h + 12);
+        difference = pos (num 8 e (6 * slot_count h + 34)) -ℤ pos total;
+        total = total;
+      }
       → r ≡ report_of h seed loss
   unfolding report_of
   reported p t q =

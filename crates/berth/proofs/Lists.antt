@@ -70,7 +70,7 @@ run_lists h seed loss o s r total e t p q =
     (sym (after_append h (opened h) (sent h seed loss (slot_count h)) (dial_reads h (true_total h seed loss))
     ∙ ap (λ (c : Book). after_all h c (dial_reads h (true_total h seed loss))) (all_sent h seed loss (opened h) (slot_count h))
     ∙ dial_read_lem h seed loss (with_sent (opened h) (sent_from h seed loss (sent_in (opened h)) (slot_count h)))
-        (true_total h seed loss)))
+    (true_total h seed loss)))
 
 -- a good head and lists that fit are opened
 pub opens : (h : Head) (b : Book) → head_ok h ≡ true → book_fits h b ≡ true → open_after h b ≡ opened h

@@ -10,7 +10,7 @@ returns-then-told-eq1 c =
     let a = c.args in
     let h = head_of a.year a.month a.day a.days a.interval a.limit a.tolerance in
     let b = lent_book a.values.now a.versions.now a.statuses.now a.holidays.now a.readings.now a.read_versions.now a.agreed.now
-        a.agreed_versions.now
+    a.agreed_versions.now
     a.counts.now a.widths.now in
     refused_head h b a.slot a.fields.now c.explain-told.result
     (rw c.head_of-head.ensures at c.explain-told.ensures) c.if-told-eq1.true
@@ -20,7 +20,7 @@ returns-then-fields-ne34 c =
     let a = c.args in
     let h = head_of a.year a.month a.day a.days a.interval a.limit a.tolerance in
     let b = lent_book a.values.now a.versions.now a.statuses.now a.holidays.now a.readings.now a.read_versions.now a.agreed.now
-        a.agreed_versions.now
+    a.agreed_versions.now
     a.counts.now a.widths.now in
     refused_fields h b a.slot a.fields.now c.explain-told.result
     (rw c.head_of-head.ensures at c.explain-told.ensures) c.if-told-eq1.false c.if-fields-ne34.true
@@ -30,7 +30,7 @@ returns-then-told-ne0 c =
     let a = c.args in
     let h = head_of a.year a.month a.day a.days a.interval a.limit a.tolerance in
     let b = lent_book a.values.now a.versions.now a.statuses.now a.holidays.now a.readings.now a.read_versions.now a.agreed.now
-        a.agreed_versions.now
+    a.agreed_versions.now
     a.counts.now a.widths.now in
     refused_rest h b a.slot a.fields.now c.explain-told.result
     (simp c.head_of-head.ensures at c.explain-told.ensures) c.if-fields-ne34.false
@@ -44,7 +44,7 @@ returns c =
     let a = c.args in
     let h = head_of a.year a.month a.day a.days a.interval a.limit a.tolerance in
     let b = lent_book a.values.now a.versions.now a.statuses.now a.holidays.now a.readings.now a.read_versions.now a.agreed.now
-        a.agreed_versions.now
+    a.agreed_versions.now
     a.counts.now a.widths.now in
     let x = explained h b a.slot a.fields.now c.explain-told.result
     (simp c.head_of-head.ensures at c.explain-told.ensures) c.if-fields-ne34.false c.if-told-ne0.false in
