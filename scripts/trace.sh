@@ -1,6 +1,6 @@
 #!/bin/sh
-# Looks up every name of docs/TRACE.md in the file that it stands for, and refuses a row that is shown by wrong builds of must-fail-more alone,
-# which the gate does not try; and holds the layers of CONTRIBUTING.md against crates.txt. Prints what is wrong, and exits 1 if anything is.
+# Looks up every name of docs/TRACE.md in the file that it stands for, and holds the layers of CONTRIBUTING.md against crates.txt. Prints what
+# is wrong, and exits 1 if anything is.
 set -u
 cd "$(dirname "$0")/.."
 names=$(mktemp) || exit 2
@@ -17,7 +17,7 @@ sed -n '/^## Opening/,$p' docs/TRACE.md | grep -o '`[^`]*`' | tr -d '`' | awk '
 # has FILE PATTERN
 has() { [ -f "$1" ] && grep -qE -- "$2" "$1"; }
 
-# a definition or theorem, as rules.specs.Opening.headOk
+# a definition or theorem, as rules.specs.Opening.head_ok
 stated() {
     has "crates/$(echo "${1%.*}" | tr . /).antt" "^ *((unfoldable|abbrev) )?pub (record |data )?${1##*.}( |\$)"
 }
@@ -41,18 +41,9 @@ while read -r name; do
         *.specs.*|*.proofs.*) stated "$name" ;;
         *::*) coded "$name" ;;
         scripts/*|examples/*|sawmauve/*) [ -f "$name" ] ;;
-        */*) ls "crates/${name%/*}/must-fail/${name#*/}.edit" "crates/${name%/*}/must-fail-more/${name#*/}.edit" 2> /dev/null | grep -q . ;;
+        */*) [ -f "crates/${name%/*}/must-fail/${name#*/}.edit" ] ;;
         *) true ;;
     esac || { echo "docs/TRACE.md: $name is not there"; missing=1; }
-done < "$names"
-# the wrong builds that a row names, where it is shown by nothing else; one that the gate tries is enough
-sed -n '/^## Opening/,$p' docs/TRACE.md | grep '^| ' | sed 's/ *|$//; s/.*| //' | grep -o '^`[a-z_]*/[a-z0-9_]*`\(, `[a-z_]*/[a-z0-9_]*`\)*$' | tr -d '`,' | sort -u > "$names"
-while read -r builds; do
-    for build in $builds; do
-        [ -f "crates/${build%/*}/must-fail/${build#*/}.edit" ] && continue 2
-    done
-    echo "docs/TRACE.md: the gate tries none of: $builds"
-    missing=1
 done < "$names"
 [ "$missing" = 0 ] && echo "docs/TRACE.md: all $count names are there"
 # every crate has a row, which lists what it uses beside base and the kit's own crates, all of them in rows above

@@ -1,5 +1,6 @@
 -- `input::read_all`: each read puts its bytes after those that stand in the buffer.
-use Rattle.std.proofs.Common.{rules, append-nil, ◌≡◌, ℕ, ◌+◌, ◌-◌, ◌≤◌, List, ◌++◌, length, take, drop, sym, ap, ◌∙◌, subst, le_refl, drop_at, length-take-le}
+use Rattle.std.proofs.Common.{rules, append-nil, ◌≡◌, ℕ, ◌+◌, ◌-◌, ◌≤◌, List, ◌++◌, length, take, drop, sym, ap, ◌∙◌, subst, le_refl}
+use Rattle.std.proofs.Common.{drop_at, length-take-le}
 use Rattle.std.specs.Io.KnownBytes.{Consumes}
 use Rattle.std.proofs.KnownBytes.{Consumes-trans, Consumes-nil}
 use Rattle.std.proofs.lemmas.Slice.{take-put_mid_below}
@@ -17,7 +18,8 @@ more n k m xs ys within fits =
     let after = post_of n k xs in
     let rest : take m (drop n (put_mid n k xs ys)) ≡ take m ys =
     ap (take m) (drop_at (take n xs) (ys ++ after) n (length-take-le n xs within)) ∙ take-append-le m ys after fits in
-    ap (λ l. l ++ take m ys) (sym (front n k xs ys within)) ∙ ap (λ l. take n (put_mid n k xs ys) ++ l) (sym rest) ∙ sym (take-add n m (put_mid n k xs ys))
+    ap (λ l. l ++ take m ys) (sym (front n k xs ys within)) ∙ ap (λ l. take n (put_mid n k xs ys) ++ l) (sym rest) ∙ sym
+    (take-add n m (put_mid n k xs ys))
 
 pub loop-n-init : goal.loop-n-init
 loop-n-init g c = record { inside = search rules; long = search rules; taken = Consumes-nil _ }
