@@ -93,8 +93,13 @@ def main():
             new[name] = to
             taken.add(to)
 
-    def turn(text, kept=()):
+    def names_in(text, kept):
         return TOKEN.sub(lambda m: new[m.group(1)] if m.group(1) in new and m.group(1) not in kept else m.group(1), text)
+
+    def turn(text, kept=()):
+        """A line, and of its comment what stands in backticks: other words there may have a dash of their own."""
+        code, dashes, comment = text.partition("--")
+        return names_in(code, kept) + dashes + re.sub(r"`[^`]*`", lambda m: names_in(m.group(), kept), comment)
 
     for path, text in texts.items():
         function = FUNCTION.search(path)

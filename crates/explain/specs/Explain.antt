@@ -60,7 +60,7 @@ line_of applied h s agreed i =
     })
     no_line
 
--- for a same_day_lem fill the days and values of the references and their number
+-- for a same-day fill the days and values of the references and their number
 abbrev pub none_found : References
 none_found = record { days = 0 ∷ 0 ∷ 0 ∷ 0 ∷ []; values = 0 ∷ 0 ∷ 0 ∷ 0 ∷ []; count = 0 }
 

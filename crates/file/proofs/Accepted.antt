@@ -1,4 +1,4 @@
--- The file of a well_formed content is accepted, with the content's figures and tables.
+-- The file of a well-formed content is accepted, with the content's figures and tables.
 use mathlib.Core.Path.{◌≡◌, refl, sym, ap, ap₂, ◌∙◌}
 use mathlib.Core.Bool.{Bool, true, cond}
 use Prim.Native.Nat.{ℕ, ◌+◌, ◌-◌, ◌*◌, ◌/◌, ◌^◌, ◌≤◌, ◌<◌}

@@ -213,7 +213,7 @@ module _ (bs : List ℕ) (b : Bytes bs) (p : Passed bs (figures bs)) where
 tables_same : (f : Content) → WellFormed f → (bs : List ℕ) → file_of f ≡ bs → tables_of f ≡ tables_part bs
 tables_same f w bs e = sym (tables_back f w) ∙ ap tables_part e
 
--- what the reader accepts is the file of a well_formed content: the one that its answers, figures and tables, hold
+-- what the reader accepts is the file of a well-formed content: the one that its answers, figures and tables, hold
 pub canonical : Canonical
 canonical bs b g e =
     let (k, same) = tests_passed bs g e in
@@ -234,7 +234,7 @@ pub determined : (bs cs : List ℕ) → Bytes bs → Bytes cs → (g : Figures) 
 determined bs cs b c g d e s =
     sym (canonical bs b g d).file ∙ ap (λ (x : List ℕ). file_of (content_of g x)) s ∙ (canonical cs c g e).file
 
--- the reader accepts exactly the files of well_formed contents, with their figures and tables
+-- the reader accepts exactly the files of well-formed contents, with their figures and tables
 pub exactly : Exactly
 exactly bs b g part = (
   λ e. (content_of g (tables_part bs), rw (← e.1) (canonical bs b g e.0)),
@@ -244,7 +244,7 @@ exactly bs b g part = (
   ),
 )
 
--- the figures and tables of a well_formed content hold it
+-- the figures and tables of a well-formed content hold it
 pub content_back : (f : Content) → WellFormed f → content_of (figures_of f) (tables_of f) ≡ f
 content_back f w =
     let k = canonical (file_of f) (file_bytes f) (figures_of f) (accepted f w) in

@@ -1,4 +1,4 @@
--- The numbers of a well_formed content fit their fields.
+-- The numbers of a well-formed content fit their fields.
 use mathlib.Core.Path.{◌≡◌, refl}
 use mathlib.Core.Bool.{Bool, true, false}
 use Prim.Native.Nat.{ℕ, zero, suc, ◌+◌, ◌*◌, ◌/◌, ◌^◌, ◌≤◌, ◌<◌}
@@ -44,7 +44,7 @@ pub record Fitting (f : Content) : Type 0 where
   pub each_slot : (i : ℕ) → i < length f.slots → SlotFits (slot f i)
   pub each_span : (j : ℕ) → j < length f.spans → SpanFits (ranged f.layout) (span f j)
 
--- ---- Those of a well_formed content
+-- ---- Those of a well-formed content
 
 -- span j ends past boundary j, since each takes a day at least
 past : (t : Tables) → all (span_ok t) 0 t.spans ≡ true → (j : ℕ) → j < t.spans → j < (t.span j).last

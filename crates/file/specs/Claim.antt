@@ -6,7 +6,7 @@ use Rattle.file.specs.Layout.{Content, figures_of, tables_of, file_of}
 use Rattle.file.specs.Reader.{read_file, tables_part}
 use Rattle.file.specs.Contents.{Bytes, WellFormed, content_of}
 
--- these bytes are the file of a well_formed content, which has these figures and tables
+-- these bytes are the file of a well-formed content, which has these figures and tables
 pub record FileOf (f : Content) (bs : List ℕ) (g : Figures) (part : List ℕ) : Type 0 where
   pub formed : WellFormed f
   pub file : file_of f ≡ bs

@@ -1,4 +1,4 @@
--- The shape of a slot (02, W7): that of a same_day_lem slot is whole, and a slot that is not S has none.
+-- The shape of a slot (02, W7): that of a same-day slot is whole, and a slot that is not S has none.
 use mathlib.Core.Bool.{true}
 use mathlib.Core.List.{List, [], ◌∷◌}
 use mathlib.Core.Logic.{⊎_elim}
@@ -83,7 +83,7 @@ module _ (h : Head) (s : Slots) (a : Agreed) (holidays : List ℕ) (i : ℕ) whe
       (⊎_elim (λ t. rw t (λ e. absurd (omega arith))) (λ t. rw t (λ _. let n : length found ≡ 0 → ⊥ = eqb-false _ _ t in omega arith))
       (either (eqb (length found) 0)))
 
-  -- the shape of a same_day_lem slot times the number of its references is 12 × their sum
+  -- the shape of a same-day slot times the number of its references is 12 × their sum
   pub same_day_whole : (filled_at h s a holidays i).method ≡ 3 → shape_at h s a holidays i * length found ≡ 12 * sum_of found
   unfolding shape_at shape_of
   same_day_whole e = rw e (shape_whole (length found) (sum_of found) (found_some e) (references_few h s holidays i))

@@ -127,7 +127,7 @@ filled_at h s a holidays i =
     (cond (is_linear h s a.versions i) (record { value = linear_value h s a.versions i; quality = S; method = 2 })
     (from_references (references h s holidays i)))))
 
--- the shape of a slot filled with these references at hand (02, W7): of a linear slot 12 × its value, of a same_day_lem slot
+-- the shape of a slot filled with these references at hand (02, W7): of a linear slot 12 × its value, of a same-day slot
 -- 12 × sum / number, which is whole; another slot has none
 unfoldable pub shape_of : Outcome → List ℕ → ℕ
 shape_of o xs = cond (eqb o.method 2) (12 * o.value) (cond (eqb o.method 3) (12 * sum_of xs / length xs) 0)

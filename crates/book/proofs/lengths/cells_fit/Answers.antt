@@ -1,4 +1,4 @@
--- `lengths::cells_fit_lem` asks for all four kinds of lists.
+-- `lengths::cells_fit` asks for all four kinds of lists.
 use mathlib.Core.Path.{sym, ◌∙◌}
 use mathlib.Core.Bool.{and-true}
 use Rattle.book.proofs.lengths.cells_fit.Goals as goal

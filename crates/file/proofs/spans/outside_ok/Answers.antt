@@ -1,4 +1,4 @@
--- `file::spans::outside_ok_lem` meets its contract.
+-- `file::spans::outside_ok` meets its contract.
 use Prim.Native.Nat.{ℕ, ◌-◌, ◌<◌}
 use native.Mathlib.Omega.{arith}
 use Rattle.file.specs.Reader.{tables_at}
