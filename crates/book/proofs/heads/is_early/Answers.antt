@@ -1,5 +1,5 @@
 -- `heads::is_early`: 400 days from any day before 2098 end in time, so no day number is needed.
-use mathlib.Core.Bool.{Bool, true, ◌&&◌, false≢true}
+use mathlib.Core.Bool.{Bool, true, ◌&&◌}
 use mathlib.Core.Path.{◌≡◌, sym, ◌∙◌}
 use Prim.Native.Nat.{◌+◌, ◌≤◌, ◌<◌}
 use native.Mathlib.Omega.{arith}
@@ -36,17 +36,8 @@ early h y date interval e =
     all-five (leb 1 h.days) (leb h.days 400) (leb 1 h.limit) (leb h.limit 1_000_000) (leb h.tolerance 1_000_000) e in
     rw (interval, date, low, high, le-leb _ _ (ends h y date (leb-true _ _ high)), least, most, near)
 
-pub returns-then-head-ge2098 : goal.returns-then-head-ge2098
-returns-then-head-ge2098 c = λ e. absurd (false≢true e)
-
-pub returns-then-not-is_date : goal.returns-then-not-is_date
-returns-then-not-is_date c = λ e. absurd (false≢true e)
-
-pub returns-then-not-is_interval : goal.returns-then-not-is_interval
-returns-then-not-is_interval c = λ e. absurd (false≢true e)
-
 pub returns : goal.returns
 returns c =
-    early c.args.head c.if-head-ge2098.false
+    early c.args.head (omega arith)
     (sym c.is_date.ensures ∙ c.if-not-is_date.false)
     (sym c.is_interval.ensures ∙ c.if-not-is_interval.false)
