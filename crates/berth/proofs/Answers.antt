@@ -1,13 +1,15 @@
 -- What a run answers and leaves, from what its parts do.
+use Rattle.base.specs.declared.Refusal.{Refusal}
+use Rattle.std.specs.Prelude.{Result, Ok, Err}
 use mathlib.Core.Bool.{true}
 use mathlib.Core.List.{List, ◌++◌}
-use mathlib.Core.Path.{◌≡◌, refl, sym, ap, ◌∙◌}
+use mathlib.Core.Path.{◌≡◌, sym, ap, ◌∙◌}
 use Prim.Native.Nat.{ℕ, ◌+◌, ◌*◌, ◌≤◌}
 use native.Mathlib.Omega.{arith}
 use borrow.Author.Tests.{le-ltb, ltb-false, not-false}
 use lib.IntN.{pos, ◌-ℤ◌}
 use lib.ListN.{length, drop}
-use Rattle.base.specs.Refusals.{Rule, first_broken}
+use Rattle.base.specs.Refusals.{Rule, tested}
 use Rattle.base.proofs.Refusals.{Unbroken, unless_unbroken, unless_refused, none_broken}
 use Rattle.rules.specs.declared.Head.{Head}
 use Rattle.rules.specs.Opening.{head_ok, slot_count}
@@ -17,8 +19,6 @@ use Rattle.publishing.specs.Publishing.{publish_after}
 use Rattle.claim.specs.Claim.{left_by, plain_file}
 use Rattle.claim.proofs.WholeLists.{wrote as published-after}
 use Rattle.berth.specs.declared.Report.{Report}
-use Rattle.berth.specs.declared.Simulated.{Simulated}
-use Rattle.berth.specs.declared.Simulated.TheVariants.{Run, Refused}
 use Rattle.berth.specs.Run.{true_total, run_calls, report_of, run_rules, simulate_answer, simulate_lists, simulate_bytes}
 use Rattle.berth.specs.Inner.Refusing.{file_size}
 use Rattle.berth.proofs.Written.{file_size_lem, state_back, sum_back, sum_high}
@@ -51,13 +51,13 @@ module _ (h : Head) (seed loss : ℕ) (good : head_ok h ≡ true) (out : List �
       q ∙ rw (p, t, state_back h seed loss good rest, sum_back h seed loss good rest)
 
 -- what the contract says
-pub record Meant (h : Head) (seed loss : ℕ) (b : Book) (out : List ℕ) (r : Simulated) (b' : Book) (out' : List ℕ) : Type 0 where
+pub record Meant (h : Head) (seed loss : ℕ) (b : Book) (out : List ℕ) (r : Result Report Refusal) (b' : Book) (out' : List ℕ) : Type 0 where
   pub answer : r ≡ simulate_answer h seed loss b out
   pub lists : b' ≡ simulate_lists h seed loss b out
   pub bytes : out' ≡ simulate_bytes h seed loss b out
 
 -- as the contract has them
-pub each : {h : Head} {seed loss : ℕ} {b : Book} {out : List ℕ} {r : Simulated} {b' : Book} {out' : List ℕ}
+pub each : {h : Head} {seed loss : ℕ} {b : Book} {out : List ℕ} {r : Result Report Refusal} {b' : Book} {out' : List ℕ}
     → Meant h seed loss b out r b' out'
     → (r ≡ simulate_answer h seed loss b out) × (b' ≡ simulate_lists h seed loss b out) × (out' ≡ simulate_bytes h seed loss b out)
 each m = (m.answer, m.lists, m.bytes)
@@ -66,30 +66,30 @@ module _ (h : Head) (seed loss : ℕ) (b : Book) (out : List ℕ) where
   abbrev rules : List Rule
   rules = run_rules h seed loss (book_fits h b) (length out)
 
-  module _ (n : ℕ) (found : n ≡ first_broken rules) where
-    pub refused : (n ≡ 0 → ⊥) → Meant h seed loss b out (Refused n) b out
+  -- what a test of the rules alone tells
+  module _ (t : Result (Unit {0}) Refusal) (found : t ≡ tested rules) where
+    pub refused : {r : Refusal} → t ≡ Err r → Meant h seed loss b out (Err r) b out
     unfolding simulate_answer simulate_lists simulate_bytes
-    refused some =
-        let e = unless_refused Refused rules (Run (report_of h seed loss)) (λ z. some (found ∙ z)) in
-        record { answer = ap Refused found ∙ sym e; lists = rw e; bytes = rw e }
+    refused {r} broken =
+        let e = unless_refused Err rules (Ok (report_of h seed loss)) r (sym found ∙ broken) in
+        record { answer = sym e; lists = rw e; bytes = rw e }
 
-    -- nothing refuses it
-    unbroken : n ≡ 0 → Unbroken rules
-    unbroken z = none_broken rules refl (sym found ∙ z)
+    unbroken : t ≡ Ok tt → Unbroken rules
+    unbroken z = none_broken rules (sym found ∙ z)
 
-    pub passes : n ≡ 0 → (head_ok h ≡ true) × (book_fits h b ≡ true) × (file_size h ≤ length out)
+    pub passes : t ≡ Ok tt → (head_ok h ≡ true) × (book_fits h b ≡ true) × (file_size h ≤ length out)
     passes z =
-        let t = unbroken z in
-        let good = not-false _ (t 0) in
-        let room : length (plain_file h (run_calls h seed loss)) ≤ length out = ltb-false _ _ (t 2) in
-        (good, not-false _ (t 1), omega (arith, file_size_lem h seed loss good))
+        let kept = unbroken z in
+        let good = not-false _ (kept 0) in
+        let room : length (plain_file h (run_calls h seed loss)) ≤ length out = ltb-false _ _ (kept 2) in
+        (good, not-false _ (kept 1), omega (arith, file_size_lem h seed loss good))
 
-    pub ran : n ≡ 0 → {r : Report} {b' : Book} {out' : List ℕ}
+    pub ran : t ≡ Ok tt → {r : Report} {b' : Book} {out' : List ℕ}
         → (r ≡ report_of h seed loss)
         × (b' ≡ left_by h (run_calls h seed loss))
         × (out' ≡ plain_file h (run_calls h seed loss) ++ drop (length (plain_file h (run_calls h seed loss))) out)
-        → Meant h seed loss b out (Run r) b' out'
+        → Meant h seed loss b out (Ok r) b' out'
     unfolding simulate_answer simulate_lists simulate_bytes
     ran z made =
-        let e = unless_unbroken Refused rules (Run (report_of h seed loss)) (unbroken z) in
-        record { answer = ap Run made.0 ∙ sym e; lists = rw e made.1; bytes = rw e made.2 }
+        let e = unless_unbroken Err rules (Ok (report_of h seed loss)) (unbroken z) in
+        record { answer = ap Ok made.0 ∙ sym e; lists = rw e made.1; bytes = rw e made.2 }

@@ -5,6 +5,8 @@ use mathlib.Core.Path.{◌≡◌, refl, sym, ap, ◌∙◌}
 use Prim.Native.Nat.{ℕ, zero, suc, ◌%◌}
 use Rattle.rules.specs.declared.Head.{Head}
 use Rattle.rules.specs.Opening.{head_ok, slot_count}
+use Rattle.rules.specs.Lent.{slots}
+use Rattle.book.specs.declared.lent.SlotsMut.{SlotsMut}
 use Rattle.book.specs.Arguments.{Call}
 use Rattle.book.specs.Arguments.Call.{delivery}
 use Rattle.book.specs.Cells.{Reads, Book, reads_of, book_fits, with_slots, with_reads}
@@ -13,7 +15,7 @@ use Rattle.book.specs.Filling.{deliver_after, counts_after, register_after, afte
 use Rattle.claim.specs.Claim.{left_by}
 use Rattle.berth.specs.Steps.{berth_after, lost_at, value_at}
 use Rattle.berth.specs.Run.{sent_at, sent, true_total, dial_reads, run_calls}
-use Rattle.berth.specs.Inner.Sending.{Sent, sent_one, sent_from}
+use Rattle.berth.specs.Inner.Sending.{Sent, written_sent, sent_one, sent_from}
 
 after_append : (h : Head) (b : Book) (cs ds : List Call) → after_all h b (cs ++ ds) ≡ after_all h (after_all h b cs) ds
 unfolding after_all
@@ -26,6 +28,11 @@ sent_in b = record { slots = b.cells.slots; counts = b.counts }
 
 abbrev with_sent : Book → Sent → Book
 with_sent b s = record { cells = with_slots b.cells s.slots; counts = s.counts }
+
+-- lists that are those of a struct, whatever its calls made of them
+pub sent_are : (s : SlotsMut) {values versions statuses counts : List ℕ} {x : Sent} → values ≡ s.values.now → versions ≡ s.versions.now
+    → statuses ≡ s.statuses.now → written_sent s counts ≡ x → record { slots = slots values versions statuses; counts = counts } ≡ x
+sent_are s v w u e = rw (v, w, u) e
 
 -- a book with other lists of reads
 abbrev with_dial : Book → Reads → Book

@@ -1,7 +1,9 @@
 -- A run from a seed: its calls, what it reports, and what it leaves (02, W12).
-use Rattle.std.specs.Prelude.{Bool, cond, not, List, [], ◌∷◌, ◌++◌, ℕ, zero, suc, ◌%◌, ltb, eqb, pos, ◌-ℤ◌, length, drop}
+use Rattle.base.specs.declared.Refusal.TheVariants.{OutsideBounds, WrongLength, ShortBuffer, SeedZero, LossOver}
+use Rattle.base.specs.declared.Refusal.{Refusal}
+use Rattle.std.specs.Prelude.{Bool, cond, not, List, [], ◌∷◌, ◌++◌, ℕ, zero, suc, ◌%◌, ltb, eqb, pos, ◌-ℤ◌, length, drop, Result, Ok, Err}
 use Rattle.base.specs.Lists.{sum}
-use Rattle.base.specs.Refusals.{Rule, unless}
+use Rattle.base.specs.Refusals.{Rule, answered}
 use Rattle.base.specs.Refusals.Rule.{rule}
 use Rattle.base.specs.Numbers.{dial_modulus}
 use Rattle.rules.specs.declared.Head.{Head}
@@ -14,8 +16,6 @@ use Rattle.file.specs.Layout.{figures_of}
 use Rattle.publishing.specs.Publishing.{published}
 use Rattle.claim.specs.Claim.{left_by, plain_of, plain_file}
 use Rattle.berth.specs.declared.Report.{Report}
-use Rattle.berth.specs.declared.Simulated.{Simulated}
-use Rattle.berth.specs.declared.Simulated.TheVariants.{Run, Refused}
 use Rattle.berth.specs.Steps.{lost_at, value_at}
 
 -- of a lost slot nothing is sent, of another its true value as version 1, status 0
@@ -52,20 +52,21 @@ report_of h seed loss =
 -- the run's calls; `fit` says that the lists have their lengths
 abbrev pub run_rules : Head → ℕ → ℕ → Bool → ℕ → List Rule
 run_rules h seed loss fit room =
-    rule 1 (not (head_ok h)) ∷ rule 2 (not fit) ∷ rule 7 (ltb room (length (plain_file h (run_calls h seed loss))))
-    ∷ rule 20 (eqb seed 0) ∷ rule 21 (ltb 1000 loss) ∷ []
+    rule OutsideBounds (not (head_ok h)) ∷ rule WrongLength (not fit)
+    ∷ rule ShortBuffer (ltb room (length (plain_file h (run_calls h seed loss))))
+    ∷ rule SeedZero (eqb seed 0) ∷ rule LossOver (ltb 1000 loss) ∷ []
 
-unfoldable pub simulate_answer : Head → ℕ → ℕ → Book → List ℕ → Simulated
-simulate_answer h seed loss b out = unless Refused (run_rules h seed loss (book_fits h b) (length out)) (Run (report_of h seed loss))
+unfoldable pub simulate_answer : Head → ℕ → ℕ → Book → List ℕ → Result Report Refusal
+simulate_answer h seed loss b out = answered (run_rules h seed loss (book_fits h b) (length out)) (report_of h seed loss)
 
 -- a refusal changes no byte of any list or buffer
-abbrev pub lists_with : Simulated → Book → Book → Book
-lists_with (Run r) left b = left
-lists_with (Refused n) left b = b
+abbrev pub lists_with : Result Report Refusal → Book → Book → Book
+lists_with (Ok r) left b = left
+lists_with (Err n) left b = b
 
-abbrev pub bytes_with : Simulated → List ℕ → List ℕ → List ℕ
-bytes_with (Run r) file out = file ++ drop (length file) out
-bytes_with (Refused n) file out = out
+abbrev pub bytes_with : Result Report Refusal → List ℕ → List ℕ → List ℕ
+bytes_with (Ok r) file out = file ++ drop (length file) out
+bytes_with (Err n) file out = out
 
 -- the lists are those that the calls of the run leave
 unfoldable pub simulate_lists : Head → ℕ → ℕ → Book → List ℕ → Book

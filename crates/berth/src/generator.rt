@@ -28,8 +28,7 @@ impl Berth {
         let z = y ^ (y >> 17);
         Berth {
             x: z ^ (z << 5),
-            lost: self.lost,
-            value: self.value,
+            ..self
         }
     }
 

@@ -9,11 +9,13 @@ mod sending;
 ghost use Rattle.std.specs.Prelude.{true, ◌++◌, ◌≡◌, ◌≤◌, length, drop};
 ghost use Rattle.rules.specs.Opening.{head_ok};
 ghost use Rattle.book.specs.Cells.{book_fits};
-ghost use Rattle.book.specs.Lent.{lent_book};
+ghost use Rattle.book.specs.Written.{written_book, SameBook};
 ghost use Rattle.claim.specs.Claim.{left_by, plain_file};
 ghost use Rattle.berth.specs.Run.{true_total, run_calls, report_of, simulate_answer, simulate_lists, simulate_bytes};
 ghost use Rattle.berth.specs.Inner.Refusing.{file_size};
 
+use base::Refusal;
+use book::lent::{BookMut, ReadsMut, SlotsMut};
 use rules::Head;
 
 // That span's state, the published total minus the true total, and the true total, of which a reader may want the share.
@@ -24,111 +26,42 @@ pub struct Report {
     pub total: u64,
 }
 
-// The report, or the refusal's number.
-#[derive(Clone, Copy)]
-pub enum Simulated {
-    Run(Report),
-    Refused(u8),
-}
-
 // Opens the lists and makes every call of the run; the true total.
-fn make_calls(
-    head: Head,
-    seed: u32,
-    loss: u32,
-    values: &mut [u32],
-    versions: &mut [u32],
-    statuses: &mut [u8],
-    holidays: &mut [u8],
-    readings: &mut [u32],
-    read_versions: &mut [u32],
-    agreed: &mut [u32],
-    agreed_versions: &mut [u32],
-    counts: &mut [u16],
-    widths: &mut [u16],
-) -> u64
-    requires { let book = lent_book values.old versions.old statuses.old holidays.old readings.old read_versions.old
-        agreed.old agreed_versions.old counts.old widths.old in
-        (head_ok head ≡ true) × (book_fits head book ≡ true) }
-    ensures { (result ≡ true_total head seed loss)
-        × (lent_book values.new versions.new statuses.new holidays.new readings.new read_versions.new
-        agreed.new agreed_versions.new counts.new widths.new ≡ left_by head (run_calls head seed loss)) }
+fn make_calls(head: Head, seed: u32, loss: u32, book: &mut BookMut<'_>) -> u64
+    requires { (head_ok head ≡ true) × (book_fits head (written_book book.old) ≡ true) }
+    ensures told { (result ≡ true_total head seed loss)
+        × (written_book book.new ≡ left_by head (run_calls head seed loss)) }
+    ensures same { SameBook book.old book.new }
 {
-    book::open(
-        head,
-        values,
-        versions,
-        statuses,
-        holidays,
-        readings,
-        read_versions,
-        agreed,
-        agreed_versions,
-        counts,
-        widths,
-    );
-    let total = sending::send_all(head, seed, loss, values, versions, statuses, counts);
-    sending::read_dial(head, readings, read_versions, widths, total);
+    let _ = book::open(head, book);
+    let mut slots = SlotsMut {
+        values: book.values,
+        versions: book.versions,
+        statuses: book.statuses,
+    };
+    let total = sending::send_all(head, seed, loss, &mut slots, book.counts);
+    let mut reads = ReadsMut {
+        readings: book.readings,
+        read_versions: book.read_versions,
+        widths: book.widths,
+    };
+    sending::read_dial(head, &mut reads, total);
     total
 }
 
 // The whole run, where nothing refuses it.
-fn run(
-    head: Head,
-    seed: u32,
-    loss: u32,
-    values: &mut [u32],
-    versions: &mut [u32],
-    statuses: &mut [u8],
-    holidays: &mut [u8],
-    readings: &mut [u32],
-    read_versions: &mut [u32],
-    agreed: &mut [u32],
-    agreed_versions: &mut [u32],
-    counts: &mut [u16],
-    widths: &mut [u16],
-    out: &mut [u8],
-) -> Report
+fn run(head: Head, seed: u32, loss: u32, book: &mut BookMut<'_>, out: &mut [u8]) -> Report
     requires { (head_ok head ≡ true)
-        × (book_fits head (lent_book values.old versions.old statuses.old holidays.old readings.old read_versions.old
-        agreed.old agreed_versions.old counts.old widths.old)
-        ≡ true)
+        × (book_fits head (written_book book.old) ≡ true)
         × (file_size head ≤ length out.old) }
-    ensures { (result ≡ report_of head seed loss)
-        × (lent_book values.new versions.new statuses.new holidays.new readings.new read_versions.new
-        agreed.new agreed_versions.new counts.new widths.new ≡ left_by head (run_calls head seed loss))
+    ensures told { (result ≡ report_of head seed loss)
+        × (written_book book.new ≡ left_by head (run_calls head seed loss))
         × (out.new
         ≡ plain_file head (run_calls head seed loss) ++ drop (length (plain_file head (run_calls head seed loss))) out.old) }
+    ensures same { SameBook book.old book.new }
 {
-    let total = make_calls(
-        head,
-        seed,
-        loss,
-        values,
-        versions,
-        statuses,
-        holidays,
-        readings,
-        read_versions,
-        agreed,
-        agreed_versions,
-        counts,
-        widths,
-    );
-    publishing::publish(
-        head,
-        values,
-        versions,
-        statuses,
-        holidays,
-        readings,
-        read_versions,
-        agreed,
-        agreed_versions,
-        counts,
-        widths,
-        out,
-    );
+    let total = make_calls(head, seed, loss, book);
+    let _ = publishing::publish(head, &book.as_book(), out);
     reporting::report(head, out, total)
 }
 
@@ -137,59 +70,15 @@ pub fn simulate(
     head: Head,
     seed: u32,
     loss: u32,
-    values: &mut [u32],
-    versions: &mut [u32],
-    statuses: &mut [u8],
-    holidays: &mut [u8],
-    readings: &mut [u32],
-    read_versions: &mut [u32],
-    agreed: &mut [u32],
-    agreed_versions: &mut [u32],
-    counts: &mut [u16],
-    widths: &mut [u16],
+    book: &mut BookMut<'_>,
     out: &mut [u8],
-) -> Simulated
-    ensures { let book = lent_book values.old versions.old statuses.old holidays.old readings.old
-        read_versions.old agreed.old agreed_versions.old counts.old widths.old in
-        (result ≡ simulate_answer head seed loss book out.old)
-        × (lent_book values.new versions.new statuses.new holidays.new readings.new read_versions.new
-        agreed.new agreed_versions.new counts.new widths.new
-        ≡ simulate_lists head seed loss book out.old)
-        × (out.new ≡ simulate_bytes head seed loss book out.old) }
+) -> Result<Report, Refusal>
+    ensures told { let before = written_book book.old in
+        (result ≡ simulate_answer head seed loss before out.old)
+        × (written_book book.new ≡ simulate_lists head seed loss before out.old)
+        × (out.new ≡ simulate_bytes head seed loss before out.old) }
+    ensures same { SameBook book.old book.new }
 {
-    let broken = refusing::refusal(
-        head,
-        seed,
-        loss,
-        values,
-        versions,
-        statuses,
-        holidays,
-        readings,
-        read_versions,
-        agreed,
-        agreed_versions,
-        counts,
-        widths,
-        out,
-    );
-    if broken != 0 {
-        return Simulated::Refused(broken);
-    }
-    Simulated::Run(run(
-        head,
-        seed,
-        loss,
-        values,
-        versions,
-        statuses,
-        holidays,
-        readings,
-        read_versions,
-        agreed,
-        agreed_versions,
-        counts,
-        widths,
-        out,
-    ))
+    refusing::refusal(head, seed, loss, &book.as_book(), out)?;
+    Ok(run(head, seed, loss, book, out))
 }

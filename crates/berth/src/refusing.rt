@@ -1,14 +1,16 @@
 // What a run is refused for, found before anything is written (02, W12).
 ghost use Rattle.std.specs.Prelude.{true, [], ◌∷◌, ◌≡◌, ltb, eqb, length};
-ghost use Rattle.base.specs.Refusals.{first_broken};
+ghost use Rattle.base.specs.Refusals.{tested};
 ghost use Rattle.base.specs.Refusals.Rule.{rule};
+ghost use Rattle.base.specs.declared.Refusal.TheVariants.{ShortBuffer, SeedZero, LossOver};
 ghost use Rattle.rules.specs.Opening.{head_ok};
 ghost use Rattle.book.specs.Cells.{book_fits};
-ghost use Rattle.book.specs.Lent.{lent_book};
+ghost use Rattle.book.specs.Lent.{book_in};
 ghost use Rattle.berth.specs.Run.{run_rules};
 ghost use Rattle.berth.specs.Inner.Refusing.{file_size};
 
-use book::lengths;
+use base::Refusal;
+use book::{Book, lengths};
 use rules::{Head, opening};
 
 // The length of the file of a run.
@@ -19,62 +21,34 @@ fn file_size(head: Head) -> usize
     6 * opening::slot_count(head) + 14 + 32
 }
 
-// 7, 20, 21, or 0.
-fn refusal_past_lengths(head: Head, seed: u32, loss: u32, room: usize) -> u8
+// 7, 20 or 21.
+fn refusal_past_lengths(head: Head, seed: u32, loss: u32, room: usize) -> Result<(), Refusal>
     requires { head_ok head ≡ true }
-    ensures { result ≡ first_broken (rule 7 (ltb room (file_size head)) ∷ rule 20 (eqb seed 0) ∷ rule 21 (ltb 1000 loss) ∷ []) }
+    ensures { result
+        ≡ tested (rule ShortBuffer (ltb room (file_size head)) ∷ rule SeedZero (eqb seed 0) ∷ rule LossOver (ltb 1000 loss) ∷ []) }
 {
     if room < file_size(head) {
-        return 7;
+        return Err(Refusal::ShortBuffer);
     }
     if seed == 0 {
-        return 20;
+        return Err(Refusal::SeedZero);
     }
     if 1000 < loss {
-        return 21;
+        return Err(Refusal::LossOver);
     }
-    0
+    Ok(())
 }
 
-// The lowest number that applies, or 0.
-pub fn refusal(
-    head: Head,
-    seed: u32,
-    loss: u32,
-    values: &[u32],
-    versions: &[u32],
-    statuses: &[u8],
-    holidays: &[u8],
-    readings: &[u32],
-    read_versions: &[u32],
-    agreed: &[u32],
-    agreed_versions: &[u32],
-    counts: &[u16],
-    widths: &[u16],
-    out: &[u8],
-) -> u8
-    ensures { let book = lent_book values.now versions.now statuses.now holidays.now readings.now
-        read_versions.now agreed.now agreed_versions.now counts.now widths.now in
-        result ≡ first_broken (run_rules head seed loss (book_fits head book) (length out.now)) }
+// The lowest number that applies.
+pub fn refusal(head: Head, seed: u32, loss: u32, book: &Book<'_>, out: &[u8]) -> Result<(), Refusal>
+    ensures { let b = book_in book.now in
+        result ≡ tested (run_rules head seed loss (book_fits head b) (length out.now)) }
 {
     if !opening::head_ok(head) {
-        return 1;
+        return Err(Refusal::OutsideBounds);
     }
-    let fit = lengths::book_fits(
-        head,
-        values.len(),
-        versions.len(),
-        statuses.len(),
-        holidays.len(),
-        readings.len(),
-        read_versions.len(),
-        agreed.len(),
-        agreed_versions.len(),
-        counts.len(),
-        widths.len(),
-    );
-    if !fit {
-        return 2;
+    if !lengths::lists_fit(head, book) {
+        return Err(Refusal::WrongLength);
     }
     refusal_past_lengths(head, seed, loss, out.len())
 }

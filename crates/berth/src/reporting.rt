@@ -30,8 +30,8 @@ pub fn report(head: Head, out: &[u8], total: u64) -> Report
     let state = fields::number(out, table + 12, 1) as u8;
     let published = fields::number(out, table + 34, 8);
     Report {
-        state: state,
+        state,
         difference: difference(published, total),
-        total: total,
+        total,
     }
 }

@@ -1,4 +1,5 @@
 -- Filing into cells and the plain book agree: the same answers, and the cells that the kept calls amount to.
+use Rattle.base.specs.declared.Refusal.TheVariants.{OutsideBounds}
 use mathlib.Core.Path.{◌≡◌, refl, sym, ap, ◌∙◌}
 use mathlib.Core.Bool.{Bool, true, false, cond, not, ◌&&◌}
 use mathlib.Core.List.{List, [], ◌∷◌}
@@ -85,9 +86,9 @@ against_agreed_lem h kept slot version value ok lt = simp up_to_at (rw (agreed_c
 
 -- where the lists fit, answers that are equal for a good head and a sound call are equal behind the rules
 behind : (h : Head) (c : Call) (fit : Bool) (a b : Answer) → fit ≡ true → (head_ok h ≡ true → Sound h c → a ≡ b)
-    → unless refused (input_rules h fit c) a ≡ unless refused (rule 1 (not (head_ok h)) ∷ argument_rules h c) b
+    → unless refused (input_rules h fit c) a ≡ unless refused (rule OutsideBounds (not (head_ok h)) ∷ argument_rules h c) b
 behind h c fit a b e same =
-    rw e (unless_same refused (rule 1 (not (head_ok h)) ∷ argument_rules h c) a b (λ u. same (not-false _ (u 0)) (sound h c u)))
+    rw e (unless_same refused (rule OutsideBounds (not (head_ok h)) ∷ argument_rules h c) a b (λ u. same (not-false _ (u 0)) (sound h c u)))
 
 -- the same answer to one call
 answer_agrees : (h : Head) (kept : List Call) (c : Call) → Kept h kept → answer h (lists_of h kept) c ≡ plain_answer h kept c

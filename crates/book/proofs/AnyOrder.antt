@@ -1,4 +1,6 @@
 -- Where no call of a list is answered 10, every list with the same calls amounts to the same book.
+use Rattle.base.specs.declared.Refusal.TheVariants.{Conflict}
+use Rattle.base.specs.declared.Refusal.TheVariants.{OutsideBounds}
 use mathlib.Core.Path.{◌≡◌, refl, sym, ap, subst, ◌∙◌}
 use mathlib.Core.Bool.{Bool, true, false, cond, not, ◌&&◌}
 use mathlib.Core.List.Memᴰ
@@ -26,21 +28,21 @@ use Rattle.book.proofs.Order.{Within, AsFar, as_far, same_book}
 
 -- a call whose arguments break no rule
 abbrev Valid : Head → Call → Type 0
-Valid h c = Unbroken (rule 1 (not (head_ok h)) ∷ argument_rules h c)
+Valid h c = Unbroken (rule OutsideBounds (not (head_ok h)) ∷ argument_rules h c)
 
 valid_answer : (h : Head) (kept : List Call) (c : Call) → Valid h c → plain_answer h kept c ≡ against_kept kept c
 unfolding plain_answer
-valid_answer h kept c u = unless_unbroken refused (rule 1 (not (head_ok h)) ∷ argument_rules h c) (against_kept kept c) u
+valid_answer h kept c u = unless_unbroken refused (rule OutsideBounds (not (head_ok h)) ∷ argument_rules h c) (against_kept kept c) u
 
 -- the version rule accepts or answers 10, and 10 only where the version is not above the highest
 decided : (before version : ℕ) (same : Bool)
-    → (is_accepted (by_version before version same) ≡ true) ⊎ ((by_version before version same ≡ refused 10) × (version ≤ before))
+    → (is_accepted (by_version before version same) ≡ true) ⊎ ((by_version before version same ≡ refused Conflict) × (version ≤ before))
 unfolding by_version
 decided before version same = go (ltb before version) (ltb version before) same refl
   where
     go : (a b s : Bool) → ltb before version ≡ a
-        → (is_accepted (cond a stored (cond b late (cond s repeat (refused 10)))) ≡ true)
-        ⊎ ((cond a stored (cond b late (cond s repeat (refused 10))) ≡ refused 10) × (version ≤ before))
+        → (is_accepted (cond a stored (cond b late (cond s repeat (refused Conflict)))) ≡ true)
+        ⊎ ((cond a stored (cond b late (cond s repeat (refused Conflict))) ≡ refused Conflict) × (version ≤ before))
     go true b s e = inl refl
     go false true s e = inl refl
     go false false true e = inl refl
@@ -72,13 +74,14 @@ covered_within (register boundary version reading width) kept other sub v = le_t
 covered_within (agreed slot version value) kept other sub v = le_trans v ((as_far kept other sub).agreed slot)
 
 -- against the kept calls a call is accepted, or answered 10 and covered
-against : (kept : List Call) (c : Call) → (is_accepted (against_kept kept c) ≡ true) ⊎ ((against_kept kept c ≡ refused 10) × Covered c kept)
+against : (kept : List Call) (c : Call)
+    → (is_accepted (against_kept kept c) ≡ true) ⊎ ((against_kept kept c ≡ refused Conflict) × Covered c kept)
 unfolding against_kept
 against kept (delivery slot version value status) =
     decided (slot_version kept slot) version (eqb (slot_content kept slot).value value && eqb (slot_content kept slot).status status)
 against kept (holiday day) = go (named day kept)
   where
-    go : (t : Bool) → (is_accepted (cond t repeat stored) ≡ true) ⊎ ((cond t repeat stored ≡ refused 10) × (named day kept ≡ true))
+    go : (t : Bool) → (is_accepted (cond t repeat stored) ≡ true) ⊎ ((cond t repeat stored ≡ refused Conflict) × (named day kept ≡ true))
     go true = inl refl
     go false = inl refl
 against kept (register boundary version reading width) =
@@ -123,7 +126,7 @@ module _ (h : Head) where
   unfolding plain_answer
   kept_valid [] c ok x'' = elim x'' [ ]
   kept_valid (d ∷ kept) c ok (Memᴰ.head e) =
-      rw e (unless_accepted (rule 1 (not (head_ok h)) ∷ argument_rules h d) (against_kept kept d) ok.0).1
+      rw e (unless_accepted (rule OutsideBounds (not (head_ok h)) ∷ argument_rules h d) (against_kept kept d) ok.0).1
   kept_valid (d ∷ kept) c ok (Memᴰ.tail m) = kept_valid kept c ok.1 m
 
   -- an accepted call is kept
@@ -147,7 +150,7 @@ module _ (h : Head) where
   covered kept (d ∷ cs) c (Memᴰ.tail m) u = covered (keep h kept d) cs c m u
 
   -- where no call is answered 10, every call that breaks no rule is kept
-  all_kept : (kept cs : List Call) → (Memᴰ (refused 10) (plain_answers h kept cs) → ⊥) → (c : Call) → Memᴰ c cs → Valid h c
+  all_kept : (kept cs : List Call) → (Memᴰ (refused Conflict) (plain_answers h kept cs) → ⊥) → (c : Call) → Memᴰ c cs → Valid h c
       → Memᴰ c (kept_of h kept cs)
   unfolding kept_of plain_answers
   all_kept kept [] free c x3 u = elim x3 [ ]
@@ -158,7 +161,7 @@ module _ (h : Head) where
       (against kept c)
   all_kept kept (d ∷ cs) free c (Memᴰ.tail m) u = all_kept (keep h kept d) cs (λ k. free (Memᴰ.tail k)) c m u
 
-  module _ (cs ds : List Call) (free : Memᴰ (refused 10) (plain_answers h [] cs) → ⊥) (sub : Within cs ds) (sup : Within ds cs) where
+  module _ (cs ds : List Call) (free : Memᴰ (refused Conflict) (plain_answers h [] cs) → ⊥) (sub : Within cs ds) (sup : Within ds cs) where
     among : (es : List Call) (c : Call) → Memᴰ c (kept_of h [] es) → Memᴰ c es × Valid h c
     among es c m = (
       ⊎_elim (λ k. absurd (Memᴰ.not-nil k)) (λ k. k) (kept_from [] es c m),

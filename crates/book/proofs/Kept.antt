@@ -1,4 +1,5 @@
 -- The kept calls: each was accepted when it came, so its arguments broke no rule.
+use Rattle.base.specs.declared.Refusal.TheVariants.{OutsideBounds}
 use mathlib.Core.Path.{◌≡◌, refl}
 use mathlib.Core.Bool.{Bool, true, false, cond, not, true≢false, false≢true}
 use mathlib.Core.List.{List, [], ◌∷◌, Memᴰ}
@@ -35,7 +36,7 @@ positive : (n : ℕ) → eqb n 0 ≡ false → 0 < n
 positive zero e = absurd (true≢false e)
 positive (suc n) e = omega arith
 
-pub sound : (h : Head) (c : Call) → Unbroken (rule 1 (not (head_ok h)) ∷ argument_rules h c) → Sound h c
+pub sound : (h : Head) (c : Call) → Unbroken (rule OutsideBounds (not (head_ok h)) ∷ argument_rules h c) → Sound h c
 unfolding argument_rules
 sound h (delivery slot version value status) u =
     (leb-false _ _ (u 1), positive version (u 2), ltb-false _ _ (u 3))
@@ -55,14 +56,14 @@ pub accepted : (h : Head) (kept : List Call) (c : Call) → is_accepted (plain_a
     → (plain_answer h kept c ≡ against_kept kept c) × Sound h c
 unfolding plain_answer
 accepted h kept c ok =
-    let r = unless_accepted (rule 1 (not (head_ok h)) ∷ argument_rules h c) (against_kept kept c) ok in
+    let r = unless_accepted (rule OutsideBounds (not (head_ok h)) ∷ argument_rules h c) (against_kept kept c) ok in
     (r.0, sound h c r.1)
 
 -- and that under a good head
 pub accepted_head : (h : Head) (kept : List Call) (c : Call) → is_accepted (plain_answer h kept c) ≡ true → head_ok h ≡ true
 unfolding plain_answer
 accepted_head h kept c ok =
-    not-false _ ((unless_accepted (rule 1 (not (head_ok h)) ∷ argument_rules h c) (against_kept kept c) ok).1 0)
+    not-false _ ((unless_accepted (rule OutsideBounds (not (head_ok h)) ∷ argument_rules h c) (against_kept kept c) ok).1 0)
 
 -- one call more, and a whole list more
 pub keep_kept : (h : Head) (kept : List Call) (c : Call) → Kept h kept → Kept h (keep h kept c)

@@ -1,4 +1,5 @@
 -- The highest version among what the kept calls say of a place, and the content that goes with it.
+use Rattle.base.specs.declared.Refusal.TheVariants.{Conflict}
 use mathlib.Core.Path.{◌≡◌, refl, sym, subst, ◌∙◌}
 use mathlib.Core.Bool.{Bool, true, false, cond, false≢true}
 use mathlib.Core.List.{List, [], ◌∷◌, Memᴰ}
@@ -25,14 +26,14 @@ pub data Ruled (before version : ℕ) (same : Bool) : Answer → Type 0 where
   above : before < version → Ruled before version same stored
   below : version < before → Ruled before version same late
   equal : version ≡ before → same ≡ true → Ruled before version same repeat
-  conflict : Ruled before version same (refused 10)
+  conflict : Ruled before version same (refused Conflict)
 
 pub ruled : (before version : ℕ) (same : Bool) → Ruled before version same (by_version before version same)
 unfolding by_version
 ruled before version same = go (ltb before version) (ltb version before) same refl refl refl
   where
     go : (a b s : Bool) → ltb before version ≡ a → ltb version before ≡ b → same ≡ s
-        → Ruled before version same (cond a stored (cond b late (cond s repeat (refused 10))))
+        → Ruled before version same (cond a stored (cond b late (cond s repeat (refused Conflict))))
     go true b s e d q = above (ltb-true _ _ e)
     go false true s e d q = below (ltb-true _ _ d)
     go false false true e d q = equal (le_antisymm (ltb-false _ _ e) (ltb-false _ _ d)) q

@@ -1,4 +1,5 @@
 -- The tests 1 and 2, which each filling call makes first: the head, and the lengths of its lists.
+use Rattle.base.specs.declared.Refusal.TheVariants.{WrongLength}
 use mathlib.Core.Bool.{Bool, true, false}
 use mathlib.Core.Path.{◌≡◌, sym, ◌∙◌}
 use Rattle.base.specs.Refusals.{unless}
@@ -17,7 +18,7 @@ pub fails : {r t : Bool} → r ≡ t → r ≡ false → t ≡ false
 fails e h = sym e ∙ h
 
 module _ (h : Head) (fit : Bool) (call : Call) (rest : Answer) where
-  pub refused_2 : head_ok h ≡ true → fit ≡ false → unless refused (input_rules h fit call) rest ≡ refused 2
+  pub refused_2 : head_ok h ≡ true → fit ≡ false → unless refused (input_rules h fit call) rest ≡ refused WrongLength
   refused_2 ok unfit = rw (ok, unfit)
 
   pub past_both : head_ok h ≡ true → fit ≡ true → unless refused (input_rules h fit call) rest ≡ unless refused (argument_rules h call) rest

@@ -1,4 +1,6 @@
 -- The calls that fill a book, and the rules that their arguments can break (01, Numbers of a refusal, from the input; 02, W1 and W10).
+use Rattle.base.specs.declared.Refusal.TheVariants.{NoPlace, VersionZero, StatusOver, ReadingOver, AgreedOver}
+use Rattle.base.specs.declared.Refusal.TheVariants.{WidthOver}
 use Rattle.std.specs.Prelude.{List, [], ◌∷◌, ℕ, leb, ltb, eqb}
 use Rattle.base.specs.Numbers.{eight_digits}
 use Rattle.base.specs.Refusals.{Rule}
@@ -30,9 +32,10 @@ call_meant (call.Agreed slot version value) = agreed slot version value
 -- 17 width over 9,999
 unfoldable pub argument_rules : Head → Call → List Rule
 argument_rules h (delivery slot version value status) =
-    rule 3 (leb (slot_count h) slot) ∷ rule 4 (eqb version 0) ∷ rule 5 (ltb 7 status) ∷ []
-argument_rules h (holiday day) = rule 3 (leb h.days day) ∷ []
+    rule NoPlace (leb (slot_count h) slot) ∷ rule VersionZero (eqb version 0) ∷ rule StatusOver (ltb 7 status) ∷ []
+argument_rules h (holiday day) = rule NoPlace (leb h.days day) ∷ []
 argument_rules h (register boundary version reading width) =
-    rule 3 (ltb h.days boundary) ∷ rule 4 (eqb version 0) ∷ rule 6 (ltb eight_digits reading) ∷ rule 17 (ltb most_width width) ∷ []
+    rule NoPlace (ltb h.days boundary) ∷ rule VersionZero (eqb version 0) ∷ rule ReadingOver (ltb eight_digits reading)
+    ∷ rule WidthOver (ltb most_width width) ∷ []
 argument_rules h (agreed slot version value) =
-    rule 3 (leb (slot_count h) slot) ∷ rule 4 (eqb version 0) ∷ rule 12 (ltb eight_digits value) ∷ []
+    rule NoPlace (leb (slot_count h) slot) ∷ rule VersionZero (eqb version 0) ∷ rule AgreedOver (ltb eight_digits value) ∷ []

@@ -1,4 +1,6 @@
 -- What the filling calls answer, and what they leave in the lists they are lent (01, The three calls that fill it; 02, W1, W6 and W10).
+use Rattle.base.specs.declared.Refusal.TheVariants.{ImpossibleCell}
+use Rattle.base.specs.declared.Refusal.TheVariants.{OutsideBounds, WrongLength}
 use Rattle.std.specs.Prelude.{Bool, not, cond, ◌&&◌, List, [], ◌∷◌, ℕ, ◌+◌, ◌/◌, leb, eqb, get_or, set}
 use Rattle.base.specs.Refusals.{Rule, unless}
 use Rattle.base.specs.Refusals.Rule.{rule}
@@ -14,25 +16,25 @@ use Rattle.book.specs.Contents.{Measured, DialRead, measured, dial_read, measure
 
 -- the rules from the input, where the lists that the call is lent fit or do not
 abbrev pub input_rules : Head → Bool → Call → List Rule
-input_rules h fit c = rule 1 (not (head_ok h)) ∷ rule 2 (not fit) ∷ argument_rules h c
+input_rules h fit c = rule OutsideBounds (not (head_ok h)) ∷ rule WrongLength (not fit) ∷ argument_rules h c
 
 -- a call against its own cell, which stands first: 11 goes before 10
 unfoldable pub against_slot : ℕ → Measured → ℕ → Measured → Answer
 against_slot old_version old version new =
-    cond (slot_fault old_version old.value old.status) (refused 11) (by_version old_version version (same_measured old new))
+    cond (slot_fault old_version old.value old.status) (refused ImpossibleCell) (by_version old_version version (same_measured old new))
 
 -- "A holiday is stored the first time, then repeat."
 unfoldable pub against_day : ℕ → Answer
-against_day cell = cond (day_fault cell) (refused 11) (cond (eqb cell 0) stored repeat)
+against_day cell = cond (day_fault cell) (refused ImpossibleCell) (cond (eqb cell 0) stored repeat)
 
 unfoldable pub against_boundary : ℕ → DialRead → ℕ → DialRead → Answer
 against_boundary old_version old version new =
-    cond (read_fault old_version old.reading old.width) (refused 11) (by_version old_version version (same_read old new))
+    cond (read_fault old_version old.reading old.width) (refused ImpossibleCell) (by_version old_version version (same_read old new))
 
 -- "by the version rule of a delivery" (02, W1)
 unfoldable pub against_agreed : ℕ → ℕ → ℕ → ℕ → Answer
 against_agreed old_version old_value version value =
-    cond (agreed_fault old_version old_value) (refused 11) (by_version old_version version (eqb old_value value))
+    cond (agreed_fault old_version old_value) (refused ImpossibleCell) (by_version old_version version (eqb old_value value))
 
 -- a stored call writes one place of a list; with any other answer nothing changes
 abbrev pub stored_in : Answer → List ℕ → ℕ → ℕ → List ℕ
@@ -45,7 +47,7 @@ is_full h old_version count = eqb old_version 0 && leb (slots_per_day h) count
 -- a delivery against its cell and its day's count
 unfoldable pub against_delivery : Head → Slots → List ℕ → ℕ → ℕ → ℕ → ℕ → Answer
 against_delivery h s counts slot version value status =
-    cond (is_full h (get_or s.versions slot 0) (get_or counts (slot / slots_per_day h) 0)) (refused 11)
+    cond (is_full h (get_or s.versions slot 0) (get_or counts (slot / slots_per_day h) 0)) (refused ImpossibleCell)
     (against_slot (get_or s.versions slot 0) (measured_at s slot) version (measured value status))
 
 -- a delivery

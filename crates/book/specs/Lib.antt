@@ -3,6 +3,7 @@ pub mod Arguments
 pub mod Cells
 pub mod Contents
 pub mod Lent
+pub mod Written
 pub mod Opening
 pub mod Filling
 pub mod Plain

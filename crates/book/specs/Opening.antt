@@ -1,4 +1,5 @@
 -- Opening a book (01, Opening; 02, W1, W6 and W10).
+use Rattle.base.specs.declared.Refusal.TheVariants.{OutsideBounds, WrongLength}
 use Rattle.std.specs.Prelude.{not, List, [], ◌∷◌, suc, replicate}
 use Rattle.base.specs.Refusals.{Rule, unless}
 use Rattle.base.specs.Refusals.Rule.{rule}
@@ -24,7 +25,7 @@ opened h = record {
 
 -- "Opening answers done": 1 and 2 alone can refuse it
 abbrev pub open_rules : Head → Book → List Rule
-open_rules h b = rule 1 (not (head_ok h)) ∷ rule 2 (not (book_fits h b)) ∷ []
+open_rules h b = rule OutsideBounds (not (head_ok h)) ∷ rule WrongLength (not (book_fits h b)) ∷ []
 
 unfoldable pub open_answer : Head → Book → Answer
 open_answer h b = unless refused (open_rules h b) done

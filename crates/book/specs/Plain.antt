@@ -1,4 +1,5 @@
 -- What a list of calls amounts to, from the head and the calls' arguments alone (01, The plain book; 02, W1, W6 and W10).
+use Rattle.base.specs.declared.Refusal.TheVariants.{OutsideBounds}
 use Rattle.std.specs.Prelude.{Bool, false, not, cond, ◌||◌, List, [], ◌∷◌, ℕ, suc, max, ◌*◌, ltb, eqb}
 use Rattle.base.specs.Lists.{sum, up_to}
 use Rattle.base.specs.Refusals.{unless}
@@ -95,7 +96,7 @@ against_kept kept (agreed slot version value) =
     by_version (agreed_version kept slot) version (eqb (agreed_content kept slot) value)
 
 unfoldable pub plain_answer : Head → List Call → Call → Answer
-plain_answer h kept c = unless refused (rule 1 (not (head_ok h)) ∷ argument_rules h c) (against_kept kept c)
+plain_answer h kept c = unless refused (rule OutsideBounds (not (head_ok h)) ∷ argument_rules h c) (against_kept kept c)
 
 -- "A refused call isn't kept, every other is": the newest stands first
 unfoldable pub keep : Head → List Call → Call → List Call

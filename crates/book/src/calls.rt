@@ -3,9 +3,11 @@ ghost use Rattle.std.specs.Prelude.{◌≡◌};
 ghost use Rattle.book.specs.Answers.{received_meant};
 ghost use Rattle.book.specs.Arguments.{call_meant};
 ghost use Rattle.book.specs.Filling.{answer, after};
-ghost use Rattle.book.specs.Lent.{lent_book};
+ghost use Rattle.book.specs.Written.{written_book, SameBook};
 
-use crate::Received;
+use crate::Filed;
+use crate::lent::{AgreedMut, BookMut, ReadsMut, SlotsMut};
+use base::Refusal;
 use rules::Head;
 
 #[derive(Clone, Copy)]
@@ -30,27 +32,11 @@ pub enum Call {
     },
 }
 
-pub fn make(
-    head: Head,
-    values: &mut [u32],
-    versions: &mut [u32],
-    statuses: &mut [u8],
-    holidays: &mut [u8],
-    readings: &mut [u32],
-    read_versions: &mut [u32],
-    agreed: &mut [u32],
-    agreed_versions: &mut [u32],
-    counts: &mut [u16],
-    widths: &mut [u16],
-    call: Call,
-) -> Received
-    ensures { let book =
-        lent_book values.old versions.old statuses.old holidays.old readings.old read_versions.old
-        agreed.old agreed_versions.old counts.old widths.old in
-        (received_meant result ≡ answer head book (call_meant call))
-        × (lent_book values.new versions.new statuses.new holidays.new readings.new read_versions.new
-        agreed.new agreed_versions.new counts.new widths.new
-        ≡ after head book (call_meant call)) }
+pub fn make(head: Head, book: &mut BookMut<'_>, call: Call) -> Result<Filed, Refusal>
+    ensures told { let before = written_book book.old in
+        (received_meant result ≡ answer head before (call_meant call))
+        × (written_book book.new ≡ after head before (call_meant call)) }
+    ensures same { SameBook book.old book.new }
 {
     match call {
         Call::Delivery {
@@ -58,29 +44,38 @@ pub fn make(
             version,
             value,
             status,
-        } => crate::deliver(
-            head, values, versions, statuses, counts, slot, version, value, status,
-        ),
-        Call::Holiday(day) => crate::holiday(head, holidays, day),
+        } => {
+            let mut slots = SlotsMut {
+                values: book.values,
+                versions: book.versions,
+                statuses: book.statuses,
+            };
+            crate::deliver(head, &mut slots, book.counts, slot, version, value, status)
+        }
+        Call::Holiday(day) => crate::holiday(head, book.holidays, day),
         Call::Register {
             boundary,
             version,
             reading,
             width,
-        } => crate::register(
-            head,
-            readings,
-            read_versions,
-            widths,
-            boundary,
-            version,
-            reading,
-            width,
-        ),
+        } => {
+            let mut reads = ReadsMut {
+                readings: book.readings,
+                read_versions: book.read_versions,
+                widths: book.widths,
+            };
+            crate::register(head, &mut reads, boundary, version, reading, width)
+        }
         Call::Agreed {
             slot,
             version,
             value,
-        } => crate::agree(head, agreed, agreed_versions, slot, version, value),
+        } => {
+            let mut agreed = AgreedMut {
+                values: book.agreed,
+                versions: book.agreed_versions,
+            };
+            crate::agree(head, &mut agreed, slot, version, value)
+        }
     }
 }

@@ -1,12 +1,14 @@
 // A delivery past the rules from its input: its cells and its day's count (01, The three calls that fill it; 02, W6).
 ghost use Rattle.std.specs.Prelude.{true, false, cond, ◌≡◌, ◌+◌, ◌/◌, eqb};
 ghost use Rattle.rules.specs.Opening.{head_ok, slots_per_day};
-ghost use Rattle.rules.specs.Lent.{lent_slots};
 ghost use Rattle.book.specs.Answers.{received_meant};
 ghost use Rattle.book.specs.Filling.{is_full, against_delivery, slots_with, counts_with};
+ghost use Rattle.book.specs.Written.{written_slots, SameSlots};
 ghost use Rattle.book.specs.Inner.Lent.{Deliverable};
 
-use crate::{Received, filing};
+use crate::lent::SlotsMut;
+use crate::{Filed, filing};
+use base::Refusal;
 use rules::{Head, opening};
 
 // A first delivery finds n or more delivered in its day.
@@ -33,42 +35,40 @@ fn raised(head: Head, version: u32, count: u16) -> u16
 
 pub fn file_delivery(
     head: Head,
-    values: &mut [u32],
-    versions: &mut [u32],
-    statuses: &mut [u8],
+    slots: &mut SlotsMut<'_>,
     counts: &mut [u16],
     slot: usize,
     version: u32,
     value: u32,
     status: u8,
-) -> Received
-    requires { Deliverable head (lent_slots values.old versions.old statuses.old) counts.old slot }
-    ensures { let slots = lent_slots values.old versions.old statuses.old in
-        let found = against_delivery head slots counts.old slot version value status in
+) -> Result<Filed, Refusal>
+    requires { Deliverable head (written_slots slots.old) counts.old slot }
+    ensures told { let before = written_slots slots.old in
+        let found = against_delivery head before counts.old slot version value status in
         (received_meant result ≡ found)
-        × (lent_slots values.new versions.new statuses.new
-        ≡ slots_with found slots slot version value status)
-        × (counts.new ≡ counts_with found versions.old counts.old slot (slot / slots_per_day head)) }
+        × (written_slots slots.new ≡ slots_with found before slot version value status)
+        × (counts.new ≡ counts_with found before.versions counts.old slot (slot / slots_per_day head)) }
+    ensures same { SameSlots slots.old slots.new }
 {
     let day = opening::day_of(head, slot);
-    let old_version = versions[slot];
+    let old_version = slots.versions[slot];
     let count = counts[day];
     if is_full(head, old_version, count) {
-        return Received::Refused(11);
+        return Err(Refusal::ImpossibleCell);
     }
-    let old_status = statuses[slot];
+    let old_status = slots.statuses[slot];
     let found = filing::against_slot(
         old_version,
-        values[slot],
+        slots.values[slot],
         old_status,
         version,
         value,
         status,
     );
     if filing::is_stored(found) {
-        values[slot] = value;
-        versions[slot] = version;
-        statuses[slot] = status;
+        slots.values[slot] = value;
+        slots.versions[slot] = version;
+        slots.statuses[slot] = status;
         counts[day] = raised(head, old_version, count);
     }
     found

@@ -4,27 +4,13 @@ ghost use Rattle.book.specs.Answers.{received_meant, is_stored};
 ghost use Rattle.book.specs.Filling.{against_slot, against_day, against_boundary, against_agreed};
 ghost use Rattle.book.specs.Contents.{measured, dial_read};
 
-use crate::{Received, cells, versions};
-use base::EIGHT_DIGITS;
+use crate::{Filed, cells, versions};
+use base::{EIGHT_DIGITS, Refusal};
 
-pub fn is_stored(found: Received) -> bool
+pub fn is_stored(found: Result<Filed, Refusal>) -> bool
     ensures { result ≡ is_stored (received_meant found) }
 {
-    match found {
-        Received::Stored => true,
-        Received::Late => false,
-        Received::Repeat => false,
-        Received::Refused(_) => false,
-    }
-}
-
-fn is_same(old_value: u32, old_status: u8, value: u32, status: u8) -> bool
-    ensures { result ≡ (eqb old_value value && eqb old_status status) }
-{
-    if old_value != value {
-        return false;
-    }
-    old_status == status
+    matches!(found, Ok(Filed::Stored))
 }
 
 pub fn against_slot(
@@ -34,35 +20,26 @@ pub fn against_slot(
     version: u32,
     value: u32,
     status: u8,
-) -> Received
+) -> Result<Filed, Refusal>
     ensures { received_meant result ≡ against_slot old_version (measured old_value old_status) version (measured value status) }
 {
     if cells::slot_fault(old_version, old_value, old_status) {
-        return Received::Refused(11);
+        return Err(Refusal::ImpossibleCell);
     }
-    let same = is_same(old_value, old_status, value, status);
+    let same = (old_value, old_status) == (value, status);
     versions::by_version(old_version, version, same)
 }
 
-pub fn against_day(cell: u8) -> Received
+pub fn against_day(cell: u8) -> Result<Filed, Refusal>
     ensures { received_meant result ≡ against_day cell }
 {
     if cells::day_fault(cell) {
-        return Received::Refused(11);
+        return Err(Refusal::ImpossibleCell);
     }
     if cell == 0 {
-        return Received::Stored;
+        return Ok(Filed::Stored);
     }
-    Received::Repeat
-}
-
-fn is_same_read(old_reading: u32, old_width: u16, reading: u32, width: u32) -> bool
-    ensures { result ≡ (eqb old_reading reading && eqb old_width width) }
-{
-    if old_reading != reading {
-        return false;
-    }
-    old_width as u32 == width
+    Ok(Filed::Repeat)
 }
 
 pub fn against_boundary(
@@ -72,21 +49,26 @@ pub fn against_boundary(
     version: u32,
     reading: u32,
     width: u32,
-) -> Received
+) -> Result<Filed, Refusal>
     ensures { received_meant result ≡ against_boundary old_version (dial_read old_reading old_width) version (dial_read reading width) }
 {
     if cells::read_fault(old_version, old_reading, old_width) {
-        return Received::Refused(11);
+        return Err(Refusal::ImpossibleCell);
     }
-    let same_read = is_same_read(old_reading, old_width, reading, width);
+    let same_read = (old_reading, old_width as u32) == (reading, width);
     versions::by_version(old_version, version, same_read)
 }
 
-pub fn against_agreed(old_version: u32, old_value: u32, version: u32, value: u32) -> Received
+pub fn against_agreed(
+    old_version: u32,
+    old_value: u32,
+    version: u32,
+    value: u32,
+) -> Result<Filed, Refusal>
     ensures { received_meant result ≡ against_agreed old_version old_value version value }
 {
     if cells::number_fault(EIGHT_DIGITS, old_version, old_value) {
-        return Received::Refused(11);
+        return Err(Refusal::ImpossibleCell);
     }
     versions::by_version(old_version, version, old_value == value)
 }

@@ -1,9 +1,11 @@
 // The lengths of lent lists (01, Numbers of a refusal, 2).
 ghost use Rattle.std.specs.Prelude.{true, ◌&&◌, [], ◌∷◌, ◌≡◌, suc};
-ghost use Rattle.base.specs.Lists.{every};
 ghost use Rattle.rules.specs.Opening.{head_ok, slot_count};
-ghost use Rattle.book.specs.Cells.{all_long};
+ghost use Rattle.base.specs.Lists.{every};
+ghost use Rattle.book.specs.Cells.{all_long, book_fits};
+ghost use Rattle.book.specs.Lent.{book_in};
 
+use crate::Book;
 use rules::{Head, opening};
 
 pub fn slots_fit(head: Head, values: usize, versions: usize, statuses: usize) -> bool
@@ -140,4 +142,27 @@ pub fn book_fits(
         return false;
     }
     days_fit(head, counts)
+}
+
+// All ten lent lists.
+pub fn lists_fit(head: Head, book: &Book<'_>) -> bool
+    requires { head_ok head ≡ true }
+    ensures { result ≡ book_fits head (book_in book.now) }
+{
+    let cells = book.cells;
+    let slots = cells.slots;
+    let agreed = cells.agreed;
+    book_fits(
+        head,
+        slots.values.len(),
+        slots.versions.len(),
+        slots.statuses.len(),
+        cells.holidays.len(),
+        cells.readings.len(),
+        cells.read_versions.len(),
+        agreed.values.len(),
+        agreed.versions.len(),
+        book.counts.len(),
+        cells.widths.len(),
+    )
 }

@@ -1,39 +1,39 @@
 // An agreed call past its head and its lists' lengths (02, W1).
 ghost use Rattle.std.specs.Prelude.{◌≡◌, length};
-ghost use Rattle.rules.specs.Lent.{lent_agreed};
 ghost use Rattle.book.specs.Answers.{received_meant};
+ghost use Rattle.book.specs.Written.{written_agreed, SameAgreed};
 ghost use Rattle.book.specs.Inner.Numbers.{number_answer, number_after};
 
-use crate::{Received, filing};
-use base::EIGHT_DIGITS;
+use crate::lent::AgreedMut;
+use crate::{Filed, filing};
+use base::{EIGHT_DIGITS, Refusal};
 
 pub fn file_number(
-    numbers: &mut [u32],
-    versions: &mut [u32],
+    agreed: &mut AgreedMut<'_>,
     place: u32,
     version: u32,
     number: u32,
-) -> Received
-    requires { length versions.old ≡ length numbers.old }
-    ensures { let lent = lent_agreed numbers.old versions.old in
-        (received_meant result ≡ number_answer lent place version number)
-        × (lent_agreed numbers.new versions.new
-        ≡ number_after lent place version number) }
+) -> Result<Filed, Refusal>
+    requires { length agreed.old.versions.now ≡ length agreed.old.values.now }
+    ensures told { let before = written_agreed agreed.old in
+        (received_meant result ≡ number_answer before place version number)
+        × (written_agreed agreed.new ≡ number_after before place version number) }
+    ensures same { SameAgreed agreed.old agreed.new }
 {
     let at = place as usize;
-    if numbers.len() <= at {
-        return Received::Refused(3);
+    if agreed.values.len() <= at {
+        return Err(Refusal::NoPlace);
     }
     if version == 0 {
-        return Received::Refused(4);
+        return Err(Refusal::VersionZero);
     }
     if EIGHT_DIGITS < number {
-        return Received::Refused(12);
+        return Err(Refusal::AgreedOver);
     }
-    let found = filing::against_agreed(versions[at], numbers[at], version, number);
+    let found = filing::against_agreed(agreed.versions[at], agreed.values[at], version, number);
     if filing::is_stored(found) {
-        numbers[at] = number;
-        versions[at] = version;
+        agreed.values[at] = number;
+        agreed.versions[at] = version;
     }
     found
 }

@@ -2,19 +2,20 @@
 ghost use Rattle.std.specs.Prelude.{◌≡◌};
 ghost use Rattle.book.specs.Answers.{received_meant, by_version};
 
-use crate::Received;
+use crate::Filed;
+use base::Refusal;
 
-pub fn by_version(before: u32, version: u32, same: bool) -> Received
+pub fn by_version(before: u32, version: u32, same: bool) -> Result<Filed, Refusal>
     ensures { received_meant result ≡ by_version before version same }
 {
     if before < version {
-        return Received::Stored;
+        return Ok(Filed::Stored);
     }
     if version < before {
-        return Received::Late;
+        return Ok(Filed::Late);
     }
     if same {
-        return Received::Repeat;
+        return Ok(Filed::Repeat);
     }
-    Received::Refused(10)
+    Err(Refusal::Conflict)
 }

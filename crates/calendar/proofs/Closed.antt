@@ -4,7 +4,7 @@ use mathlib.Core.Path.{◌≡◌, refl}
 use Prim.Native.Nat.{ℕ, ◌+◌, ◌-◌, ◌*◌, ◌/◌, ◌≤◌, ◌<◌}
 use native.Mathlib.Omega.{arith}
 use lib.Dec.{eqb}
-use lib.ListN.{get_or}
+use lib.ListN.{get_or, get_or-eq_default}
 use Rattle.base.specs.Lists.{sum}
 use Rattle.calendar.specs.Calendar.{leap, month_lengths, month_length, year_length, days_before_year}
 use Rattle.calendar.proofs.Table.{agreed, both_agreed}
@@ -19,6 +19,13 @@ length_of b m = cond (eqb m 2) (cond b 29 28) (cond (eqb m 4 || eqb m 6 || eqb m
 pub month_length_lem : (y m : ℕ) → m < 13 → month_length y m ≡ length_of (leap y) m
 unfolding month_length month_lengths
 month_length_lem y m h = both_agreed (λ b m. get_or (month_lengths b) (m - 1) 0) length_of 13 refl (leap y) m h
+
+-- a month past December has no days
+pub no_month : (y m : ℕ) → 13 ≤ m → month_length y m ≡ 0
+unfolding month_length month_lengths
+no_month y m h =
+    let past : 12 ≤ m - 1 = omega arith in
+    get_or-eq_default (month_lengths (leap y)) 0 past
 
 -- every month has 28 days
 pub at_least_28 : (y m : ℕ) → m < 13 → 28 ≤ month_length y m

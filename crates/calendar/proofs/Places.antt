@@ -36,6 +36,13 @@ module _ (f : ℕ → ℕ) where
       let e : end - a ≡ suc (end - suc a) = omega arith in
       rw (e, add-one) (place_on (end - suc a) a n h)
 
+  -- where the loop has come there
+  pub place_end : (end a n : ℕ) → a ≡ end → place f (end - a) a n ≡ record { at = end; left = n }
+  unfolding place
+  place_end end a n e =
+      let z : end - a ≡ 0 = omega arith in
+      rw (z, e)
+
   pub left_small : (k a n : ℕ) → (place f k a n).left ≤ n
   unfolding place
   left_small zero a n = le_refl n

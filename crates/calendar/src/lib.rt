@@ -14,6 +14,9 @@ const MONTH_STARTS: [[u32; 12]; 2] = [
     [0, 31, 60, 91, 121, 152, 182, 213, 244, 274, 305, 335],
 ];
 
+// Every month has as many days.
+const SHORTEST_MONTH: u32 = 28;
+
 #[derive(Clone, Copy)]
 pub struct Date {
     pub year: u32,
@@ -28,72 +31,46 @@ struct Place {
     left: u32,
 }
 
+#[tactic(auto, unfolding(crate::specs::Calendar::leap))]
 pub fn is_leap(year: u32) -> bool
     ensures { result ≡ leap year }
 {
-    if year % 4 != 0 {
-        return false;
-    }
-    if year % 100 != 0 {
-        return true;
-    }
-    year % 400 == 0
+    year % 4 == 0 && (year % 100 != 0 || year % 400 == 0)
 }
 
+#[tactic(auto, unfolding(crate::specs::Calendar::year_length))]
 fn year_length(year: u32) -> u32
     ensures { result ≡ year_length year }
 {
-    if is_leap(year) {
-        return 366;
-    }
-    365
+    if is_leap(year) { 366 } else { 365 }
 }
 
 // No date has month 0 or a month above 12: they are answered as the definition does.
+#[tactic(auto, using(crate::proofs::Closed::month_length_lem, crate::proofs::Closed::no_month))]
 pub fn month_length(year: u32, month: u32) -> u32
     ensures { result ≡ month_length year month }
 {
-    if 12 < month {
-        return 0;
-    }
     match month {
-        2 => {
-            if is_leap(year) {
-                return 29;
-            }
-            28
-        }
+        2 if is_leap(year) => 29,
+        2 => 28,
         4 | 6 | 9 | 11 => 30,
-        _ => 31,
+        0..=12 => 31,
+        _ => 0,
     }
 }
 
+#[tactic(auto, using(crate::proofs::Closed::at_least_28), unfolding(crate::specs::Calendar::is_date))]
 pub fn is_date(year: u32, month: u32, day: u32) -> bool
     ensures { result ≡ is_date year month day }
 {
-    if year < 2000 {
+    if !(2000..=2099).contains(&year) || !(1..=12).contains(&month) {
         return false;
     }
-    if 2099 < year {
-        return false;
-    }
-    if month < 1 {
-        return false;
-    }
-    if 12 < month {
-        return false;
-    }
-    if day < 1 {
-        return false;
-    }
-    // every month has 28 days
-    if day <= 28 {
-        return true;
-    }
-    day <= month_length(year, month)
+    1 <= day && (day <= SHORTEST_MONTH || day <= month_length(year, month))
 }
 
 // The days of the years from 2000 to the one before `year`: 2000 and every fourth after it are leap years.
+#[tactic(auto, using(crate::proofs::Closed::years_before))]
 pub fn days_before_year(year: u32) -> u32
     requires { (2000 ≤ year) × (year ≤ 2099) }
     ensures { result ≡ days_before_year (year - 2000) }
@@ -111,6 +88,7 @@ pub fn days_before_month(year: u32, month: u32) -> u32
     MONTH_STARTS[row][column]
 }
 
+#[tactic(auto, using(crate::proofs::Bounds::bounded, crate::proofs::Dates::last_day), unfolding(crate::specs::Calendar::day_number))]
 pub fn day_number(year: u32, month: u32, day: u32) -> u32
     requires { is_date year month day ≡ true }
     ensures { result ≡ day_number year month day }
@@ -122,42 +100,39 @@ pub fn day_number(year: u32, month: u32, day: u32) -> u32
 fn year_at(number: u32) -> Place
     ensures { result ≡ place year_length 99 2000 number }
 {
-    let mut at: u32 = 2000;
     let mut left = number;
-    while at < 2099 {
+    for at in 2000..2099 {
         let length = year_length(at);
         if left < length {
-            return Place { at: at, left: left };
+            return Place { at, left };
         }
         left -= length;
-        at += 1;
     }
-    Place { at: at, left: left }
+    Place { at: 2099, left }
 }
 
 // The month of a day of the year: the last that starts on it or before.
 fn month_at(year: Place) -> Place
     ensures { result ≡ place (month_length year.at) 11 1 year.left }
 {
-    let mut at: u32 = 1;
-    let mut start: u32 = 0;
-    while at < 12 {
+    let mut start = 0;
+    for at in 1..12 {
         let next = days_before_month(year.at, at + 1);
         if year.left < next {
             return Place {
-                at: at,
+                at,
                 left: year.left - start,
             };
         }
         start = next;
-        at += 1;
     }
     Place {
-        at: at,
+        at: 12,
         left: year.left - start,
     }
 }
 
+#[tactic(auto, using(crate::proofs::Places::left_small), unfolding(crate::specs::Calendar::date_of))]
 pub fn date_of(number: u32) -> Date
     requires { number < day_count }
     ensures { result ≡ date_of number }
@@ -180,13 +155,13 @@ pub fn weekday(number: u32) -> u32
 }
 
 // The days back to the nearest Sunday strictly before a day.
+#[tactic(auto, unfolding(crate::specs::Calendar::to_sunday))]
 pub fn to_sunday(number: u32) -> u32
     requires { number < day_count }
     ensures { result ≡ to_sunday number }
 {
-    let past = weekday(number);
-    if past == 0 {
-        return 7;
+    match weekday(number) {
+        0 => 7,
+        past => past,
     }
-    past
 }

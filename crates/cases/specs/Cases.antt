@@ -1,12 +1,14 @@
 -- 01's starred cases and those of 02, as one table: `Starred`, proved by `cases_hold`, which computes it.
+use Rattle.base.specs.declared.Refusal.TheVariants.{OutsideBounds}
 use Rattle.std.specs.Prelude.{◌≡◌, ℕ, ◌-◌, ◌*◌, Bool, true, false, not, ◌&&◌, List, [], ◌∷◌, ◌++◌, replicate, ◌==◌, nat_eq}
+use Rattle.std.specs.Prelude.{Option, None, Some}
 use Rattle.base.specs.Lists.{every, sum_of}
 use Rattle.calendar.specs.Calendar.{day_number}
 use Rattle.rules.specs.declared.Head.{Head}
 use Rattle.rules.specs.declared.Outcome.{Outcome}
 use Rattle.rules.specs.declared.Quality.{Quality}
 use Rattle.rules.specs.declared.tests.Cause.{Cause}
-use Rattle.rules.specs.declared.tests.Cause.TheVariants.{Nothing, Demand}
+use Rattle.rules.specs.declared.tests.Cause.TheVariants.{Demand}
 use Rattle.rules.specs.Opening.{Slots, Cells}
 use Rattle.rules.specs.Tests.{cause_at}
 use Rattle.rules.specs.Filling.{is_linear, linear_value, is_reference, references, mean_of, from_references, shape_of, shape_at}
@@ -26,7 +28,7 @@ head_of interval limit =
     record { year = 2024; month = 5; day = 1; days = 1; interval = interval; limit = limit; tolerance = 0 }
 
 -- the cause of a delivery of this value with status 0
-abbrev pub cause_for : ℕ → ℕ → ℕ → Cause
+abbrev pub cause_for : ℕ → ℕ → ℕ → Option Cause
 cause_for limit interval value =
     cause_at (head_of interval limit) (record { values = value ∷ []; versions = 1 ∷ []; statuses = 0 ∷ [] }) 0
 
@@ -170,10 +172,10 @@ cases =
 
 -- all of them: those of the demand limit and of opening by the cause and by the answer
 pub record Starred : Type 0 where
-  pub kind1 : (cause_for 40000 30 20000 ≡ Nothing) × (cause_for 40000 30 20001 ≡ Demand)
-  pub kind1_five : (cause_for 40000 5 3333 ≡ Nothing) × (cause_for 40000 5 3334 ≡ Demand)
-  pub kind2 : (cause_for 70000 30 30000 ≡ Nothing) × (cause_for 70000 30 40000 ≡ Demand)
-  pub no_day : opening (head_on 2001 2 29 1) ≡ refused 1
+  pub kind1 : (cause_for 40000 30 20000 ≡ None) × (cause_for 40000 30 20001 ≡ Some Demand)
+  pub kind1_five : (cause_for 40000 5 3333 ≡ None) × (cause_for 40000 5 3334 ≡ Some Demand)
+  pub kind2 : (cause_for 70000 30 30000 ≡ None) × (cause_for 70000 30 40000 ≡ Some Demand)
+  pub no_day : opening (head_on 2001 2 29 1) ≡ refused OutsideBounds
   pub last_day : opening (head_on 2099 12 31 1) ≡ done
-  pub day_after : opening (head_on 2099 12 31 2) ≡ refused 1
+  pub day_after : opening (head_on 2099 12 31 2) ≡ refused OutsideBounds
   pub others : every cases ≡ true

@@ -1,11 +1,12 @@
 -- 01's whole case and days like it, in the bytes of a file: `WholeCase`, proved by `whole_case`, which computes it.
-use Rattle.std.specs.Prelude.{◌≡◌, ℕ, List, [], ◌∷◌, ◌++◌, replicate}
+use Rattle.base.specs.declared.Refusal.TheVariants.{WrongContent}
+use Rattle.base.specs.declared.Refusal.{Refusal}
+use Rattle.std.specs.Prelude.{◌≡◌, ℕ, List, [], ◌∷◌, ◌++◌, replicate, Result, Ok, Err}
 use Rattle.rules.specs.declared.Outcome.{Outcome}
 use Rattle.rules.specs.declared.Quality.TheVariants.{A, S, F}
 use Rattle.rules.specs.declared.Span.{Span}
-use Rattle.file.specs.declared.Verdict.{Verdict}
-use Rattle.file.specs.declared.Verdict.TheVariants.{Accepted, Refused}
 use Rattle.file.specs.Layout.{Content, row, trailer_row, figures_of, file_of}
+use Rattle.file.specs.declared.Figures.{Figures}
 use Rattle.file.specs.Reader.{read_file}
 
 -- 2024-05-01, day 8,887, in a layout, with spans; all slots but slot 10 are delivered
@@ -36,9 +37,9 @@ abbrev pub scaled_day : Span
 scaled_day = record { first = 0; last = 1; lowest = 4790; highest = 4800; state = 1 }
 
 -- the reader accepts such a day, with these figures
-abbrev pub accepted : ℕ → ℕ → ℕ → Verdict
+abbrev pub accepted : ℕ → ℕ → ℕ → Result Figures Refusal
 accepted layout spans sum =
-    Accepted (record {
+    Ok (record {
       first = 8887;
       days = 1;
       interval = 30;
@@ -57,6 +58,6 @@ pub record WholeCase : Type 0 where
   pub whole : read_file (file_of (day_with 3 filled [])) ≡ accepted 3 0 4800
   -- an F counts with S, and goes with layout 2 and not with layout 1 (02, W1)
   pub in_two : read_file (file_of (day_with 2 agreed [])) ≡ accepted 2 0 100_004_699
-  pub in_one : read_file (file_of (day_with 1 agreed [])) ≡ Refused 9
+  pub in_one : read_file (file_of (day_with 1 agreed [])) ≡ Err WrongContent
   -- a scaled span's sum lies between lowest and highest (02, W10)
   pub ranged : read_file (file_of (day_with 3 scaled (scaled_day ∷ []))) ≡ accepted 3 1 4800

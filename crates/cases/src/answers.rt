@@ -1,15 +1,13 @@
 // Cases that are told by the answers of the calls.
 use crate::{books, say};
+use book::lent::{AgreedMut, SlotsMut};
 use rules::limits;
-use rules::limits::Loaded;
 use std::io;
 
 // Makes a delivery to a day and writes the answer.
 fn deliver(
     rt: &impl Print,
-    values: &mut [u32],
-    versions: &mut [u32],
-    statuses: &mut [u8],
+    slots: &mut SlotsMut<'_>,
     counts: &mut [u16],
     slot: u32,
     version: u32,
@@ -19,28 +17,19 @@ fn deliver(
     let head = books::head_of(1, 30, 1);
     say::answer(
         rt,
-        book::deliver(
-            head, values, versions, statuses, counts, slot, version, value, status,
-        ),
+        book::deliver(head, slots, counts, slot, version, value, status),
     )
 }
 
 // Delivers slot 10, each call a version and a value.
 fn deliver_each(
     rt: &impl Print,
-    values: &mut [u32],
-    versions: &mut [u32],
-    statuses: &mut [u8],
+    slots: &mut SlotsMut<'_>,
     counts: &mut [u16],
-    calls: &[[u32; 2]],
+    calls: &[(u32, u32)],
 ) -> io::Result<()> {
-    let mut i = 0;
-    while i < calls.len() {
-        let call = calls[i];
-        deliver(
-            rt, values, versions, statuses, counts, 10, call[0], call[1], 0,
-        )?;
-        i += 1;
+    for (version, value) in calls {
+        deliver(rt, slots, counts, 10, *version, *value, 0)?;
     }
     Ok(())
 }
@@ -52,16 +41,14 @@ pub fn late(rt: &impl Print) -> io::Result<()> {
     let mut versions = [0u32; 48];
     let mut statuses = [0u8; 48];
     let mut counts = [0u16; 1];
-    let calls = [[2, 100], [1, 900], [2, 100], [2, 900]];
+    let calls = [(2, 100), (1, 900), (2, 100), (2, 900)];
+    let mut slots = SlotsMut {
+        values: &mut values,
+        versions: &mut versions,
+        statuses: &mut statuses,
+    };
     say::text(rt, b"late as a refusal:")?;
-    deliver_each(
-        rt,
-        &mut values,
-        &mut versions,
-        &mut statuses,
-        &mut counts,
-        &calls,
-    )?;
+    deliver_each(rt, &mut slots, &mut counts, &calls)?;
     say::text(rt, b"\n")
 }
 
@@ -71,17 +58,12 @@ fn refuse(rt: &impl Print, slot: u32, version: u32) -> io::Result<()> {
     let mut versions = [0u32; 48];
     let mut statuses = [0u8; 48];
     let mut counts = [0u16; 1];
-    deliver(
-        rt,
-        &mut values,
-        &mut versions,
-        &mut statuses,
-        &mut counts,
-        slot,
-        version,
-        100,
-        8,
-    )
+    let mut slots = SlotsMut {
+        values: &mut values,
+        versions: &mut versions,
+        statuses: &mut statuses,
+    };
+    deliver(rt, &mut slots, &mut counts, slot, version, 100, 8)
 }
 
 // A delivery that is wrong in its status, and with it in what stands before: the lowest number that applies is given.
@@ -108,17 +90,12 @@ fn deliver_counted(
     let mut counts = [count];
     versions[10] = old_version;
     values[10] = old_value;
-    deliver(
-        rt,
-        &mut values,
-        &mut versions,
-        &mut statuses,
-        &mut counts,
-        10,
-        version,
-        value,
-        0,
-    )
+    let mut slots = SlotsMut {
+        values: &mut values,
+        versions: &mut versions,
+        statuses: &mut statuses,
+    };
+    deliver(rt, &mut slots, &mut counts, 10, version, value, 0)
 }
 
 // With 48 and more in its day's count a first delivery is refused; a later version and a repeat ask nothing of it.
@@ -137,42 +114,42 @@ pub fn counted(rt: &impl Print) -> io::Result<()> {
 // Agrees slot 10 of a day and writes the answer.
 fn agree_ten(
     rt: &impl Print,
-    agreed: &mut [u32],
-    agreed_versions: &mut [u32],
+    agreed: &mut AgreedMut<'_>,
     version: u32,
     value: u32,
 ) -> io::Result<()> {
     let head = books::head_of(1, 30, 1);
-    say::answer(
-        rt,
-        book::agree(head, agreed, agreed_versions, 10, version, value),
-    )
+    say::answer(rt, book::agree(head, agreed, 10, version, value))
 }
 
 // By the version rule of a delivery.
-fn four_agreed(rt: &impl Print, agreed: &mut [u32], agreed_versions: &mut [u32]) -> io::Result<()> {
-    agree_ten(rt, agreed, agreed_versions, 2, 600)?;
-    agree_ten(rt, agreed, agreed_versions, 1, 900)?;
-    agree_ten(rt, agreed, agreed_versions, 2, 600)?;
-    agree_ten(rt, agreed, agreed_versions, 2, 900)
+fn four_agreed(rt: &impl Print, agreed: &mut AgreedMut<'_>) -> io::Result<()> {
+    agree_ten(rt, agreed, 2, 600)?;
+    agree_ten(rt, agreed, 1, 900)?;
+    agree_ten(rt, agreed, 2, 600)?;
+    agree_ten(rt, agreed, 2, 900)
 }
 
 pub fn agreed(rt: &impl Print) -> io::Result<()> {
     let mut values = [0u32; 48];
     let mut versions = [0u32; 48];
+    let mut agreed = AgreedMut {
+        values: &mut values,
+        versions: &mut versions,
+    };
     say::text(rt, b"agreed by versions:")?;
-    four_agreed(rt, &mut values, &mut versions)?;
+    four_agreed(rt, &mut agreed)?;
     say::text(rt, b"\nagreed 99999999 and 100000000:")?;
-    agree_ten(rt, &mut values, &mut versions, 3, 99999999)?;
-    agree_ten(rt, &mut values, &mut versions, 4, 100000000)?;
+    agree_ten(rt, &mut agreed, 3, 99999999)?;
+    agree_ten(rt, &mut agreed, 4, 100000000)?;
     say::text(rt, b"\n")
 }
 
 // Loads a place of a table and writes the limit, or the refusal's number.
 fn load(rt: &impl Print, table: &[u32], kind: u32) -> io::Result<()> {
     match limits::load(table, kind) {
-        Loaded::Limit(n) => say::field(rt, n as u64),
-        Loaded::Refused(n) => say::refused(rt, n),
+        Ok(n) => say::field(rt, n as u64),
+        Err(refusal) => say::refused(rt, refusal),
     }
 }
 

@@ -1,18 +1,15 @@
 // Small books: opened, filled by rows, published.
 ghost use Rattle.std.specs.Prelude.{◌≤◌};
 
-use publishing::Published;
-use rules::limits::Loaded;
+use base::Refusal;
+use book::lent::{AgreedMut, BookMut, ReadsMut, SlotsMut};
 use rules::{Head, limits};
 use std::num::wrapping_add_u32;
 
 // The limit of a kind in the table of 01's two kinds.
 pub fn limit_of(kind: u32) -> u32 {
     let table = [40000, 70000];
-    match limits::load(&table, kind) {
-        Loaded::Limit(n) => n,
-        Loaded::Refused(_) => 0,
-    }
+    limits::load(&table, kind).unwrap_or(0)
 }
 
 // A book of tolerance 0 that begins on 2024-05-01.
@@ -21,8 +18,8 @@ pub fn head_of(days: u32, interval: u32, kind: u32) -> Head {
         year: 2024,
         month: 5,
         day: 1,
-        days: days,
-        interval: interval,
+        days,
+        interval,
         limit: limit_of(kind),
         tolerance: 0,
     }
@@ -56,7 +53,22 @@ fn days_of(head: Head) -> usize
     1
 }
 
-// The deliveries of a row: the same to each slot from `first` up to `end`.
+// What is put into a book.
+#[derive(Clone, Copy)]
+pub enum Row {
+    // first slot, the one behind the last, value, status
+    Run(u32, u32, u32, u32),
+    // slot, version, value, status
+    Delivery(u32, u32, u32, u32),
+    // day
+    Holiday(u32),
+    // boundary, version, reading, width
+    Register(u32, u32, u32, u32),
+    // slot, version, value
+    Agreed(u32, u32, u32),
+}
+
+// The same delivery to each slot from `first` up to `end`.
 #[derive(Clone, Copy)]
 struct Run {
     first: u32,
@@ -66,199 +78,104 @@ struct Run {
     status: u32,
 }
 
-// A row of another kind delivers to no slot.
-fn run_of(row: [u32; 5]) -> Run {
-    if row[0] == 1 {
-        return Run {
-            first: row[1],
-            end: row[2],
+fn run_of(row: Row) -> Option<Run> {
+    match row {
+        Row::Run(first, end, value, status) => Some(Run {
+            first,
+            end,
             version: 1,
-            value: row[3],
-            status: row[4],
-        };
-    }
-    if row[0] == 5 {
-        return Run {
-            first: row[1],
-            end: wrapping_add_u32(row[1], 1),
-            version: row[2],
-            value: row[3],
-            status: row[4],
-        };
-    }
-    Run {
-        first: 0,
-        end: 0,
-        version: 0,
-        value: 0,
-        status: 0,
+            value,
+            status,
+        }),
+        Row::Delivery(slot, version, value, status) => Some(Run {
+            first: slot,
+            end: wrapping_add_u32(slot, 1),
+            version,
+            value,
+            status,
+        }),
+        _ => None,
     }
 }
 
-fn deliver_run(
-    head: Head,
-    values: &mut [u32],
-    versions: &mut [u32],
-    statuses: &mut [u8],
-    counts: &mut [u16],
-    run: Run,
-) {
-    let mut slot = run.first;
-    while slot < run.end {
-        book::deliver(
+fn deliver_run(head: Head, slots: &mut SlotsMut<'_>, counts: &mut [u16], run: Run) {
+    for slot in run.first..run.end {
+        let _ = book::deliver(
             head,
-            values,
-            versions,
-            statuses,
+            slots,
             counts,
             slot,
             run.version,
             run.value,
             run.status,
         );
-        slot += 1;
     }
 }
 
-// A row is five numbers: 1 first end value status | 2 day 0 0 0 | 3 boundary version reading width | 4 slot version value 0
-// | 5 slot version value status. Calls of different kinds touch different lists, so each kind is filled by itself.
-fn fill_slots(
-    head: Head,
-    values: &mut [u32],
-    versions: &mut [u32],
-    statuses: &mut [u8],
-    counts: &mut [u16],
-    rows: &[[u32; 5]],
-) {
-    let mut i = 0;
-    while i < rows.len() {
-        let row = rows[i];
-        let run = run_of(row);
-        deliver_run(head, values, versions, statuses, counts, run);
-        i += 1;
+// Calls of different kinds touch different lists, so each kind is filled by itself.
+fn fill_slots(head: Head, slots: &mut SlotsMut<'_>, counts: &mut [u16], rows: &[Row]) {
+    for row in rows {
+        if let Some(run) = run_of(*row) {
+            deliver_run(head, slots, counts, run);
+        }
     }
 }
 
-fn holiday_row(head: Head, holidays: &mut [u8], row: [u32; 5]) {
-    if row[0] != 2 {
-        return;
-    }
-    book::holiday(head, holidays, row[1]);
-}
-
-fn fill_holidays(head: Head, holidays: &mut [u8], rows: &[[u32; 5]]) {
-    let mut i = 0;
-    while i < rows.len() {
-        let row = rows[i];
-        holiday_row(head, holidays, row);
-        i += 1;
+fn fill_holidays(head: Head, holidays: &mut [u8], rows: &[Row]) {
+    for row in rows {
+        if let Row::Holiday(day) = *row {
+            let _ = book::holiday(head, holidays, day);
+        }
     }
 }
 
-fn register_row(
-    head: Head,
-    readings: &mut [u32],
-    read_versions: &mut [u32],
-    widths: &mut [u16],
-    row: [u32; 5],
-) {
-    if row[0] != 3 {
-        return;
-    }
-    book::register(
-        head,
-        readings,
-        read_versions,
-        widths,
-        row[1],
-        row[2],
-        row[3],
-        row[4],
-    );
-}
-
-fn fill_registers(
-    head: Head,
-    readings: &mut [u32],
-    read_versions: &mut [u32],
-    widths: &mut [u16],
-    rows: &[[u32; 5]],
-) {
-    let mut i = 0;
-    while i < rows.len() {
-        let row = rows[i];
-        register_row(head, readings, read_versions, widths, row);
-        i += 1;
+fn fill_registers(head: Head, reads: &mut ReadsMut<'_>, rows: &[Row]) {
+    for row in rows {
+        if let Row::Register(boundary, version, reading, width) = *row {
+            let _ = book::register(head, reads, boundary, version, reading, width);
+        }
     }
 }
 
-fn agree_row(head: Head, agreed: &mut [u32], agreed_versions: &mut [u32], row: [u32; 5]) {
-    if row[0] != 4 {
-        return;
-    }
-    book::agree(head, agreed, agreed_versions, row[1], row[2], row[3]);
-}
-
-fn fill_agreed(head: Head, agreed: &mut [u32], agreed_versions: &mut [u32], rows: &[[u32; 5]]) {
-    let mut i = 0;
-    while i < rows.len() {
-        let row = rows[i];
-        agree_row(head, agreed, agreed_versions, row);
-        i += 1;
+fn fill_agreed(head: Head, agreed: &mut AgreedMut<'_>, rows: &[Row]) {
+    for row in rows {
+        if let Row::Agreed(slot, version, value) = *row {
+            let _ = book::agree(head, agreed, slot, version, value);
+        }
     }
 }
 
 // What opening refuses publishing refuses too, with the same number, and each call between them changes nothing.
 fn publish_lent(
     head: Head,
-    values: &mut [u32],
-    versions: &mut [u32],
-    statuses: &mut [u8],
-    holidays: &mut [u8],
-    readings: &mut [u32],
-    read_versions: &mut [u32],
-    agreed: &mut [u32],
-    agreed_versions: &mut [u32],
-    counts: &mut [u16],
-    widths: &mut [u16],
-    rows: &[[u32; 5]],
+    book: &mut BookMut<'_>,
+    rows: &[Row],
     file: &mut [u8],
-) -> Published {
-    book::open(
-        head,
-        values,
-        versions,
-        statuses,
-        holidays,
-        readings,
-        read_versions,
-        agreed,
-        agreed_versions,
-        counts,
-        widths,
-    );
-    fill_slots(head, values, versions, statuses, counts, rows);
-    fill_holidays(head, holidays, rows);
-    fill_registers(head, readings, read_versions, widths, rows);
-    fill_agreed(head, agreed, agreed_versions, rows);
-    publishing::publish(
-        head,
-        values,
-        versions,
-        statuses,
-        holidays,
-        readings,
-        read_versions,
-        agreed,
-        agreed_versions,
-        counts,
-        widths,
-        file,
-    )
+) -> Result<usize, Refusal> {
+    let _ = book::open(head, book);
+    let mut slots = SlotsMut {
+        values: book.values,
+        versions: book.versions,
+        statuses: book.statuses,
+    };
+    fill_slots(head, &mut slots, book.counts, rows);
+    fill_holidays(head, book.holidays, rows);
+    let mut reads = ReadsMut {
+        readings: book.readings,
+        read_versions: book.read_versions,
+        widths: book.widths,
+    };
+    fill_registers(head, &mut reads, rows);
+    let mut agreed = AgreedMut {
+        values: book.agreed,
+        versions: book.agreed_versions,
+    };
+    fill_agreed(head, &mut agreed, rows);
+    publishing::publish(head, &book.as_book(), file)
 }
 
 // Publishes the book of a list of rows into `file`.
-pub fn publish_rows(head: Head, rows: &[[u32; 5]], file: &mut [u8]) -> Published {
+pub fn publish_rows(head: Head, rows: &[Row], file: &mut [u8]) -> Result<usize, Refusal> {
     let mut values = [0u32; 17808];
     let mut versions = [0u32; 17808];
     let mut statuses = [0u8; 17808];
@@ -271,46 +188,44 @@ pub fn publish_rows(head: Head, rows: &[[u32; 5]], file: &mut [u8]) -> Published
     let mut widths = [0u16; 372];
     let n = slots_of(head);
     let d = days_of(head);
-    publish_lent(
-        head,
-        &mut values[..n],
-        &mut versions[..n],
-        &mut statuses[..n],
-        &mut holidays[..d],
-        &mut readings[..d + 1],
-        &mut read_versions[..d + 1],
-        &mut agreed[..n],
-        &mut agreed_versions[..n],
-        &mut counts[..d],
-        &mut widths[..d + 1],
-        rows,
-        file,
-    )
+    let mut book = BookMut {
+        values: &mut values[..n],
+        versions: &mut versions[..n],
+        statuses: &mut statuses[..n],
+        holidays: &mut holidays[..d],
+        readings: &mut readings[..d + 1],
+        read_versions: &mut read_versions[..d + 1],
+        agreed: &mut agreed[..n],
+        agreed_versions: &mut agreed_versions[..n],
+        counts: &mut counts[..d],
+        widths: &mut widths[..d + 1],
+    };
+    publish_lent(head, &mut book, rows, file)
 }
 
 // Four deliveries of e with a gap between each two, then `rest`, so that V is 100; the dial goes from 0 to 110.
-pub fn scaled_rows(e: u32, rest: u32) -> [[u32; 5]; 8] {
+pub fn scaled_rows(e: u32, rest: u32) -> [Row; 8] {
     [
-        [1, 0, 1, e, 0],
-        [1, 2, 3, e, 0],
-        [1, 4, 5, e, 0],
-        [1, 6, 7, e, 0],
-        [1, 7, 8, rest, 0],
-        [1, 8, 48, 0, 0],
-        [3, 0, 1, 0, 0],
-        [3, 1, 1, 110, 0],
+        Row::Run(0, 1, e, 0),
+        Row::Run(2, 3, e, 0),
+        Row::Run(4, 5, e, 0),
+        Row::Run(6, 7, e, 0),
+        Row::Run(7, 8, rest, 0),
+        Row::Run(8, 48, 0, 0),
+        Row::Register(0, 1, 0, 0),
+        Row::Register(1, 1, 110, 0),
     ]
 }
 
 // A delivery of 40 with the outage bit, a gap agreed at 600, a delivery of 50 agreed at 700, then zeros; the dial goes from 0 to 690.
-pub fn agreed_rows() -> [[u32; 5]; 7] {
+pub fn agreed_rows() -> [Row; 7] {
     [
-        [1, 0, 1, 40, 2],
-        [1, 2, 3, 50, 0],
-        [1, 3, 48, 0, 0],
-        [4, 1, 1, 600, 0],
-        [4, 2, 1, 700, 0],
-        [3, 0, 1, 0, 0],
-        [3, 1, 1, 690, 0],
+        Row::Run(0, 1, 40, 2),
+        Row::Run(2, 3, 50, 0),
+        Row::Run(3, 48, 0, 0),
+        Row::Agreed(1, 1, 600),
+        Row::Agreed(2, 1, 700),
+        Row::Register(0, 1, 0, 0),
+        Row::Register(1, 1, 690, 0),
     ]
 }

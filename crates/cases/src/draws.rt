@@ -8,11 +8,9 @@ fn draws(rt: &impl Print, seed: u32) -> io::Result<()> {
     say::field(rt, seed as u64)?;
     say::text(rt, b":")?;
     let mut berth = Berth::new(seed);
-    let mut i: usize = 0;
-    while i < 10 {
+    for _ in 0..10 {
         berth = berth.draw();
         say::field(rt, berth.x as u64)?;
-        i += 1;
     }
     say::text(rt, b"\n")
 }

@@ -1,30 +1,29 @@
 // Cases that are told by a whole file: its line, its trailer, a span, its sum, its first day.
+use crate::books::Row;
 use crate::{books, say};
-use file::Verdict;
-use publishing::Published;
+use base::Refusal;
 use rules::Head;
 use std::io;
 
 // Every slot but 10 delivered as 100.
 pub fn whole(rt: &impl Print) -> io::Result<()> {
-    let rows = [[1, 0, 10, 100, 0], [1, 11, 48, 100, 0]];
+    let rows = [Row::Run(0, 10, 100, 0), Row::Run(11, 48, 100, 0)];
     let mut file = [0u8; 320];
     let mut text = [0u8; 160];
-    books::publish_rows(books::head_of(1, 30, 1), &rows, &mut file);
+    let _ = books::publish_rows(books::head_of(1, 30, 1), &rows, &mut file);
     let n = line::line(&file, &mut text);
     say::text(rt, &text[..n])?;
-    trailer(rt, &file)
+    trailer(rt, &file[288..])
 }
 
 // The 32 bytes after 48 records.
-fn trailer(rt: &impl Print, file: &[u8]) -> io::Result<()> {
+fn trailer(rt: &impl Print, bytes: &[u8]) -> io::Result<()> {
     say::text(rt, b"0x")?;
-    say::hex(rt, say::byte_at(file, 288, 0))?;
-    let mut k = 1;
-    while k < 32 {
-        say::text(rt, b" ")?;
-        say::hex(rt, say::byte_at(file, 288, k))?;
-        k += 1;
+    for (k, byte) in bytes.iter().enumerate() {
+        if 0 < k {
+            say::text(rt, b" ")?;
+        }
+        say::hex(rt, *byte)?;
     }
     say::text(rt, b"\n")
 }
@@ -32,13 +31,13 @@ fn trailer(rt: &impl Print, file: &[u8]) -> io::Result<()> {
 // The day's 25 Wh agree with the advance of a dial that passes zero: lowest and highest advance and the state of the only span.
 pub fn dial(rt: &impl Print) -> io::Result<()> {
     let rows = [
-        [1, 0, 1, 25, 0],
-        [1, 1, 48, 0, 0],
-        [3, 0, 1, 99999990, 0],
-        [3, 1, 1, 15, 0],
+        Row::Run(0, 1, 25, 0),
+        Row::Run(1, 48, 0, 0),
+        Row::Register(0, 1, 99999990, 0),
+        Row::Register(1, 1, 15, 0),
     ];
     let mut file = [0u8; 334];
-    books::publish_rows(books::head_of(1, 30, 1), &rows, &mut file);
+    let _ = books::publish_rows(books::head_of(1, 30, 1), &rows, &mut file);
     say::text(rt, b"dial 99999990 then 15:")?;
     span(rt, &file)
 }
@@ -46,13 +45,13 @@ pub fn dial(rt: &impl Print) -> io::Result<()> {
 // A day of 25 Wh between two dials, each a reading and its width.
 fn fogged_day(rt: &impl Print, first: [u32; 2], last: [u32; 2]) -> io::Result<()> {
     let rows = [
-        [1, 0, 1, 25, 0],
-        [1, 1, 48, 0, 0],
-        [3, 0, 1, first[0], first[1]],
-        [3, 1, 1, last[0], last[1]],
+        Row::Run(0, 1, 25, 0),
+        Row::Run(1, 48, 0, 0),
+        Row::Register(0, 1, first[0], first[1]),
+        Row::Register(1, 1, last[0], last[1]),
     ];
     let mut file = [0u8; 334];
-    books::publish_rows(books::head_of(1, 30, 1), &rows, &mut file);
+    let _ = books::publish_rows(books::head_of(1, 30, 1), &rows, &mut file);
     span(rt, &file)
 }
 
@@ -81,9 +80,9 @@ fn span(rt: &impl Print, file: &[u8]) -> io::Result<()> {
 pub fn agreed(rt: &impl Print) -> io::Result<()> {
     let rows = books::agreed_rows();
     let mut file = [0u8; 334];
-    books::publish_rows(books::head_of(1, 30, 1), &rows, &mut file);
+    let _ = books::publish_rows(books::head_of(1, 30, 1), &rows, &mut file);
     say::text(rt, b"a file with an agreed slot: layout")?;
-    if let Verdict::Accepted(g) = file::read(&file) {
+    if let Ok(g) = file::read(&file) {
         say::field(rt, g.layout as u64)?;
     }
     span(rt, &file)
@@ -93,9 +92,9 @@ pub fn agreed(rt: &impl Print) -> io::Result<()> {
 pub fn slot_alone(rt: &impl Print) -> io::Result<()> {
     let rows = books::scaled_rows(1, 96);
     let mut file = [0u8; 334];
-    books::publish_rows(books::head_of(1, 30, 1), &rows, &mut file);
+    let _ = books::publish_rows(books::head_of(1, 30, 1), &rows, &mut file);
     say::text(rt, b"scaling each slot by itself: sum")?;
-    if let Verdict::Accepted(g) = file::read(&file) {
+    if let Ok(g) = file::read(&file) {
         say::field(rt, g.sum)?;
     }
     say::text(rt, b"\n")
@@ -111,27 +110,27 @@ fn date(
     days: u32,
 ) -> io::Result<()> {
     let head = Head {
-        year: year,
-        month: month,
-        day: day,
-        days: days,
+        year,
+        month,
+        day,
+        days,
         interval: 30,
         limit: books::limit_of(1),
         tolerance: 0,
     };
-    let rows = [[2, 0, 0, 0, 0]];
+    let rows = [Row::Holiday(0)];
     let mut file = [0u8; 320];
     let published = books::publish_rows(head, &rows, &mut file);
     say::text(rt, label)?;
     match published {
-        Published::Length(_) => first_day(rt, &file)?,
-        Published::Refused(n) => say::refused(rt, n)?,
+        Ok(_) => first_day(rt, &file)?,
+        Err(refusal) => say::refused(rt, refusal)?,
     }
     say::text(rt, b"\n")
 }
 
 fn first_day(rt: &impl Print, file: &[u8]) -> io::Result<()> {
-    if let Verdict::Accepted(g) = file::read(file) {
+    if let Ok(g) = file::read(file) {
         say::text(rt, b" day")?;
         say::field(rt, g.first as u64)?;
     }

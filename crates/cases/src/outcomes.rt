@@ -1,30 +1,23 @@
 // Cases that are told by the outcomes of some slots.
+use crate::books::Row;
 use crate::{books, say};
 use rules::Head;
 use std::io;
 
 // Publishes the book of a list of rows and writes the outcomes of some of its slots.
-fn show(
-    rt: &impl Print,
-    label: &[u8],
-    head: Head,
-    rows: &[[u32; 5]],
-    slots: &[u32],
-) -> io::Result<()> {
+fn show(rt: &impl Print, label: &[u8], head: Head, rows: &[Row], slots: &[u32]) -> io::Result<()> {
     let mut file = [0u8; 8398];
-    books::publish_rows(head, rows, &mut file);
+    let _ = books::publish_rows(head, rows, &mut file);
     say::text(rt, label)?;
-    let mut i = 0;
-    while i < slots.len() {
-        say::outcome(rt, &file, slots[i])?;
-        i += 1;
+    for slot in slots {
+        say::outcome(rt, &file, *slot)?;
     }
     say::text(rt, b"\n")
 }
 
 // One slot delivered, its neighbours not: good, or with a cause and then N.
 fn demand(rt: &impl Print, label: &[u8], interval: u32, kind: u32, value: u32) -> io::Result<()> {
-    let rows = [[1, 10, 11, value, 0]];
+    let rows = [Row::Run(10, 11, value, 0)];
     let slots = [10];
     show(rt, label, books::head_of(1, interval, kind), &rows, &slots)
 }
@@ -39,7 +32,7 @@ pub fn demands(rt: &impl Print) -> io::Result<()> {
 }
 
 pub fn linear(rt: &impl Print) -> io::Result<()> {
-    let rows = [[1, 10, 11, 7, 0], [1, 12, 13, 10, 0]];
+    let rows = [Row::Run(10, 11, 7, 0), Row::Run(12, 13, 10, 0)];
     let slots = [11];
     show(
         rt,
@@ -52,7 +45,7 @@ pub fn linear(rt: &impl Print) -> io::Result<()> {
 
 // Two hours of half hours are filled, half an hour more is not.
 pub fn lines(rt: &impl Print) -> io::Result<()> {
-    let falling = [[1, 10, 11, 10, 0], [1, 14, 15, 4, 0]];
+    let falling = [Row::Run(10, 11, 10, 0), Row::Run(14, 15, 4, 0)];
     let three = [11, 12, 13];
     show(
         rt,
@@ -61,8 +54,8 @@ pub fn lines(rt: &impl Print) -> io::Result<()> {
         &falling,
         &three,
     )?;
-    let two_hours = [[1, 10, 11, 10, 0], [1, 15, 16, 20, 0]];
-    let longer = [[1, 10, 11, 10, 0], [1, 16, 17, 20, 0]];
+    let two_hours = [Row::Run(10, 11, 10, 0), Row::Run(15, 16, 20, 0)];
+    let longer = [Row::Run(10, 11, 10, 0), Row::Run(16, 17, 20, 0)];
     let ends = [11, 14];
     show(
         rt,
@@ -81,7 +74,7 @@ pub fn lines(rt: &impl Print) -> io::Result<()> {
 }
 
 // Slot 10 of the last of 29 days is a partial interval; `rows` has slot 10 of the days 7, 14, 21 and 28 before it.
-fn week_case(rt: &impl Print, label: &[u8], rows: &[[u32; 5]]) -> io::Result<()> {
+fn week_case(rt: &impl Print, label: &[u8], rows: &[Row]) -> io::Result<()> {
     let slots = [1354];
     show(rt, label, books::head_of(29, 30, 1), rows, &slots)
 }
@@ -89,19 +82,19 @@ fn week_case(rt: &impl Print, label: &[u8], rows: &[[u32; 5]]) -> io::Result<()>
 // 000's table at 5:00 and 16:00: last week failed, at 5:00 the week before had an outage.
 pub fn references(rt: &impl Print) -> io::Result<()> {
     let five = [
-        [1, 1354, 1355, 6000, 4],
-        [1, 1018, 1019, 1078, 4],
-        [1, 682, 683, 0, 2],
-        [1, 346, 347, 1045, 0],
-        [1, 10, 11, 1089, 0],
+        Row::Run(1354, 1355, 6000, 4),
+        Row::Run(1018, 1019, 1078, 4),
+        Row::Run(682, 683, 0, 2),
+        Row::Run(346, 347, 1045, 0),
+        Row::Run(10, 11, 1089, 0),
     ];
     week_case(rt, b"references 1045 1089:", &five)?;
     let sixteen = [
-        [1, 1354, 1355, 50, 4],
-        [1, 1018, 1019, 2058, 4],
-        [1, 682, 683, 2310, 0],
-        [1, 346, 347, 1995, 0],
-        [1, 10, 11, 2079, 0],
+        Row::Run(1354, 1355, 50, 4),
+        Row::Run(1018, 1019, 2058, 4),
+        Row::Run(682, 683, 2310, 0),
+        Row::Run(346, 347, 1995, 0),
+        Row::Run(10, 11, 2079, 0),
     ];
     week_case(rt, b"references 2310 1995 2079:", &sixteen)
 }
@@ -122,13 +115,13 @@ pub fn scaled(rt: &impl Print) -> io::Result<()> {
 // and an advance of 12.
 fn fitted_case(rt: &impl Print, label: &[u8], line: u32, near: u32, far: u32) -> io::Result<()> {
     let rows = [
-        [1, 719, 720, far, 0],
-        [1, 1055, 1056, near, 0],
-        [1, 1344, 1345, line, 0],
-        [1, 1346, 1347, line, 0],
-        [1, 1347, 1391, 0, 0],
-        [3, 28, 1, 0, 0],
-        [3, 29, 1, 12, 0],
+        Row::Run(719, 720, far, 0),
+        Row::Run(1055, 1056, near, 0),
+        Row::Run(1344, 1345, line, 0),
+        Row::Run(1346, 1347, line, 0),
+        Row::Run(1347, 1391, 0, 0),
+        Row::Register(28, 1, 0, 0),
+        Row::Register(29, 1, 12, 0),
     ];
     let slots = [1345, 1391];
     show(rt, label, books::head_of(29, 30, 1), &rows, &slots)
@@ -158,14 +151,18 @@ pub fn agreed(rt: &impl Print) -> io::Result<()> {
 // The week that failed and the one on a holiday are no references; no slot is filled from a filled neighbour.
 pub fn slips(rt: &impl Print) -> io::Result<()> {
     let failed = [
-        [1, 1354, 1355, 6000, 4],
-        [1, 1018, 1019, 2000, 4],
-        [1, 682, 683, 3000, 0],
-        [2, 14, 0, 0, 0],
-        [1, 346, 347, 1000, 0],
+        Row::Run(1354, 1355, 6000, 4),
+        Row::Run(1018, 1019, 2000, 4),
+        Row::Run(682, 683, 3000, 0),
+        Row::Holiday(14),
+        Row::Run(346, 347, 1000, 0),
     ];
     week_case(rt, b"averaging over slots that failed:", &failed)?;
-    let gaps = [[1, 10, 11, 7, 0], [4, 12, 1, 9, 0], [1, 14, 15, 10, 0]];
+    let gaps = [
+        Row::Run(10, 11, 7, 0),
+        Row::Agreed(12, 1, 9),
+        Row::Run(14, 15, 10, 0),
+    ];
     let slots = [11, 12, 13];
     show(
         rt,

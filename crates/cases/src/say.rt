@@ -1,5 +1,6 @@
 // What the program writes: texts, numbers, and what is published of a slot.
-use book::Received;
+use base::Refusal;
+use book::Filed;
 use std::io;
 
 pub fn text(rt: &impl Print, bytes: &[u8]) -> io::Result<()> {
@@ -48,16 +49,16 @@ pub fn outcome(rt: &impl Print, file: &[u8], slot: u32) -> io::Result<()> {
     field(rt, byte_at(file, at, 5) as u64)
 }
 
-pub fn refused(rt: &impl Print, n: u8) -> io::Result<()> {
+pub fn refused(rt: &impl Print, refusal: Refusal) -> io::Result<()> {
     text(rt, b" refused")?;
-    field(rt, n as u64)
+    field(rt, refusal.number() as u64)
 }
 
-pub fn answer(rt: &impl Print, filed: Received) -> io::Result<()> {
+pub fn answer(rt: &impl Print, filed: Result<Filed, Refusal>) -> io::Result<()> {
     match filed {
-        Received::Stored => text(rt, b" stored"),
-        Received::Late => text(rt, b" late"),
-        Received::Repeat => text(rt, b" repeat"),
-        Received::Refused(n) => refused(rt, n),
+        Ok(Filed::Stored) => text(rt, b" stored"),
+        Ok(Filed::Late) => text(rt, b" late"),
+        Ok(Filed::Repeat) => text(rt, b" repeat"),
+        Err(refusal) => refused(rt, refusal),
     }
 }

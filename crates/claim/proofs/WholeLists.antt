@@ -1,4 +1,7 @@
 -- The claim about whole lists.
+use Rattle.base.specs.declared.Refusal.TheVariants.{ShortBuffer}
+use Rattle.base.specs.declared.Refusal.TheVariants.{Conflict}
+use Rattle.std.specs.Prelude.{Ok, Err}
 use mathlib.Core.Bool.{Bool, true, false, cond}
 use mathlib.Core.List.{List, [], ◌++◌, Memᴰ}
 use mathlib.Core.Logic.{◌↔◌}
@@ -31,7 +34,6 @@ use Rattle.book.proofs.Agreement.{answers_agree, cells_agree}
 use Rattle.book.proofs.Order.{order_does_not_matter}
 use Rattle.book.proofs.AnyOrder.{any_order}
 use Rattle.book.proofs.Soundness.{book_sound}
-use Rattle.publishing.specs.declared.Published.TheVariants.{Length, Refused}
 use Rattle.file.specs.Layout.{Content, file_of}
 use Rattle.publishing.specs.Publishing.{published, file_length, bytes_after, publish_answer, publish_after}
 use Rattle.publishing.specs.Inner.Publishing.{Sound}
@@ -50,7 +52,7 @@ long h b = sym (length_file (published h b))
 -- publishing after a list of calls
 module _ (h : Head) (good : head_ok h ≡ true) (cs : List Call) (out : List ℕ) where
   answered : publish_answer h (left_by h cs) out
-      ≡ cond (ltb (length out) (length (plain_file h cs))) (Refused 7) (Length (length (plain_file h cs)))
+      ≡ cond (ltb (length out) (length (plain_file h cs))) (Err ShortBuffer) (Ok (length (plain_file h cs)))
   answered =
       answer_last h (left_by h cs) out good (book_sound h cs).0 (book_sound h cs).1 ∙ (rw (cells_agree h cs, long h (plain_of h cs)))
 
@@ -59,7 +61,7 @@ module _ (h : Head) (good : head_ok h ≡ true) (cs : List Call) (out : List ℕ
   unfolding publish_after
   wrote = rw (answered, cells_agree h cs) (go (ltb (length out) (length (plain_file h cs))))
     where
-      go : (t : Bool) → bytes_after (cond t (Refused 7) (Length (length (plain_file h cs)))) (published h (plain_of h cs)) out
+      go : (t : Bool) → bytes_after (cond t (Err ShortBuffer) (Ok (length (plain_file h cs)))) (published h (plain_of h cs)) out
           ≡ cond t out (plain_file h cs ++ drop (length (plain_file h cs)) out)
       go true = refl
       go false = refl
@@ -161,7 +163,7 @@ module _ (h g : Head) (b c : Book) (cs ds : List Call) (p : open_answer h b ≡ 
   any : h ≡ g → NoConflict h (open_after h b) cs → SameCalls cs ds → plain_file h cs ≡ plain_file g ds
   any one free same =
       same_file h g cs ds one
-      (any_order h cs ds (λ m. free (subst (λ (l : List Answer). Memᴰ (refused 10) l) (sym (plain h b cs p)) m)) (λ x. (same x).0)
+      (any_order h cs ds (λ m. free (subst (λ (l : List Answer). Memᴰ (refused Conflict) l) (sym (plain h b cs p)) m)) (λ x. (same x).0)
       (λ x. (same x).1))
 
   pub of_two : Claim h g b c cs ds

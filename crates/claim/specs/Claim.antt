@@ -1,5 +1,7 @@
 -- The claim about whole lists (01, demand 3): what is proved of every two lists of calls of the four kinds, each after an accepted opening.
-use Rattle.std.specs.Prelude.{true, cond, ◌↔◌, ◌≡◌, ℕ, ◌<◌, ltb, length, get_or, drop}
+use Rattle.base.specs.declared.Refusal.TheVariants.{ShortBuffer}
+use Rattle.base.specs.declared.Refusal.TheVariants.{Conflict}
+use Rattle.std.specs.Prelude.{true, cond, ◌↔◌, ◌≡◌, ℕ, ◌<◌, ltb, length, get_or, drop, Ok, Err}
 use mathlib.Core.List.{List, [], ◌++◌, Memᴰ}
 use Rattle.rules.specs.declared.Head.{Head}
 use Rattle.rules.specs.Opening.{Cells, slot_count}
@@ -11,7 +13,6 @@ use Rattle.book.specs.Cells.{Book}
 use Rattle.book.specs.Opening.{opened, open_answer, open_after}
 use Rattle.book.specs.Filling.{answers, after_all}
 use Rattle.book.specs.Plain.{plain_answers, kept_of, book_of}
-use Rattle.publishing.specs.declared.Published.TheVariants.{Length, Refused}
 use Rattle.file.specs.Layout.{file_of}
 use Rattle.publishing.specs.Publishing.{published, publish_answer, publish_after}
 
@@ -46,7 +47,7 @@ pub record AcceptedCall (h : Head) (b : Book) (cs : List Call) (x : Call) : Type
 
 -- no call of the list is answered 10
 abbrev pub NoConflict : Head → Book → List Call → Type 0
-NoConflict h b cs = Memᴰ (refused 10) (answers h b cs) → ⊥
+NoConflict h b cs = Memᴰ (refused Conflict) (answers h b cs) → ⊥
 
 -- the same calls stand in both lists, in whatever order and however often
 abbrev pub SameCalls : List Call → List Call → Type 0
@@ -59,7 +60,7 @@ pub record Claim (h g : Head) (b c : Book) (cs ds : List Call) : Type 0 where
   -- 2. publishing refuses only for a short buffer, and writes 01's file of the plain book's outcomes
   pub publish_answers : (out : List ℕ)
       → publish_answer h (after_all h (open_after h b) cs) out
-      ≡ cond (ltb (length out) (length (plain_file h cs))) (Refused 7) (Length (length (plain_file h cs)))
+      ≡ cond (ltb (length out) (length (plain_file h cs))) (Err ShortBuffer) (Ok (length (plain_file h cs)))
   pub publish_writes : (out : List ℕ)
       → publish_after h (after_all h (open_after h b) cs) out
       ≡ cond (ltb (length out) (length (plain_file h cs))) out (plain_file h cs ++ drop (length (plain_file h cs)) out)

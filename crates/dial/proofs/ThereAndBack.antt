@@ -1,4 +1,6 @@
 -- What holds of the conversions together: every reading has one form, `unpack` accepts exactly the forms, and both ways lead back.
+use Rattle.base.specs.declared.Refusal.{Refusal}
+use Rattle.std.specs.Prelude.{Result, Ok, Err}
 use mathlib.Core.Bool.{false}
 use mathlib.Core.List.{List}
 use mathlib.Core.Path.{◌≡◌, refl, sym, ap, ◌∙◌}
@@ -7,15 +9,12 @@ use native.Mathlib.Omega.{arith}
 use borrow.Author.Tests.{eqb-true, eq-eqb, ltb-false, le-ltb, not-false}
 use lib.ListN.{length}
 use Rattle.base.proofs.Refusals.{unless_answered}
-use Rattle.base.specs.declared.Performed.{Performed}
-use Rattle.base.specs.declared.Performed.TheVariants as performed
-use Rattle.dial.specs.declared.Unpacked.TheVariants as unpacked
 use Rattle.dial.specs.Dial.{form, above_nine, reading_of, pack_rules, pack_answer, bytes_after, pack_after, unpack_rules, unpack_answer}
 use Rattle.dial.specs.Claim.{OneForm, AcceptsExactly, PackedThenUnpacked, UnpackedThenPacked}
 use Rattle.dial.proofs.PackedForm.{form_packed, packed_digits, reading_packed, reading_low, packed_reading}
 
 -- the form of a reading is read as that reading
-form_read : (reading : ℕ) → reading ≤ 99_999_999 → unpack_answer (form reading) ≡ unpacked.Reading reading
+form_read : (reading : ℕ) → reading ≤ 99_999_999 → unpack_answer (form reading) ≡ Ok reading
 unfolding unpack_answer form
 form_read reading h =
     let digits : above_nine (form reading) ≡ false = ap above_nine (form_packed reading) ∙ packed_digits 4 reading in
@@ -23,12 +22,12 @@ form_read reading h =
     rw (digits, back)
 
 -- what is read as a reading is the form of that reading
-read_form : (bytes : List ℕ) (reading : ℕ) → unpack_answer bytes ≡ unpacked.Reading reading → (reading ≤ 99_999_999) ×
+read_form : (bytes : List ℕ) (reading : ℕ) → unpack_answer bytes ≡ Ok reading → (reading ≤ 99_999_999) ×
     (form reading ≡ bytes)
 unfolding unpack_answer
 read_form bytes reading e =
     let (same, kept) =
-    unless_answered unpacked.Refused (λ a. a ≡ unpacked.Reading reading) (λ n r. let z : ◌≡◌ {A = ℕ} 0 1 = cc in omega arith)
+    unless_answered Err (λ a. a ≡ Ok reading) (λ n r. let z : ◌≡◌ {A = ℕ} 0 1 = cc in omega arith)
     (unpack_rules bytes) _ e in
     let digits : above_nine bytes ≡ false = kept 1 in
     let long : length bytes ≡ 4 = eqb-true _ _ (not-false _ (kept 0)) in
@@ -54,7 +53,7 @@ one_form reading h bytes = (
 -- and no two readings share theirs
 pub one_reading : (m n : ℕ) → m ≤ 99_999_999 → n ≤ 99_999_999 → form m ≡ form n → m ≡ n
 one_reading m n h l e =
-    let same : unpacked.Reading m ≡ unpacked.Reading n = sym (form_read m h) ∙ ap unpack_answer e ∙ form_read n l in
+    let same : Ok m ≡ Ok n = sym (form_read m h) ∙ ap unpack_answer e ∙ form_read n l in
     cc
 
 -- there and back from a reading
@@ -62,9 +61,9 @@ pub packed_then_unpacked : PackedThenUnpacked
 unfolding pack_answer pack_after
 packed_then_unpacked reading bytes e =
     let (_, kept) =
-    unless_answered performed.Refused (λ a. a ≡ performed.Done) (λ n r. let z : ◌≡◌ {A = ℕ} 0 1 = cc in omega arith)
+    unless_answered Err (λ a. a ≡ Ok tt) (λ n r. let z : ◌≡◌ {A = ℕ} 0 1 = cc in omega arith)
     (pack_rules reading bytes) _ e in
-    ap (λ (a : Performed). unpack_answer (bytes_after a reading bytes)) e ∙ form_read reading (ltb-false _ _ (kept 1))
+    ap (λ (a : (Result (Unit {0}) Refusal)). unpack_answer (bytes_after a reading bytes)) e ∙ form_read reading (ltb-false _ _ (kept 1))
 
 -- there and back from bytes, into any four
 pub unpacked_then_packed : UnpackedThenPacked

@@ -1,12 +1,11 @@
 -- Dials in packed decimal (02, W9).
+use Rattle.base.specs.declared.Refusal.TheVariants.{WrongLength, ReadingOver, HalfByteOver}
+use Rattle.base.specs.declared.Refusal.{Refusal}
+use Rattle.std.specs.Prelude.{Result, Ok, Err}
 use Rattle.std.specs.Prelude.{Bool, false, not, ◌||◌, List, [], ◌∷◌, ℕ, ◌+◌, ◌*◌, ◌/◌, ◌%◌, ◌^◌, ltb, eqb, length}
-use Rattle.base.specs.Refusals.{Rule, unless}
+use Rattle.base.specs.Refusals.{Rule, answered}
 use Rattle.base.specs.Refusals.Rule.{rule}
-use Rattle.base.specs.declared.Performed.{Performed}
-use Rattle.base.specs.declared.Performed.TheVariants as performed
 use Rattle.base.specs.Numbers.{eight_digits}
-use Rattle.dial.specs.declared.Unpacked.{Unpacked}
-use Rattle.dial.specs.declared.Unpacked.TheVariants as unpacked
 
 -- ---- The form of a reading
 
@@ -49,22 +48,22 @@ not_four bytes = not (eqb (length bytes) 4)
 
 -- 6 reading over 99,999,999
 abbrev pub pack_rules : ℕ → List ℕ → List Rule
-pack_rules reading bytes = rule 2 (not_four bytes) ∷ rule 6 (ltb eight_digits reading) ∷ []
+pack_rules reading bytes = rule WrongLength (not_four bytes) ∷ rule ReadingOver (ltb eight_digits reading) ∷ []
 
-unfoldable pub pack_answer : ℕ → List ℕ → Performed
-pack_answer reading bytes = unless performed.Refused (pack_rules reading bytes) performed.Done
+unfoldable pub pack_answer : ℕ → List ℕ → Result (Unit {0}) Refusal
+pack_answer reading bytes = answered (pack_rules reading bytes) tt
 
 -- what the bytes hold after an answer: a refusal changes none
-abbrev pub bytes_after : Performed → ℕ → List ℕ → List ℕ
-bytes_after performed.Done reading bytes = form reading
-bytes_after (performed.Refused n) reading bytes = bytes
+abbrev pub bytes_after : Result (Unit {0}) Refusal → ℕ → List ℕ → List ℕ
+bytes_after (Ok _) reading bytes = form reading
+bytes_after (Err n) reading bytes = bytes
 
 unfoldable pub pack_after : ℕ → List ℕ → List ℕ
 pack_after reading bytes = bytes_after (pack_answer reading bytes) reading bytes
 
 -- 16 a half byte above 9
 abbrev pub unpack_rules : List ℕ → List Rule
-unpack_rules bytes = rule 2 (not_four bytes) ∷ rule 16 (above_nine bytes) ∷ []
+unpack_rules bytes = rule WrongLength (not_four bytes) ∷ rule HalfByteOver (above_nine bytes) ∷ []
 
-unfoldable pub unpack_answer : List ℕ → Unpacked
-unpack_answer bytes = unless unpacked.Refused (unpack_rules bytes) (unpacked.Reading (reading_of bytes))
+unfoldable pub unpack_answer : List ℕ → Result ℕ Refusal
+unpack_answer bytes = answered (unpack_rules bytes) (reading_of bytes)

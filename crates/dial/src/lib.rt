@@ -4,14 +4,7 @@
 ghost use Rattle.std.specs.Prelude.{[], ◌∷◌, ◌≡◌, ◌+◌, ◌*◌, ◌≤◌};
 ghost use Rattle.dial.specs.Dial.{byte_at, above_nine, upper, lower, pack_answer, pack_after, unpack_answer};
 
-use base::{EIGHT_DIGITS, Performed};
-
-// What `unpack` answers.
-#[derive(Clone, Copy)]
-pub enum Unpacked {
-    Reading(u32),
-    Refused(u8),
-}
+use base::{EIGHT_DIGITS, Refusal};
 
 // The last two digits of `n` in a byte.
 fn two_digits(n: u32) -> u8
@@ -39,40 +32,36 @@ fn value(byte: u8) -> u32
 }
 
 // Puts the form of `reading` into four bytes.
-pub fn pack(reading: u32, bytes: &mut [u8]) -> Performed
+pub fn pack(reading: u32, bytes: &mut [u8]) -> Result<(), Refusal>
     ensures { (result ≡ pack_answer reading bytes.old)
         × (bytes.new ≡ pack_after reading bytes.old) }
 {
     if bytes.len() != 4 {
-        return Performed::Refused(2);
+        return Err(Refusal::WrongLength);
     }
     if EIGHT_DIGITS < reading {
-        return Performed::Refused(6);
+        return Err(Refusal::ReadingOver);
     }
     bytes[0] = two_digits(reading);
     bytes[1] = two_digits(reading / 100);
     bytes[2] = two_digits(reading / 10_000);
     bytes[3] = two_digits(reading / 1_000_000);
-    Performed::Done
+    Ok(())
 }
 
 // The reading of which `bytes` are the form.
-pub fn unpack(bytes: &[u8]) -> Unpacked
+pub fn unpack(bytes: &[u8]) -> Result<u32, Refusal>
     ensures { result ≡ unpack_answer bytes.now }
 {
-    let len = bytes.len();
-    if len != 4 {
-        return Unpacked::Refused(2);
-    }
-    let mut i = 0;
-    while i < len {
-        if above_nine(bytes[i]) {
-            return Unpacked::Refused(16);
+    let [a, b, c, d] = bytes else {
+        return Err(Refusal::WrongLength);
+    };
+    for byte in bytes {
+        if above_nine(*byte) {
+            return Err(Refusal::HalfByteOver);
         }
-        i += 1;
     }
-    let low = value(bytes[0]) + 100 * value(bytes[1]);
-    let high = value(bytes[2]) + 100 * value(bytes[3]);
-    let reading = low + 10_000 * high;
-    Unpacked::Reading(reading)
+    let low = value(*a) + 100 * value(*b);
+    let high = value(*c) + 100 * value(*d);
+    Ok(low + 10_000 * high)
 }

@@ -7,38 +7,46 @@ use Prim.Native.Nat.{ℕ, zero, suc, ◌+◌, ◌-◌, ◌*◌, ◌/◌, ◌≤�
 use native.Mathlib.Nat.{mul_comm, mul-le-mul_right, le-div_iff_mul-le, div-lt_iff_lt-mul}
 use native.Mathlib.Numerals.{sub-one}
 use native.Mathlib.Omega.{arith}
-use borrow.Author.Tests.{eq-eqb, ne_eqb}
 use lib.Dec.{eqb}
+use lib.ListN.{get_or}
+use Rattle.std.specs.Prelude.{Some, None}
 use Rattle.rules.specs.declared.Head.{Head}
-use Rattle.rules.specs.declared.spans.Scaling.{Scaling}
 use Rattle.rules.specs.declared.spans.Summary.{Summary}
-use Rattle.rules.specs.Opening.{Slots, Agreed, Cells, slots_per_day, slot_count}
-use Rattle.rules.specs.Spans.{is_read, last_read, next_read, start, slots_in, G, range, R, actual_sum, state_of, T, all_zero, e, E, P}
-use Rattle.rules.specs.Lent.{cells}
-use Rattle.rules.specs.Inner.Summaries.{summary_of, scaling_of}
+use Rattle.rules.specs.Opening.{Cells, slots_per_day, slot_count}
+use Rattle.rules.specs.Spans.{is_read, last_read, next_read, start, slots_in, range, R, actual_sum, state_of, T, all_zero, e, E, P}
+use Rattle.rules.specs.Inner.Summaries.{summary_of}
 use Rattle.rules.specs.Inner.Stretches.{scaling_at, span_stretch, stretch_of, stretch_on, stretch_at}
 use Rattle.rules.proofs.Bounds.{Bounded}
 use Rattle.rules.proofs.Boundaries.{last_tells, next_tells}
+use Rattle.rules.proofs.Stretches.{is_read_lem, unread}
 use Rattle.rules.proofs.SpanSums.{compared_advance, summary, weights, compared_is}
 use Rattle.explain.specs.declared.Spanned.{Spanned}
-use Rattle.explain.specs.Explain.{none_spanned, spanned_by, earlier, later}
+use Rattle.explain.specs.Explain.{spanned_by, earlier, later}
 use Rattle.explain.specs.Inner.Holding.{unscaled, scaling_with, spanned_with, Between}
 
--- the search back for a boundary with a reading
+-- the search back for a boundary with a reading: the last below boundary d
+abbrev pub last_below : List ℕ → ℕ → Option ℕ
+last_below r zero = none
+last_below r (suc d) = last_read r d
+
 module _ (r : List ℕ) where
-  pub last_at : (d : ℕ) → is_read r d ≡ true → last_read r d ≡ some d
+  last_here : (d : ℕ) → is_read r d ≡ true → last_read r d ≡ some d
   unfolding last_read
-  last_at zero t = rw t
-  last_at (suc d) t = rw t
+  last_here zero t = rw t
+  last_here (suc d) t = rw t
 
-  pub last_on : (d : ℕ) → 0 < d → is_read r d ≡ false → last_read r d ≡ last_read r (d - 1)
+  last_before : (d : ℕ) → is_read r d ≡ false → last_read r d ≡ last_below r d
   unfolding last_read
+  last_before zero t = rw t
+  last_before (suc d) t = rw t
+
+  pub last_at : (d : ℕ) → 0 < d → (get_or r (d - 1) 0 ≡ 0 → ⊥) → last_below r d ≡ some (d - 1)
+  last_at zero l t = absurd (omega arith)
+  last_at (suc d) l t = rw sub-one (last_here d (is_read_lem r d (rw sub-one at t)))
+
+  pub last_on : (d : ℕ) → 0 < d → get_or r (d - 1) 0 ≡ 0 → last_below r d ≡ last_below r (d - 1)
   last_on zero l t = absurd (omega arith)
-  last_on (suc d) l t = rw (t, sub-one)
-
-  pub last_none : is_read r 0 ≡ false → last_read r 0 ≡ none
-  unfolding last_read
-  last_none t = rw t
+  last_on (suc d) l t = rw sub-one (last_before d (unread r d (rw sub-one at t)))
 
 -- a slot between two boundaries
 pub between_inside : (h : Head) (i first last : ℕ) → Between h i first last → i < slot_count h
@@ -65,9 +73,24 @@ between_read h w r i first last p q =
 -- its figures and scaling, from the sums of its slots
 module _ (h : Head) (b : Cells) (first last : ℕ) where
   module _ (m : Summary) (p : m ≡ summary h b first last (slots_in h b first last)) where
-    pub spanned_found : spanned_with h b.readings b.widths first last m ≡ spanned_by h b (some first) (some last)
-    unfolding spanned_with spanned_by actual_sum summary_of
-    spanned_found = rw (compared_is h b first last m p, p)
+    abbrev figures : Spanned
+    figures = record {
+      first = first;
+      last = last;
+      lowest = (range h b first last).lowest;
+      highest = (range h b first last).highest;
+      advance = R h b first last;
+      actual = actual_sum h b first last;
+      state = state_of h b first last;
+    }
+
+    figures_are : spanned_with h b.readings b.widths first last m ≡ figures
+    unfolding spanned_with actual_sum summary_of
+    figures_are = rw (compared_is h b first last m p, p)
+
+    pub spanned_found : Some (spanned_with h b.readings b.widths first last m) ≡ spanned_by h b (some first) (some last)
+    unfolding spanned_by
+    spanned_found = ap Some figures_are
 
     module _ (i : ℕ) (before : Summary) (q : before ≡ summary h b first last (i - start h b first last)) where
       scaling_before : scaling_with 1 m before (R h b first last) ≡ scaling_at h b first last i
@@ -82,28 +105,16 @@ module _ (h : Head) (b : Cells) (first last : ℕ) where
 
       pub held_scaling : (s : Spanned) → s ≡ spanned_with h b.readings b.widths first last m
           → scaling_with s.state m before s.advance ≡ (span_stretch h b first last i).by
-      unfolding span_stretch spanned_by scaling_with
+      unfolding span_stretch scaling_with
       held_scaling s f =
-          let state : s.state ≡ state_of h b first last = ap (λ (x : Spanned). x.state) (f ∙ spanned_found) in
-          let r : s.advance ≡ R h b first last = ap (λ (x : Spanned). x.advance) (f ∙ spanned_found) in
+          let state : s.state ≡ state_of h b first last = ap (λ (x : Spanned). x.state) (f ∙ figures_are) in
+          let r : s.advance ≡ R h b first last = ap (λ (x : Spanned). x.advance) (f ∙ figures_are) in
           rw (state, r) (go (eqb (state_of h b first last) 1) refl)
         where
           go : (t : Bool) → eqb (state_of h b first last) 1 ≡ t
               → scaling_with (state_of h b first last) m before (R h b first last) ≡ (span_stretch h b first last i).by
           go true t = rw t scaling_before
           go false t = rw t
-
--- a scaling with the P of a slot
-module _ (state : ℕ) (m before : Summary) (by : Scaling) (r : ℕ) (one : state ≡ 1) (e : by ≡ scaling_of m r) where
-  pub scaling_ones : m.shapes ≡ 0
-      → record { t = by.t; whole = by.whole; extra = by.extra; passed = before.count } ≡ scaling_with state m before r
-  unfolding scaling_with scaling_of
-  scaling_ones z = rw (e, eq-eqb state 1 one, eq-eqb m.shapes 0 z)
-
-  pub scaling_shapes : (m.shapes ≡ 0 → ⊥)
-      → record { t = by.t; whole = by.whole; extra = by.extra; passed = before.shapes } ≡ scaling_with state m before r
-  unfolding scaling_with scaling_of
-  scaling_shapes z = rw (e, eq-eqb state 1 one, ne_eqb m.shapes 0 z)
 
 -- state 1 is given only where R ≥ V
 pub spanned_advance : (h : Head) (readings widths : List ℕ) (first last : ℕ) (m : Summary) (s : Spanned)
@@ -114,20 +125,13 @@ spanned_advance h readings widths first last m s e z =
     let r = ap (λ (x : Spanned). x.advance) e in
     rw r (compared_advance h readings widths first last m _ refl (sym state ∙ z))
 
--- they rest on no register version
-module _ (h : Head) (s : Slots) (holidays readings v w : List ℕ) (agreed : Agreed) (widths : List ℕ) (first last : ℕ) where
-  pub spanned_versions : spanned_by h (cells s holidays readings v agreed widths) (some first) (some last)
-      ≡ spanned_by h (cells s holidays readings w agreed widths) (some first) (some last)
-  unfolding spanned_by G range R state_of actual_sum start slots_in
-  spanned_versions = refl
-
 -- a slot that lies in no span
 module _ (h : Head) (b : Cells) (i : ℕ) where
   abbrev d : ℕ
   d = i / slots_per_day h
 
   pub outside_first : last_read b.read_versions d ≡ none
-      → (none_spanned ≡ spanned_by h b (earlier b d) (later h b d)) × (unscaled ≡ (stretch_at h b i).by)
+      → (None ≡ spanned_by h b (earlier b d) (later h b d)) × (unscaled ≡ (stretch_at h b i).by)
   unfolding spanned_by stretch_at stretch_on stretch_of
   outside_first e = rw e (refl, go (next_read b.read_versions (d + 1) (h.days - d)))
     where
@@ -136,7 +140,7 @@ module _ (h : Head) (b : Cells) (i : ℕ) where
       go none = refl
 
   pub outside_last : (first : ℕ) → last_read b.read_versions d ≡ some first → next_read b.read_versions (d + 1) (h.days - d) ≡ none
-      → (none_spanned ≡ spanned_by h b (earlier b d) (later h b d)) × (unscaled ≡ (stretch_at h b i).by)
+      → (None ≡ spanned_by h b (earlier b d) (later h b d)) × (unscaled ≡ (stretch_at h b i).by)
   unfolding spanned_by stretch_at stretch_on stretch_of
   outside_last first e f = rw (e, f) (refl, refl)
 

@@ -1,14 +1,10 @@
 -- The pass before a slot, found from the last good slot before it.
 use mathlib.Core.Bool.{Bool, true, false}
 use mathlib.Core.List.{List}
-use mathlib.Core.Logic.{⊎_elim}
 use mathlib.Core.Path.{◌≡◌, refl, sym, ap, ◌∙◌}
-use Prim.Native.Nat.{ℕ, zero, suc, ◌+◌, ◌-◌, ◌≤◌, ◌<◌}
+use Prim.Native.Nat.{ℕ, zero, suc, ◌+◌, ◌-◌}
 use native.Mathlib.Numerals.{add-one}
 use native.Mathlib.Omega.{arith}
-use borrow.Author.Tests.{ltb-true, ltb-false}
-use lib.Dec.{ltb}
-use Rattle.base.proofs.Logic.{either}
 use Rattle.rules.specs.declared.Head.{Head}
 use Rattle.rules.specs.declared.walk.Walk.{Walk}
 use Rattle.rules.specs.declared.linear.StraightLine.{StraightLine}
@@ -20,15 +16,6 @@ use Rattle.rules.proofs.Lines.{line_none}
 use Rattle.rules.proofs.Runs.{run_good}
 
 module _ (h : Head) (s : Slots) where
-  -- one slot further back
-  pub since_on : (i from : ℕ) → ((k : ℕ) → from ≤ k → k < i → good_at h s k ≡ false) → good_at h s (from - 1) ≡ false
-      → (k : ℕ) → from - 1 ≤ k → k < i → good_at h s k ≡ false
-  since_on i from p e k l m =
-      ⊎_elim
-      (λ t. let z : k ≡ from - 1 = omega (arith, ltb-true k from t) in rw z e)
-      (λ t. p k (ltb-false k from t) m)
-      (either (ltb k from))
-
   -- behind a good slot, or at slot 0, a pass knows nothing
   module _ (v : List ℕ) (n : ℕ) where
     pub none_before : (from : ℕ) → ((from ≡ 0 → ⊥) → good_at h s (from - 1) ≡ true)

@@ -3,13 +3,14 @@ use mathlib.Core.Bool.{Bool, true, false, cond, and-false}
 use mathlib.Core.List.{List}
 use mathlib.Core.Logic.{⊎_elim}
 use mathlib.Core.Option.{Option, none, some}
-use mathlib.Core.Path.{◌≡◌, refl, sym, ap, ◌∙◌}
+use mathlib.Core.Path.{◌≡◌, refl, sym, ◌∙◌}
 use Prim.Native.Nat.{ℕ, ◌+◌, ◌-◌, ◌/◌, ◌≤◌, ◌<◌}
 use native.Mathlib.Omega.{arith}
 use borrow.Author.Tests.{ne_eqb}
 use lib.Dec.{eqb}
 use lib.ListN.{length}
 use Rattle.base.proofs.Logic.{either}
+use Rattle.std.specs.Prelude.{Option as Coded, None}
 use Rattle.rules.specs.declared.Head.{Head}
 use Rattle.rules.specs.declared.Outcome.{Outcome}
 use Rattle.rules.specs.declared.spans.Scaling.{Scaling}
@@ -18,7 +19,7 @@ use Rattle.rules.specs.declared.tests.Cause.{Cause}
 use Rattle.rules.specs.Opening.{Slots, Agreed, Cells, slots_per_day}
 use Rattle.rules.specs.Tests.{cause_at, good_at}
 use Rattle.rules.specs.Filling.{is_outage_zero, is_agreed, in_run, is_linear, references, from_references, filled_at, shape_at}
-use Rattle.rules.specs.Spans.{is_s, last_read, next_read, start, slots_in, state_of, all_zero, E, P, C, outcome_at}
+use Rattle.rules.specs.Spans.{is_s, is_n, last_read, next_read, start, slots_in, state_of, all_zero, E, P, C, outcome_at}
 use Rattle.rules.specs.Inner.Lent.{WidthsLow}
 use Rattle.rules.specs.Inner.Walks.{line_at, line_through, walk_at}
 use Rattle.rules.specs.Inner.Summaries.{scaled_by}
@@ -29,20 +30,36 @@ use Rattle.rules.proofs.Places.{span_end}
 use Rattle.rules.proofs.Scaling.{running}
 use Rattle.rules.proofs.Steps.{weight, whole_low, step_outcome, step_scalable}
 use Rattle.explain.specs.declared.Rule.{Rule}
+use Rattle.explain.specs.declared.Rule.TheVariants.{Delivered, Agreed as Settled, OutageZero, Linear, SameDay, Nothing}
+use Rattle.rules.specs.declared.linear.StraightLine.{StraightLine}
 use Rattle.rules.specs.declared.filling.References.{References}
 use Rattle.explain.specs.declared.Shares.{Shares}
 use Rattle.explain.specs.declared.held.Held.{Held}
-use Rattle.explain.specs.Explain.{rule_at, is_line, no_line, line_of, found_of, spanned_by, no_shares, shares_by, earlier, later}
+use Rattle.explain.specs.Explain.{rule_at, line_of, found_of, spanned_by, shares_by, earlier, later}
 use Rattle.explain.specs.Explain.{explanation_of}
 use Rattle.explain.specs.Inner.Holding.{shares_with}
 use Rattle.explain.specs.Inner.Telling.{rule_of, scaled_to, told_with}
 use Rattle.explain.proofs.Holding.{between_read}
 use Rattle.explain.proofs.Passing.{line_next}
 
+-- the line in an outcome's rule
+line_in : (o : Outcome) (x l : StraightLine) (f : References) → rule_of o x f ≡ Linear l → x ≡ l
+unfolding rule_of
+line_in o x l f = go (eqb o.method 1) (eqb o.method 2) (eqb o.method 3) (eqb o.method 5) (is_n o.quality)
+  where
+    go : (p q r s t : Bool)
+        → cond p OutageZero (cond q (Linear x) (cond r (SameDay f) (cond s Settled (cond t Nothing Delivered)))) ≡ Linear l → x ≡ l
+    go true q r s t e = cc
+    go false true r s t e = cc
+    go false false true s t e = cc
+    go false false false true t e = cc
+    go false false false false true e = cc
+    go false false false false false e = cc
+
 -- the rule that applied, and its line
 module _ (h : Head) (s : Slots) (a : Agreed) (holidays : List ℕ) (i : ℕ) where
-  pub rule_is : rule_of (filled_at h s a holidays i) ≡ rule_at h s a holidays i
-  unfolding rule_of filled_at rule_at from_references
+  pub rule_is : rule_of (filled_at h s a holidays i) (line_at h s a.versions i) (found_of h s holidays i) ≡ rule_at h s a holidays i
+  unfolding rule_of filled_at rule_at from_references line_of line_at line_through in_run
   rule_is =
       ⊎_elim (λ x. rw x) (λ x. rw x (
       ⊎_elim (λ y. rw y) (λ y. rw y (
@@ -55,20 +72,8 @@ module _ (h : Head) (s : Slots) (a : Agreed) (holidays : List ℕ) (i : ℕ) whe
       (either (is_agreed a.versions i))))
       (either (good_at h s i))
 
-  pub line_is : cond (is_line (rule_at h s a holidays i)) (line_at h s a.versions i) no_line
-      ≡ line_of (rule_at h s a holidays i) h s a.versions i
-  unfolding rule_at line_of line_at line_through in_run
-  line_is =
-      ⊎_elim (λ x. rw x) (λ x. rw x (
-      ⊎_elim (λ y. rw y) (λ y. rw y (
-      ⊎_elim (λ z. rw z) (λ z. rw z (
-      ⊎_elim (λ l. rw l) (λ l. rw l (
-      ⊎_elim (λ n. rw n) (λ n. rw n)
-      (either (eqb (length (references h s holidays i)) 0))))
-      (either (is_linear h s a.versions i))))
-      (either (is_outage_zero h s i))))
-      (either (is_agreed a.versions i))))
-      (either (good_at h s i))
+  pub line_is : (l : StraightLine) → rule_at h s a holidays i ≡ Linear l → line_at h s a.versions i ≡ l
+  line_is l e = line_in _ _ l _ (rule_is ∙ e)
 
 module _ (h : Head) (w : Bounded h) (b : Cells) (i : ℕ) where
   abbrev o : Outcome
@@ -100,10 +105,10 @@ module _ (h : Head) (w : Bounded h) (b : Cells) (i : ℕ) where
     reached_is = rw (← weight h w b i first last l m q) (sym (running h b first last i l))
 
   -- C stands in the scaling one slot on
-  abbrev told : Scaling → Shares
+  abbrev told : Scaling → Coded Shares
   told by = shares_with o.quality by (fit_next o x (scaled_to by)).by.passed
 
-  shares_none : (by : Scaling) → by.whole ≡ 0 → told by ≡ no_shares
+  shares_none : (by : Scaling) → by.whole ≡ 0 → told by ≡ None
   unfolding shares_with
   shares_none by z = rw (z, and-false)
 
@@ -132,29 +137,24 @@ module _ (h : Head) (w : Bounded h) (b : Cells) (i : ℕ) where
       go none none p q = shares_none _ refl
 
   -- the whole explanation
-  module _ (cause : Cause) (new : Filled) (found : References) (held : Held)
+  module _ (cause : Coded Cause) (new : Filled) (rule : Rule) (held : Held)
       (c : cause ≡ cause_at h b.slots i) (outcome : new.outcome ≡ o) (shaped : new.shape ≡ x)
       (next : new.next ≡ walk_at h b.slots b.agreed.versions (i + 1))
-      (f : found ≡ found_of (rule_of new.outcome) h b.slots b.holidays i)
+      (by_rule : rule ≡ rule_of new.outcome new.next.line (found_of h b.slots b.holidays i))
       (span : held.span ≡ spanned_by h b (earlier b d) (later h b d)) (by : held.by ≡ (stretch_at h b i).by) where
-    applied : rule_of new.outcome ≡ rule_at h b.slots b.agreed b.holidays i
-    applied = ap rule_of outcome ∙ rule_is h b.slots b.agreed b.holidays i
-
     lined : new.next.line ≡ line_at h b.slots b.agreed.versions i
     lined = walk_line h b.slots b.agreed.versions new.next (i + 1) next ∙ sym (line_next h b.slots b.agreed.versions 0 i)
 
-    line_told : cond (is_line (rule_of new.outcome)) new.next.line no_line
-        ≡ line_of (rule_at h b.slots b.agreed b.holidays i) h b.slots b.agreed.versions i
-    line_told = rw (applied, lined) (line_is h b.slots b.agreed b.holidays i)
+    applied : rule ≡ rule_at h b.slots b.agreed b.holidays i
+    applied =
+        by_rule ∙ (λ t. rule_of (outcome t) (lined t) (found_of h b.slots b.holidays i)) ∙ rule_is h b.slots b.agreed b.holidays i
 
-    pub told_is : told_with cause new found held ≡ explanation_of h b i
+    pub told_is : told_with cause new rule held ≡ explanation_of h b i
     unfolding told_with explanation_of
     told_is = λ t. record {
       cause = c t;
       rule = applied t;
       filled = outcome t;
-      line = line_told t;
-      found = (f ∙ ap (λ (r : Rule). found_of r h b.slots b.holidays i) applied) t;
       span = span t;
       shares =
           ((λ u. shares_with (outcome u).quality (by u) (fit_next (outcome u) (shaped u) (scaled_to (by u))).by.passed) ∙ shares_are) t;

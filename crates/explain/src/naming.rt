@@ -11,29 +11,24 @@ pub struct Moment {
     pub minute: u32,
 }
 
-#[derive(Clone, Copy)]
-pub enum Named {
-    Slot(u32),
-    Outside,
-}
-
 // The slot of a book that a moment lies in.
-pub fn slot_at(head: Head, moment: Moment) -> Named
+#[tactic(auto, using(rules::proofs::Bounds::bounded), unfolding(crate::specs::Naming::slot_named, rules::specs::Opening::slots_per_day))]
+pub fn slot_at(head: Head, moment: Moment) -> Option<u32>
     ensures { result ≡ slot_named head moment }
 {
     if !opening::head_ok(head) {
-        return Named::Outside;
+        return None;
     }
     let first = opening::first_day(head);
     if moment.day < first {
-        return Named::Outside;
+        return None;
     }
     let day = moment.day - first;
     if head.days <= day {
-        return Named::Outside;
+        return None;
     }
     if 1440 <= moment.minute {
-        return Named::Outside;
+        return None;
     }
-    Named::Slot(day * (1440 / head.interval) + moment.minute / head.interval)
+    Some(day * (1440 / head.interval) + moment.minute / head.interval)
 }

@@ -1,4 +1,5 @@
 -- The file of a well-formed content is accepted, with the content's figures and tables.
+use Rattle.std.specs.Prelude.{Ok}
 use mathlib.Core.Path.{◌≡◌, refl, sym, ap, ap₂, ◌∙◌}
 use mathlib.Core.Bool.{Bool, true, cond}
 use Prim.Native.Nat.{ℕ, ◌+◌, ◌-◌, ◌*◌, ◌/◌, ◌^◌, ◌≤◌, ◌<◌}
@@ -16,7 +17,6 @@ use Rattle.rules.specs.declared.Outcome.{Outcome}
 use Rattle.rules.specs.declared.Quality.{Quality}
 use Rattle.rules.specs.declared.Quality.TheVariants.{A, S, F, N}
 use Rattle.rules.specs.Spans.{is_a, is_s, is_f, is_n, no_outcome}
-use Rattle.file.specs.declared.Verdict.TheVariants.{Accepted}
 use Rattle.file.specs.Layout.{Content, letter, total, one, row, ranged, span_width, trailer_row, figures_of, tables_of, file_of}
 use Rattle.file.specs.Reader.{figures, file_slots, layout_fits, count_of, tables_at, trailer_ok, tables_ok, figures_ok, read_file, part_of}
 use Rattle.file.specs.Reader.{tables_part}
@@ -139,7 +139,7 @@ module _ (f : Content) (w : WellFormed f) where
       )
 
   -- with the content's figures
-  pub accepted : read_file (file_of f) ≡ Accepted (figures_of f)
+  pub accepted : read_file (file_of f) ≡ Ok (figures_of f)
   accepted = accepted_with (file_of f) (figures_of f) (sym figures_back) trailer_right tables_right figures_right
 
   -- and with its tables

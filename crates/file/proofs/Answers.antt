@@ -1,4 +1,5 @@
 -- The reader's answer from the outcomes of its tests.
+use Rattle.std.specs.Prelude.{Ok, Err}
 use mathlib.Core.Path.{◌≡◌, refl, sym, ap, ◌∙◌}
 use mathlib.Core.Bool.{Bool, true, false, ◌&&◌}
 use mathlib.Core.List.{List}
@@ -9,8 +10,8 @@ use lib.ListN.{length}
 use Rattle.base.proofs.Logic.{passed}
 use Rattle.calendar.specs.Calendar.{day_count}
 use Rattle.rules.specs.Numbers.{day_minutes}
+use Rattle.base.specs.declared.Refusal.TheVariants.{WrongFrame, WrongContent}
 use Rattle.file.specs.declared.Figures.{Figures}
-use Rattle.file.specs.declared.Verdict.TheVariants.{Accepted, Refused}
 use Rattle.file.specs.Reader.{head_field_tests, trailer_tests, figures, trailer_ok, tables_ok, figures_ok, verdict, read_file}
 use Rattle.file.specs.Inner.Reading.{Ready, Tabled}
 use Rattle.file.proofs.Head.{interval_is, interval_pos, per_day_le, days_le, slots_ge}
@@ -27,19 +28,19 @@ module _ (bs : List ℕ) (g : Figures) (e : g ≡ figures bs) where
   unfolding read_file
   answer = ap (λ (f : Figures). verdict (trailer_ok bs f) (tables_ok bs f && figures_ok bs f) f) (sym e)
 
-  pub refused_8 : trailer_ok bs g ≡ false → read_file bs ≡ Refused 8
+  pub refused_8 : trailer_ok bs g ≡ false → read_file bs ≡ Err WrongFrame
   refused_8 p = answer ∙ rw p
 
-  pub refused_tables : trailer_ok bs g ≡ true → tables_ok bs g ≡ false → read_file bs ≡ Refused 9
+  pub refused_tables : trailer_ok bs g ≡ true → tables_ok bs g ≡ false → read_file bs ≡ Err WrongContent
   refused_tables p q = answer ∙ rw (p, q)
 
-  pub refused_figures : trailer_ok bs g ≡ true → tables_ok bs g ≡ true → figures_ok bs g ≡ false → read_file bs ≡ Refused 9
+  pub refused_figures : trailer_ok bs g ≡ true → tables_ok bs g ≡ true → figures_ok bs g ≡ false → read_file bs ≡ Err WrongContent
   refused_figures p q r = answer ∙ rw (p, q, r)
 
-  pub accepted_with : trailer_ok bs g ≡ true → tables_ok bs g ≡ true → figures_ok bs g ≡ true → read_file bs ≡ Accepted g
+  pub accepted_with : trailer_ok bs g ≡ true → tables_ok bs g ≡ true → figures_ok bs g ≡ true → read_file bs ≡ Ok g
   accepted_with p q r = answer ∙ rw (p, q, r)
 
-pub refused_short : (bs : List ℕ) → length bs < 32 → read_file bs ≡ Refused 8
+pub refused_short : (bs : List ℕ) → length bs < 32 → read_file bs ≡ Err WrongFrame
 unfolding trailer_ok
 refused_short bs l = refused_8 bs (figures bs) refl (rw (lt-leb 32 (length bs) l))
 
@@ -49,14 +50,14 @@ pub record Passed (bs : List ℕ) (g : Figures) : Type 0 where
   pub tables : tables_ok bs g ≡ true
   pub figures : figures_ok bs g ≡ true
 
-taken : (a b c : Bool) (g h : Figures) → verdict a (b && c) g ≡ Accepted h → (a ≡ true) × (b ≡ true) × (c ≡ true) × (g ≡ h)
+taken : (a b c : Bool) (g h : Figures) → verdict a (b && c) g ≡ Ok h → (a ≡ true) × (b ≡ true) × (c ≡ true) × (g ≡ h)
 taken true true true g h e = (refl, refl, refl, cc)
 taken true true false g h e = (refl, refl, cc, cc)
 taken true false c g h e = (refl, cc, cc, cc)
 taken false b c g h e = (cc, cc, cc, cc)
 
 -- an accepted file passed every test, and its figures are given
-pub tests_passed : (bs : List ℕ) (g : Figures) → read_file bs ≡ Accepted g → Passed bs g × (figures bs ≡ g)
+pub tests_passed : (bs : List ℕ) (g : Figures) → read_file bs ≡ Ok g → Passed bs g × (figures bs ≡ g)
 unfolding read_file
 tests_passed bs g e =
     let f = figures bs in
@@ -65,7 +66,7 @@ tests_passed bs g e =
 
 -- ---- An accepted file
 
-module _ (bs : List ℕ) (g : Figures) (e : read_file bs ≡ Accepted g) where
+module _ (bs : List ℕ) (g : Figures) (e : read_file bs ≡ Ok g) where
   is_ready : Ready bs g
   is_ready = ready bs g (tests_passed bs g e).0.trailer
 

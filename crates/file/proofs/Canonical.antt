@@ -1,4 +1,6 @@
 -- Bytes that the reader accepts are the file of the content that their figures and tables hold.
+use Rattle.base.specs.declared.Refusal.{Refusal}
+use Rattle.std.specs.Prelude.{Result, Ok}
 use mathlib.Core.Path.{◌≡◌, refl, sym, ap, ap₂, ◌∙◌}
 use mathlib.Core.Bool.{Bool}
 use mathlib.Core.List.{List, [], ◌∷◌, ◌++◌}
@@ -17,8 +19,6 @@ use Rattle.rules.specs.declared.Quality.TheVariants.{A, S, F, N}
 use Rattle.rules.specs.Spans.{is_a, is_s, is_f, is_n, no_outcome, no_span}
 use Rattle.file.specs.declared.Figures.{Figures}
 use Rattle.file.specs.declared.slots.SlotRecord.{SlotRecord}
-use Rattle.file.specs.declared.Verdict.{Verdict}
-use Rattle.file.specs.declared.Verdict.TheVariants.{Accepted}
 use Rattle.file.specs.Layout.{Content, total, one, row, fields_of, table, slot_widths, slot_row, span_row, ranged, span_width}
 use Rattle.file.specs.Layout.{span_table_bytes, trailer_widths, trailer_row, figures_of, tables_of, file_of}
 use Rattle.file.specs.Reader.{field_at, slot_at, span_at, trailer_at, trailer_field, figures, layout_fits, file_slots, tables_at, count_of}
@@ -218,7 +218,7 @@ pub canonical : Canonical
 canonical bs b g e =
     let (k, same) = tests_passed bs g e in
     let p : Passed bs (figures bs) = rw same k in
-    let part : tables_part bs ≡ take (trailer_at bs) bs = unfold tables_part in ap (λ (v : Verdict). part_of v bs) e in
+    let part : tables_part bs ≡ take (trailer_at bs) bs = unfold tables_part in ap (λ (v : Result Figures Refusal). part_of v bs) e in
     let content : content_of g (tables_part bs) ≡ content_of (figures bs) bs =
     ap (content_of g) part ∙ ap (λ (x : Figures). content_of x (take (trailer_at bs) bs)) (sym same) ∙ part_same bs b p in
     rw content (record {
@@ -229,7 +229,7 @@ canonical bs b g e =
     })
 
 -- figures and tables together determine the file
-pub determined : (bs cs : List ℕ) → Bytes bs → Bytes cs → (g : Figures) → read_file bs ≡ Accepted g → read_file cs ≡ Accepted g
+pub determined : (bs cs : List ℕ) → Bytes bs → Bytes cs → (g : Figures) → read_file bs ≡ Ok g → read_file cs ≡ Ok g
     → tables_part bs ≡ tables_part cs → bs ≡ cs
 determined bs cs b c g d e s =
     sym (canonical bs b g d).file ∙ ap (λ (x : List ℕ). file_of (content_of g x)) s ∙ (canonical cs c g e).file
@@ -239,7 +239,7 @@ pub exactly : Exactly
 exactly bs b g part = (
   λ e. (content_of g (tables_part bs), rw (← e.1) (canonical bs b g e.0)),
   λ (f, w). (
-    ap read_file (sym w.file) ∙ accepted f w.formed ∙ ap Accepted w.figures,
+    ap read_file (sym w.file) ∙ accepted f w.formed ∙ ap Ok w.figures,
     sym (tables_same f w.formed bs w.file) ∙ w.tables,
   ),
 )

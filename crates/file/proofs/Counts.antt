@@ -3,7 +3,8 @@ use mathlib.Core.Bool.{Bool, true, false, cond, ◌&&◌, ◌||◌, and-true, an
 use mathlib.Core.Logic.{⊎_elim}
 use mathlib.Core.Path.{◌≡◌, refl, sym, ap, ◌∙◌}
 use mathlib.Core.List.{List}
-use Prim.Native.Nat.{ℕ, ◌+◌, ◌*◌, ◌^◌, ◌≤◌, ◌<◌}
+use mir.Val.{bool_byte}
+use Prim.Native.Nat.{ℕ, max, ◌+◌, ◌*◌, ◌^◌, ◌≤◌, ◌<◌}
 use native.Mathlib.Omega.{arith}
 use borrow.Author.Count.{below_more}
 use borrow.Author.Tests.{eqb-true, eq-eqb, ne_eqb, eqb-false, leb-true, le-leb}
@@ -37,15 +38,20 @@ form_one l m k n a b =
     eq-eqb (l + 256 * m) (k + 256 * n) (omega (arith, eqb-true l k p.0, eqb-true m n p.1)))
 
 -- the higher of two is below a limit when both are
-pub high_right : (a b : ℕ) → a < b → (m : ℕ) → leb b m ≡ (leb a m && leb b m)
-high_right a b l m =
-    together (leb b m) (leb a m && leb b m)
-    (λ e. both (leb a m) (leb b m) (le-leb a m (omega (arith, leb-true b m e))) e) (λ e. (and_parts (leb a m) (leb b m) e).1)
+pub high_both : (a b m : ℕ) → leb (max a b) m ≡ (leb a m && leb b m)
+high_both a b m =
+    together (leb (max a b) m) (leb a m && leb b m)
+    (λ e.
+    let top = leb-true (max a b) m e in
+    both (leb a m) (leb b m) (le-leb a m (omega (arith, top))) (le-leb b m (omega (arith, top))))
+    (λ e.
+    let p = and_parts (leb a m) (leb b m) e in
+    le-leb (max a b) m (omega (arith, leb-true a m p.0, leb-true b m p.1)))
 
-pub high_left : (a b : ℕ) → b ≤ a → (m : ℕ) → leb a m ≡ (leb a m && leb b m)
-high_left a b l m =
-    together (leb a m) (leb a m && leb b m)
-    (λ e. both (leb a m) (leb b m) e (le-leb b m (omega (arith, leb-true a m e)))) (λ e. (and_parts (leb a m) (leb b m) e).0)
+-- a test as a number
+pub as_number : (b : Bool) → bool_byte b ≡ cond b 1 0
+as_number true = refl
+as_number false = refl
 
 -- a further test beside a limit, and one with a limit of its own
 beside : (f x h : Bool) → ((f && x) && h) ≡ ((f && h) && x)
@@ -215,7 +221,3 @@ module _ (c : Counted) (r : SlotRecord) where
 pub figures_counted : (bs : List ℕ) (g : Figures) (m : Met) → m ≡ counted_in bs (file_slots g) → every (count_tests m g) ≡ figures_ok bs g
 unfolding figures_ok counted_in
 figures_counted bs g m e = ap (λ x. every (count_tests x g)) e
-
-pub forms_counted : (bs : List ℕ) (k : ℕ) (m : Met) → m ≡ counted_in bs k → m.formed ≡ all (λ i. record_ok (slot_at bs i)) 0 k
-unfolding counted_in
-forms_counted bs k m e = ap (λ x. x.formed) e

@@ -9,21 +9,20 @@ use lib.Dec.{eqb}
 use Rattle.base.specs.Lists.{sum, any}
 use Rattle.base.proofs.Logic.{and_parts, or_parts}
 use Rattle.base.proofs.Sums.{sum_more, any_more}
-use Rattle.rules.specs.declared.Quality.TheVariants.{A, F}
-use Rattle.file.specs.declared.slots.Kind.TheVariants.{Substituted, None, Scaled, Unscaled}
+use Rattle.rules.specs.declared.Quality.TheVariants.{A, S, F, N}
 use Rattle.file.specs.declared.slots.SlotRecord.{SlotRecord}
 use Rattle.file.specs.declared.slots.Tally.{Tally}
-use Rattle.file.specs.Reader.{of_quality, is_form, slot_at}
-use Rattle.file.specs.Inner.Reading.{is_plain, is_kindless, is_kind, kind_at, tallied_with, tallied_in}
+use Rattle.file.specs.Reader.{of_quality, is_form, scaled, unscaled, slot_at}
+use Rattle.file.specs.Inner.Reading.{is_plain, is_kindless, tallied_with, tallied_in}
 
 -- ---- A slot of no kind adds its value alone
 
 -- a record of no kind
 record Kindless (r : SlotRecord) : Type 0 where
-  none : is_kind None r ≡ false
-  scaled : is_kind Scaled r ≡ false
-  unscaled : is_kind Unscaled r ≡ false
-  substituted : is_kind Substituted r ≡ false
+  none : of_quality N r ≡ false
+  scaled : scaled r ≡ false
+  unscaled : unscaled r ≡ false
+  substituted : of_quality S r ≡ false
 
 module _ (r : SlotRecord) where
   plain_kindless : is_plain r ≡ true → Kindless r
@@ -46,10 +45,10 @@ module _ (r : SlotRecord) where
   pub tallied_kindless : is_kindless r ≡ true → (t : Tally) → summed t ≡ tallied_with t r
   tallied_kindless e t =
       let no = ⊎_elim plain_kindless agreed_kindless (or_parts (is_plain r) (is_form F 5 r) e) in
-      let n : t.none ≡ (t.none || is_kind None r) = rw (no.none, or-false) in
-      let s : t.scaled ≡ (t.scaled || is_kind Scaled r) = rw (no.scaled, or-false) in
-      let u : t.unscaled ≡ (t.unscaled || is_kind Unscaled r) = rw (no.unscaled, or-false) in
-      let m : t.substituted ≡ (t.substituted || is_kind Substituted r) = rw (no.substituted, or-false) in
+      let n : t.none ≡ (t.none || of_quality N r) = rw (no.none, or-false) in
+      let s : t.scaled ≡ (t.scaled || scaled r) = rw (no.scaled, or-false) in
+      let u : t.unscaled ≡ (t.unscaled || unscaled r) = rw (no.unscaled, or-false) in
+      let m : t.substituted ≡ (t.substituted || of_quality S r) = rw (no.substituted, or-false) in
       λ k. record { none = n k; scaled = s k; unscaled = u k; substituted = m k; sum = t.sum + r.value }
 
 -- ---- One slot more
@@ -62,9 +61,9 @@ module _ (bs : List ℕ) (a : ℕ) where
   pub tallied_on : (i : ℕ) → tallied_with (tallied_in bs a i) (slot_at bs (a + i)) ≡ tallied_in bs a (i + 1)
   unfolding tallied_in
   tallied_on i = λ k. record {
-    none = sym (any_more (kind_at bs None) a i) k;
-    scaled = sym (any_more (kind_at bs Scaled) a i) k;
-    unscaled = sym (any_more (kind_at bs Unscaled) a i) k;
-    substituted = sym (any_more (kind_at bs Substituted) a i) k;
+    none = sym (any_more (λ x. of_quality N (slot_at bs x)) a i) k;
+    scaled = sym (any_more (λ x. scaled (slot_at bs x)) a i) k;
+    unscaled = sym (any_more (λ x. unscaled (slot_at bs x)) a i) k;
+    substituted = sym (any_more (λ x. of_quality S (slot_at bs x)) a i) k;
     sum = sym (sum_more (λ x. (slot_at bs x).value) a i) k;
   }

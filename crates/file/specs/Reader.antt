@@ -1,6 +1,9 @@
 -- What the reader answers (01, The published file: 'It accepts exactly'; Numbers of a refusal, 8 and 9).
-use Rattle.std.specs.Prelude.{Bool, true, false, not, ◌&&◌, ◌||◌, List, [], ◌∷◌, ℕ, zero, suc, ◌+◌, ◌-◌, ◌*◌, ◌/◌, leb, ltb, eqb, length}
-use Rattle.std.specs.Prelude.{get_or, take}
+use Rattle.std.specs.Prelude.{Result, Ok, Err}
+use Rattle.std.specs.Prelude.{Bool, true, false, not, ◌&&◌, ◌||◌, List, [], ◌∷◌, ℕ, zero, suc, ◌+◌, ◌-◌, ◌*◌, ◌/◌, leb, ltb, eqb}
+use Rattle.std.specs.Prelude.{length, get_or, take}
+use Rattle.base.specs.declared.Refusal.{Refusal}
+use Rattle.base.specs.declared.Refusal.TheVariants.{WrongFrame, WrongContent}
 use Rattle.base.specs.Numbers.{eight_digits}
 use Rattle.calendar.specs.Calendar.{day_count}
 use Rattle.rules.specs.Numbers.{day_minutes, most_days}
@@ -10,8 +13,6 @@ use Rattle.rules.specs.declared.Quality.TheVariants.{A, S, F, N}
 use Rattle.rules.specs.Opening.{interval_ok}
 use Rattle.rules.specs.Spans.{is_scaled}
 use Rattle.file.specs.declared.Figures.{Figures}
-use Rattle.file.specs.declared.Verdict.{Verdict}
-use Rattle.file.specs.declared.Verdict.TheVariants.{Accepted, Refused}
 use Rattle.file.specs.declared.slots.SlotRecord.{SlotRecord}
 use Rattle.file.specs.declared.spans.SpanRecord.{SpanRecord}
 use Rattle.file.specs.Layout.{letter, ranged, row_width, slot_widths, slot_width, span_widths, span_width}
@@ -239,20 +240,20 @@ unfoldable pub figures_ok : List ℕ → Figures → Bool
 figures_ok bs g = every (figure_tests (tables_at bs g) g)
 
 -- each case of the answer: refused with 8, refused with 9, accepted with the trailer's figures
-abbrev pub verdict : Bool → Bool → Figures → Verdict
-verdict false rest g = Refused 8
-verdict true false g = Refused 9
-verdict true true g = Accepted g
+abbrev pub verdict : Bool → Bool → Figures → Result Figures Refusal
+verdict false rest g = Err WrongFrame
+verdict true false g = Err WrongContent
+verdict true true g = Ok g
 
-unfoldable pub read_file : List ℕ → Verdict
+unfoldable pub read_file : List ℕ → Result Figures Refusal
 read_file bs =
     let g = figures bs in
     verdict (trailer_ok bs g) (tables_ok bs g && figures_ok bs g) g
 
 -- the two tables as one part of the file, and of a refused file the empty part
-abbrev pub part_of : Verdict → List ℕ → List ℕ
-part_of (Accepted g) bs = take (trailer_at bs) bs
-part_of (Refused number) bs = []
+abbrev pub part_of : Result Figures Refusal → List ℕ → List ℕ
+part_of (Ok g) bs = take (trailer_at bs) bs
+part_of (Err r) bs = []
 
 unfoldable pub tables_part : List ℕ → List ℕ
 tables_part bs = part_of (read_file bs) bs

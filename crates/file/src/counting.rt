@@ -21,45 +21,18 @@ pub struct Counted {
     pub sum: u64,
 }
 
-fn both(a: bool, b: bool) -> bool
-    ensures { result ≡ (a && b) }
-{
-    if a {
-        return b;
-    }
-    false
-}
-
 // The methods of S.
 fn is_filling(method: u8) -> bool
     ensures { result ≡ (eqb method 2 || (eqb method 3 || is_scaled method)) }
 {
-    if method == 2 {
-        return true;
-    }
-    if method == 3 {
-        return true;
-    }
-    slots::is_scaled(method)
+    method == 2 || method == 3 || slots::is_scaled(method)
 }
 
 // (A,1) and (N,0) have value 0.
 fn is_zero(slot: SlotRecord, letter: u8, method: u8) -> bool
     ensures { result ≡ (eqb slot.letter letter && eqb slot.method method && eqb slot.value 0) }
 {
-    if slots::is_form(slot, letter, method) {
-        return slot.value == 0;
-    }
-    false
-}
-
-fn higher(a: u32, b: u32) -> u32
-    ensures { leb result eight_digits ≡ (leb a eight_digits && leb b eight_digits) }
-{
-    if a < b {
-        return b;
-    }
-    a
+    slots::is_form(slot, letter, method) && slot.value == 0
 }
 
 fn with_plain(found: Counted, slot: SlotRecord) -> Counted
@@ -67,13 +40,9 @@ fn with_plain(found: Counted, slot: SlotRecord) -> Counted
     ensures { met_by result ≡ counted_with (met_by found) slot }
 {
     Counted {
-        formed: found.formed,
-        highest: found.highest,
         actual: found.actual + 1,
-        substituted: found.substituted,
-        agreed: found.agreed,
-        none: found.none,
         sum: found.sum + slot.value as u64,
+        ..found
     }
 }
 
@@ -82,13 +51,10 @@ fn with_none(found: Counted, slot: SlotRecord) -> Counted
     ensures { met_by result ≡ counted_with (met_by found) slot }
 {
     Counted {
-        formed: both(found.formed, is_zero(slot, b'N', 0)),
-        highest: found.highest,
-        actual: found.actual,
-        substituted: found.substituted,
-        agreed: found.agreed,
+        formed: found.formed & is_zero(slot, b'N', 0),
         none: found.none + 1,
         sum: found.sum + slot.value as u64,
+        ..found
     }
 }
 
@@ -97,13 +63,10 @@ fn with_substituted(found: Counted, slot: SlotRecord) -> Counted
     ensures { met_by result ≡ counted_with (met_by found) slot }
 {
     Counted {
-        formed: both(found.formed, is_filling(slot.method)),
-        highest: found.highest,
-        actual: found.actual,
+        formed: found.formed & is_filling(slot.method),
         substituted: found.substituted + 1,
-        agreed: found.agreed,
-        none: found.none,
         sum: found.sum + slot.value as u64,
+        ..found
     }
 }
 
@@ -113,24 +76,13 @@ fn with_agreed(found: Counted, slot: SlotRecord) -> Counted
     ensures { met_by result ≡ counted_with (met_by found) slot }
 {
     Counted {
-        formed: both(found.formed, slot.method == 5),
-        highest: higher(found.highest, slot.value),
-        actual: found.actual,
+        formed: found.formed & (slot.method == 5),
+        highest: found.highest.max(slot.value),
         substituted: found.substituted + 1,
         agreed: found.agreed + 1,
-        none: found.none,
         sum: found.sum + slot.value as u64,
+        ..found
     }
-}
-
-// 1 for a slot of a letter.
-fn one(slot: SlotRecord, letter: u8) -> usize
-    ensures { (result ≡ cond (eqb slot.letter letter) 1 0) × (result ≤ 1) }
-{
-    if slot.letter == letter {
-        return 1;
-    }
-    0
 }
 
 // (A,1), or a record of no form.
@@ -139,13 +91,10 @@ fn with_rest(found: Counted, slot: SlotRecord) -> Counted
     ensures { met_by result ≡ counted_with (met_by found) slot }
 {
     Counted {
-        formed: both(found.formed, is_zero(slot, b'A', 1)),
-        highest: found.highest,
-        actual: found.actual + one(slot, b'A'),
-        substituted: found.substituted,
-        agreed: found.agreed,
-        none: found.none,
+        formed: found.formed & is_zero(slot, b'A', 1),
+        actual: found.actual + (slot.letter == b'A') as usize,
         sum: found.sum + slot.value as u64,
+        ..found
     }
 }
 
@@ -183,10 +132,8 @@ pub fn totals(file: &[u8], k: usize) -> Counted
         none: 0,
         sum: 0,
     };
-    let mut i = 0;
-    while i < k {
+    for i in 0..k {
         found = with_slot(found, slots::slot_at(file, i));
-        i += 1;
     }
     found
 }
@@ -195,8 +142,5 @@ pub fn totals(file: &[u8], k: usize) -> Counted
 pub fn forms_ok(found: Counted) -> bool
     ensures { result ≡ (met_by found).formed }
 {
-    if !found.formed {
-        return false;
-    }
-    found.highest <= base::EIGHT_DIGITS
+    found.formed && found.highest <= base::EIGHT_DIGITS
 }

@@ -14,6 +14,8 @@ ghost use Rattle.file.specs.Reader.{file_slots, layout_fits, tables_ok, read_fil
 ghost use Rattle.file.specs.Inner.Reading.{Ready, met_by, counted_in, count_tests};
 
 use crate::counting::Counted;
+use crate::spans::Framed;
+use base::Refusal;
 
 // The figures of a file's trailer: first day number, D, L, M, counts of A, of S and F, and of N slots, sum, layout.
 #[derive(Clone, Copy)]
@@ -29,100 +31,72 @@ pub struct Figures {
     pub layout: u32,
 }
 
-// What the reader answers: the trailer's figures, or the refusal's number.
-#[derive(Clone, Copy)]
-pub enum Verdict {
-    Accepted(Figures),
-    Refused(u8),
-}
-
 // The records, the spans, and what lies outside them.
-fn tables_ok(file: &[u8], g: Figures, found: Counted) -> bool
-    requires { Ready file.now g × (met_by found ≡ counted_in file.now (file_slots g)) }
-    ensures { result ≡ tables_ok file.now g }
+#[tactic(auto, unfolding(crate::specs::Reader::tables_ok, crate::specs::Inner::Reading::counted_in))]
+fn tables_ok(file: &Framed, found: Counted) -> bool
+    requires { met_by found ≡ counted_in file.now.bytes.now (file_slots file.now.figures) }
+    ensures { result ≡ tables_ok file.now.bytes.now file.now.figures }
 {
     if !counting::forms_ok(found) {
         return false;
     }
-    if !spans::spans_ok(file, g) {
-        return false;
-    }
-    if !spans::states_ok(file, g) {
-        return false;
-    }
-    spans::outside_ok(file, g)
+    file.spans_ok() && file.states_ok() && file.outside_ok()
 }
 
 // Layout 3 is with or without an F; of the others layout 2 has one.
+#[tactic(auto, using(crate::proofs::Layouts::none_zero), unfolding(crate::specs::Reader::layout_fits))]
 fn layout_fits(layout: u32, agreed: usize) -> bool
     ensures { result ≡ layout_fits layout agreed }
 {
-    if layout == 3 {
-        return true;
+    match layout {
+        3 => true,
+        2 => 0 < agreed,
+        _ => agreed == 0,
     }
-    if layout == 2 {
-        return 0 < agreed;
-    }
-    agreed == 0
 }
 
 // The counts, the layout and the sum are those of the slots.
 fn figures_ok(found: Counted, g: Figures) -> bool
     ensures { result ≡ every (count_tests (met_by found) g) }
 {
-    let actual = g.actual as usize;
-    if found.actual != actual {
-        return false;
-    }
-    let substituted = g.substituted as usize;
-    if found.substituted != substituted {
-        return false;
-    }
-    let none = g.none as usize;
-    if found.none != none {
-        return false;
-    }
-    if !layout_fits(g.layout, found.agreed) {
-        return false;
-    }
-    let sum = g.sum;
-    found.sum == sum
+    found.actual == g.actual as usize
+        && found.substituted == g.substituted as usize
+        && found.none == g.none as usize
+        && layout_fits(g.layout, found.agreed)
+        && found.sum == g.sum
 }
 
-// A file's figures, or the number that it is refused with.
-pub fn read(file: &[u8]) -> Verdict
+// The figures of a file's trailer.
+pub fn read(file: &[u8]) -> Result<Figures, Refusal>
     ensures { result ≡ read_file file.now }
 {
     if file.len() < 32 {
-        return Verdict::Refused(8);
+        return Err(Refusal::WrongFrame);
     }
     let g = trailer::figures_at(file);
     if !trailer::trailer_ok(file, g) {
-        return Verdict::Refused(8);
+        return Err(Refusal::WrongFrame);
     }
     let found = counting::totals(file, trailer::slot_count(g));
-    if !tables_ok(file, g, found) {
-        return Verdict::Refused(9);
+    let framed = Framed {
+        bytes: file,
+        figures: g,
+    };
+    if !tables_ok(&framed, found) {
+        return Err(Refusal::WrongContent);
     }
     if !figures_ok(found, g) {
-        return Verdict::Refused(9);
+        return Err(Refusal::WrongContent);
     }
-    Verdict::Accepted(g)
+    Ok(g)
 }
 
 // The two tables as one part of the file; of a refused file the empty part.
 pub fn tables(file: &[u8]) -> &[u8]
     ensures { result.now ≡ tables_part file.now }
 {
-    let whole = file.len();
     match read(file) {
-        Verdict::Accepted(_) => {
-            let end = whole - 32;
-            &file[..end]
-        }
-        Verdict::Refused(_) => {
-            let end = 0;
-            &file[..end]
-        }
+        Ok(_) => &file[..file.len() - 32],
+        Err(_) => &file[..0],
     }
 }

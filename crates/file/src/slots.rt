@@ -2,9 +2,9 @@
 ghost use Rattle.std.specs.Prelude.{◌&&◌, ◌||◌, ◌≡◌, ◌+◌, ◌*◌, ◌^◌, ◌≤◌, eqb, length};
 ghost use Rattle.base.specs.Lists.{any};
 ghost use Rattle.rules.specs.Spans.{is_scaled};
-ghost use Rattle.file.specs.Reader.{slot_at};
+ghost use Rattle.file.specs.Reader.{slot_at, scaled};
 ghost use Rattle.rules.specs.Numbers.{most_slots};
-ghost use Rattle.file.specs.Inner.Reading.{is_plain, is_kindless, is_kind, kind_at, tallied_with, tallied_in};
+ghost use Rattle.file.specs.Inner.Reading.{is_plain, is_kindless, tallied_with, tallied_in};
 
 use crate::fields;
 
@@ -14,15 +14,6 @@ pub struct SlotRecord {
     pub value: u32,
     pub letter: u8,
     pub method: u8,
-}
-
-// The slots that are looked for: S, N, scaled, or S and not scaled.
-#[derive(Clone, Copy)]
-pub enum Kind {
-    Substituted,
-    None,
-    Scaled,
-    Unscaled,
 }
 
 pub fn slot_at(file: &[u8], i: usize) -> SlotRecord
@@ -61,34 +52,20 @@ pub fn is_scaled(method: u8) -> bool
 fn is_kindless(slot: SlotRecord) -> bool
     ensures { result ≡ is_kindless slot }
 {
-    if is_plain(slot) {
-        return true;
-    }
-    is_form(slot, b'F', 5)
+    is_plain(slot) || is_form(slot, b'F', 5)
 }
 
-fn is_kind(kind: Kind, slot: SlotRecord) -> bool
-    ensures { result ≡ is_kind kind slot }
-{
-    match kind {
-        Kind::Substituted => slot.letter == b'S',
-        Kind::None => slot.letter == b'N',
-        Kind::Scaled => is_scaled(slot.method),
-        Kind::Unscaled => slot.letter == b'S' && !is_scaled(slot.method),
-    }
-}
-
-// One of the `k` slots from slot `a` is of a kind.
-pub fn has_kind(file: &[u8], kind: Kind, a: usize, k: usize) -> bool
+// One of the `k` slots from slot `a` is scaled.
+#[tactic(auto, using(base::proofs::Sums::any_empty, base::proofs::Sums::any_on))]
+pub fn has_scaled(file: &[u8], a: usize, k: usize) -> bool
     requires { 6 * (a + k) ≤ length file.now }
-    ensures { result ≡ any (kind_at file.now kind) a k }
+    ensures { result ≡ any (λ i. scaled (slot_at file.now i)) a k }
 {
-    let mut i = 0;
-    while i < k {
-        if is_kind(kind, slot_at(file, a + i)) {
+    for i in 0..k {
+        let found = is_scaled(slot_at(file, a + i).method);
+        if found {
             return true;
         }
-        i += 1;
     }
     false
 }
@@ -103,16 +80,6 @@ pub struct Tally {
     pub sum: u64,
 }
 
-// One was found before, or the slot is of the kind.
-fn also(found: bool, kind: Kind, slot: SlotRecord) -> bool
-    ensures { result ≡ (found || is_kind kind slot) }
-{
-    if found {
-        return true;
-    }
-    is_kind(kind, slot)
-}
-
 // The tally with one slot more: nearly every one is of no kind.
 fn tally_with(found: Tally, slot: SlotRecord) -> Tally
     requires { found.sum ≤ 2 ^ 32 * most_slots }
@@ -120,19 +87,15 @@ fn tally_with(found: Tally, slot: SlotRecord) -> Tally
 {
     let sum = found.sum + slot.value as u64;
     if is_kindless(slot) {
-        return Tally {
-            none: found.none,
-            scaled: found.scaled,
-            unscaled: found.unscaled,
-            substituted: found.substituted,
-            sum,
-        };
+        return Tally { sum, ..found };
     }
+    let substituted = slot.letter == b'S';
+    let scaled = is_scaled(slot.method);
     Tally {
-        none: also(found.none, Kind::None, slot),
-        scaled: also(found.scaled, Kind::Scaled, slot),
-        unscaled: also(found.unscaled, Kind::Unscaled, slot),
-        substituted: also(found.substituted, Kind::Substituted, slot),
+        none: found.none | (slot.letter == b'N'),
+        scaled: found.scaled | scaled,
+        unscaled: found.unscaled | (substituted & !scaled),
+        substituted: found.substituted | substituted,
         sum,
     }
 }
@@ -149,10 +112,8 @@ pub fn tally_of(file: &[u8], a: usize, k: usize) -> Tally
         substituted: false,
         sum: 0,
     };
-    let mut i = 0;
-    while i < k {
+    for i in 0..k {
         found = tally_with(found, slot_at(file, a + i));
-        i += 1;
     }
     found
 }

@@ -12,25 +12,17 @@ use rules::opening;
 fn head_ok(g: Figures) -> bool
     ensures { result ≡ every (head_field_tests g.first g.days g.interval) }
 {
-    if !opening::is_interval(g.interval) {
-        return false;
-    }
-    if g.days < 1 {
-        return false;
-    }
-    if rules::MOST_DAYS < g.days {
-        return false;
-    }
-    g.first as u64 + g.days as u64 <= calendar::DAY_COUNT as u64
+    opening::is_interval(g.interval)
+        && 1 <= g.days
+        && g.days <= rules::MOST_DAYS
+        && g.first as u64 + g.days as u64 <= calendar::DAY_COUNT as u64
 }
 
+#[tactic(auto, unfolding(crate::specs::Reader::layout_ok))]
 fn is_layout(layout: u32) -> bool
     ensures { result ≡ layout_ok layout }
 {
-    if layout == 1 {
-        return true;
-    }
-    layout == 2 || layout == 3
+    matches!(layout, 1 | 2 | 3)
 }
 
 // n, the slots of a day.
@@ -53,11 +45,8 @@ pub fn slot_count(g: Figures) -> usize
 pub fn span_bytes(g: Figures) -> u64
     ensures { (result ≡ span_table_bytes g) × (result ≤ 14 * g.spans) }
 {
-    let m = g.spans as u64;
-    if g.layout == 3 {
-        return 14 * m;
-    }
-    10 * m
+    let width = if g.layout == 3 { 14 } else { 10 };
+    width * g.spans as u64
 }
 
 // The figures of the last 32 bytes.
@@ -80,21 +69,16 @@ pub fn figures_at(file: &[u8]) -> Figures
 }
 
 // What is refused with 8 where it is false.
+#[tactic(auto, unfolding(crate::specs::Reader::trailer_ok))]
 pub fn trailer_ok(file: &[u8], g: Figures) -> bool
     requires { 32 ≤ length file.now }
     ensures { result ≡ trailer_ok file.now g }
 {
     let t = file.len() - 32;
-    if !head_ok(g) {
-        return false;
-    }
-    if !is_layout(g.layout) {
-        return false;
-    }
     let distance = fields::number(file, t + 28, 4);
     let back = span_bytes(g);
-    if distance != back {
-        return false;
-    }
-    file.len() as u64 == 6 * slot_count(g) as u64 + back + 32
+    head_ok(g)
+        && is_layout(g.layout)
+        && distance == back
+        && file.len() as u64 == 6 * slot_count(g) as u64 + back + 32
 }

@@ -23,8 +23,7 @@ pub fn put_slot(buf: &mut [u8], at: usize, slot: Outcome)
     ensures { buf.new ≡ written buf.old at (row (slot_row slot)) }
 {
     fields::put(buf, at, 4, slot.value as u64);
-    let quality = slot.quality;
-    fields::put(buf, at + 4, 1, letter_of(quality) as u64);
+    fields::put(buf, at + 4, 1, letter_of(slot.quality) as u64);
     fields::put(buf, at + 5, 1, slot.method as u64);
 }
 

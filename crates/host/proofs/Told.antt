@@ -3,13 +3,13 @@ use mathlib.Core.Logic.{◌↔◌}
 use mathlib.Core.Path.{◌≡◌, ap}
 use Prim.Native.Nat.{ℕ, ◌<◌}
 use native.Mathlib.Omega.{arith}
-use Rattle.dial.specs.declared.Unpacked.{Unpacked}
-use Rattle.dial.specs.declared.Unpacked.TheVariants.{Reading, Refused}
-use Rattle.host.specs.Conversions.{unpack_code}
+use Rattle.std.specs.Prelude.{Result, Ok, Err}
+use Rattle.base.specs.declared.Refusal.{Refusal}
+use Rattle.base.specs.Refusals.{number_code}
 
-pub reading_told : (answer : Unpacked) (n : ℕ) → n < 100000000 → (unpack_code answer ≡ n) ↔ (answer ≡ Reading n)
-reading_told answer n low = (of answer, ap unpack_code)
+pub reading_told : (answer : Result ℕ Refusal) (n : ℕ) → n < 100000000 → (number_code answer ≡ n) ↔ (answer ≡ Ok n)
+reading_told answer n low = (of answer, ap number_code)
   where
-    of : (u : Unpacked) → unpack_code u ≡ n → u ≡ Reading n
-    of (Reading m) e = ap Reading e
-    of (Refused k) e = absurd (omega arith)
+    of : (u : Result ℕ Refusal) → number_code u ≡ n → u ≡ Ok n
+    of (Ok m) e = ap Ok e
+    of (Err r) e = absurd (omega arith)

@@ -1,4 +1,2 @@
 pub mod Codes
-pub mod Conversions
 pub mod Market
-pub mod Limits

@@ -1,10 +1,7 @@
 // The conversions for the chargers' host (02, W9), which is written in C.
 ghost use Rattle.std.specs.Prelude.{◌≡◌};
-ghost use Rattle.base.specs.Refusals.{code_of};
+ghost use Rattle.base.specs.Refusals.{code_of, number_code};
 ghost use Rattle.dial.specs.Dial.{pack_answer, pack_after, unpack_answer};
-ghost use Rattle.host.specs.Conversions.{unpack_code};
-
-use dial::Unpacked;
 
 // 0, or the refusal's number.
 pub fn sawmauve_pack(reading: u32, bytes: &mut [u8]) -> u32
@@ -16,11 +13,7 @@ pub fn sawmauve_pack(reading: u32, bytes: &mut [u8]) -> u32
 
 // The reading, or 100,000,000 plus the refusal's number.
 pub fn sawmauve_unpack(bytes: &[u8]) -> u32
-    ensures { result ≡ unpack_code (unpack_answer bytes.now) }
+    ensures { result ≡ number_code (unpack_answer bytes.now) }
 {
-    let unpacked = dial::unpack(bytes);
-    match unpacked {
-        Unpacked::Reading(n) => n,
-        Unpacked::Refused(n) => 100000000 + n as u32,
-    }
+    base::number_code(dial::unpack(bytes))
 }

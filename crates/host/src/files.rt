@@ -1,23 +1,14 @@
 // The exports that write and read a file.
 ghost use Rattle.std.specs.Prelude.{◌≡◌, length};
+ghost use Rattle.base.specs.Refusals.{code_of, length_code};
 ghost use Rattle.book.specs.Lent.{lent_book};
 ghost use Rattle.publishing.specs.Publishing.{publish_answer, publish_after};
 ghost use Rattle.file.specs.Reader.{read_file, tables_part};
-ghost use Rattle.host.specs.Codes.{head_of, publish_code, read_code, read_answer, read_after};
+ghost use Rattle.host.specs.Codes.{head_of, read_answer, read_after};
 
 use crate::head_of;
-use file::Verdict;
-use publishing::Published;
-
-// The length, which is above 31, or the refusal's number.
-fn published_code(published: Published) -> u64
-    ensures { result ≡ publish_code published }
-{
-    match published {
-        Published::Length(n) => n as u64,
-        Published::Refused(n) => n as u64,
-    }
-}
+use base::Refusal;
+use book::Book;
 
 pub fn sawmauve_publish(
     year: u32,
@@ -42,12 +33,11 @@ pub fn sawmauve_publish(
     ensures { let head = head_of year month day days interval limit tolerance in
         let book = lent_book values.now versions.now statuses.now holidays.now readings.now read_versions.now
         agreed.now agreed_versions.now counts.now widths.now in
-        (result ≡ publish_code (publish_answer head book out.old))
+        (result ≡ length_code (publish_answer head book out.old))
         × (out.new ≡ publish_after head book out.old) }
 {
     let head = head_of(year, month, day, days, interval, limit, tolerance);
-    published_code(publishing::publish(
-        head,
+    let book = Book::of(
         values,
         versions,
         statuses,
@@ -58,24 +48,15 @@ pub fn sawmauve_publish(
         agreed_versions,
         counts,
         widths,
-        out,
-    ))
-}
-
-fn read_code(verdict: Verdict) -> u32
-    ensures { result ≡ read_code verdict }
-{
-    match verdict {
-        Verdict::Accepted(g) => 0,
-        Verdict::Refused(n) => n as u32,
-    }
+    );
+    base::length_code(publishing::publish(head, &book, out))
 }
 
 // 0 for a file that the reader accepts, or the refusal's number (02, W9).
 pub fn sawmauve_check(bytes: &[u8]) -> u32
-    ensures { result ≡ read_code (read_file bytes.now) }
+    ensures { result ≡ code_of (read_file bytes.now) }
 {
-    read_code(file::read(bytes))
+    base::code_of(file::read(bytes))
 }
 
 // 0 and the nine figures, or the refusal's number; 2 for a list of figures that is not 9 long.
@@ -84,23 +65,24 @@ pub fn sawmauve_read(bytes: &[u8], figures: &mut [u64]) -> u32
         × (figures.new ≡ read_after bytes.now figures.old) }
 {
     if figures.len() != 9 {
-        return 2;
+        return Refusal::WrongLength.number() as u32;
     }
-    let verdict = file::read(bytes);
-    match verdict {
-        Verdict::Accepted(g) => {
-            figures[0] = g.first as u64;
-            figures[1] = g.days as u64;
-            figures[2] = g.interval as u64;
-            figures[3] = g.spans as u64;
-            figures[4] = g.actual as u64;
-            figures[5] = g.substituted as u64;
-            figures[6] = g.none as u64;
-            figures[7] = g.sum;
-            figures[8] = g.layout as u64;
+    match file::read(bytes) {
+        Ok(g) => {
+            figures.copy_from_slice(&[
+                g.first as u64,
+                g.days as u64,
+                g.interval as u64,
+                g.spans as u64,
+                g.actual as u64,
+                g.substituted as u64,
+                g.none as u64,
+                g.sum,
+                g.layout as u64,
+            ]);
             0
         }
-        Verdict::Refused(n) => n as u32,
+        Err(refusal) => refusal.number() as u32,
     }
 }
 

@@ -17,7 +17,9 @@ ghost use Rattle.book.specs.Filling.{holiday_answer, holiday_after, register_ans
 ghost use Rattle.book.specs.Lent.{lent_reads, lent_book};
 ghost use Rattle.host.specs.Codes.{head_of};
 
-use book::Received;
+use base::Refusal;
+use book::lent::{AgreedMut, BookMut, ReadsMut, SlotsMut};
+use book::{Filed, codes};
 use rules::Head;
 
 pub fn head_of(
@@ -32,29 +34,23 @@ pub fn head_of(
     ensures { result ≡ head_of year month day days interval limit tolerance }
 {
     Head {
-        year: year,
-        month: month,
-        day: day,
-        days: days,
-        interval: interval,
-        limit: limit,
-        tolerance: tolerance,
+        year,
+        month,
+        day,
+        days,
+        interval,
+        limit,
+        tolerance,
     }
 }
 
-// 0 stored, 100 late, 101 repeat, else the refusal's number.
-fn filed_code(filed: Received) -> u32
-    ensures { result ≡ answer_code (received_meant filed) }
+fn filed_code(answer: Result<Filed, Refusal>) -> u32
+    ensures { result ≡ answer_code (received_meant answer) }
 {
-    match filed {
-        Received::Stored => 0,
-        Received::Late => 100,
-        Received::Repeat => 101,
-        Received::Refused(n) => n as u32,
-    }
+    codes::code_of(answer) as u32
 }
 
-pub fn sawmauve_open(
+pub fn sawmauve_open<'a>(
     year: u32,
     month: u32,
     day: u32,
@@ -62,16 +58,16 @@ pub fn sawmauve_open(
     interval: u32,
     limit: u32,
     tolerance: u32,
-    values: &mut [u32],
-    versions: &mut [u32],
-    statuses: &mut [u8],
-    holidays: &mut [u8],
-    readings: &mut [u32],
-    read_versions: &mut [u32],
-    agreed: &mut [u32],
-    agreed_versions: &mut [u32],
-    counts: &mut [u16],
-    widths: &mut [u16],
+    values: &'a mut [u32],
+    versions: &'a mut [u32],
+    statuses: &'a mut [u8],
+    holidays: &'a mut [u8],
+    readings: &'a mut [u32],
+    read_versions: &'a mut [u32],
+    agreed: &'a mut [u32],
+    agreed_versions: &'a mut [u32],
+    counts: &'a mut [u16],
+    widths: &'a mut [u16],
 ) -> u32
     ensures { let head = head_of year month day days interval limit tolerance in
         let book = lent_book values.old versions.old statuses.old holidays.old readings.old read_versions.old
@@ -82,8 +78,7 @@ pub fn sawmauve_open(
         ≡ open_after head book) }
 {
     let head = head_of(year, month, day, days, interval, limit, tolerance);
-    base::code_of(book::open(
-        head,
+    let mut book = BookMut {
         values,
         versions,
         statuses,
@@ -94,10 +89,11 @@ pub fn sawmauve_open(
         agreed_versions,
         counts,
         widths,
-    ))
+    };
+    base::code_of(book::open(head, &mut book))
 }
 
-pub fn sawmauve_deliver(
+pub fn sawmauve_deliver<'a>(
     year: u32,
     month: u32,
     day: u32,
@@ -105,9 +101,9 @@ pub fn sawmauve_deliver(
     interval: u32,
     limit: u32,
     tolerance: u32,
-    values: &mut [u32],
-    versions: &mut [u32],
-    statuses: &mut [u8],
+    values: &'a mut [u32],
+    versions: &'a mut [u32],
+    statuses: &'a mut [u8],
     counts: &mut [u16],
     slot: u32,
     version: u32,
@@ -122,12 +118,15 @@ pub fn sawmauve_deliver(
         × (counts.new ≡ counts_after head slots counts.old slot version value status) }
 {
     let head = head_of(year, month, day, days, interval, limit, tolerance);
-    filed_code(book::deliver(
-        head, values, versions, statuses, counts, slot, version, value, status,
-    ))
+    let mut slots = SlotsMut {
+        values,
+        versions,
+        statuses,
+    };
+    filed_code(book::deliver(head, &mut slots, counts, slot, version, value, status))
 }
 
-pub fn sawmauve_agree(
+pub fn sawmauve_agree<'a>(
     year: u32,
     month: u32,
     day: u32,
@@ -135,8 +134,8 @@ pub fn sawmauve_agree(
     interval: u32,
     limit: u32,
     tolerance: u32,
-    agreed: &mut [u32],
-    agreed_versions: &mut [u32],
+    agreed: &'a mut [u32],
+    agreed_versions: &'a mut [u32],
     slot: u32,
     version: u32,
     value: u32,
@@ -148,7 +147,11 @@ pub fn sawmauve_agree(
         ≡ agree_after head lent slot version value) }
 {
     let head = head_of(year, month, day, days, interval, limit, tolerance);
-    filed_code(book::agree(head, agreed, agreed_versions, slot, version, value))
+    let mut lists = AgreedMut {
+        values: agreed,
+        versions: agreed_versions,
+    };
+    filed_code(book::agree(head, &mut lists, slot, version, value))
 }
 
 pub fn sawmauve_holiday(
@@ -170,7 +173,7 @@ pub fn sawmauve_holiday(
     filed_code(book::holiday(head, holidays, at))
 }
 
-pub fn sawmauve_register(
+pub fn sawmauve_register<'a>(
     year: u32,
     month: u32,
     day: u32,
@@ -178,9 +181,9 @@ pub fn sawmauve_register(
     interval: u32,
     limit: u32,
     tolerance: u32,
-    readings: &mut [u32],
-    read_versions: &mut [u32],
-    widths: &mut [u16],
+    readings: &'a mut [u32],
+    read_versions: &'a mut [u32],
+    widths: &'a mut [u16],
     boundary: u32,
     version: u32,
     reading: u32,
@@ -193,14 +196,10 @@ pub fn sawmauve_register(
         ≡ register_after head lent boundary version reading width) }
 {
     let head = head_of(year, month, day, days, interval, limit, tolerance);
-    filed_code(book::register(
-        head,
+    let mut reads = ReadsMut {
         readings,
         read_versions,
         widths,
-        boundary,
-        version,
-        reading,
-        width,
-    ))
+    };
+    filed_code(book::register(head, &mut reads, boundary, version, reading, width))
 }

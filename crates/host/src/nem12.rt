@@ -1,46 +1,37 @@
 // The export of a file to the market (02, W8).
 ghost use Rattle.std.specs.Prelude.{◌≡◌};
+ghost use Rattle.base.specs.Refusals.{length_code};
 ghost use Rattle.market.specs.Fields.{lent_texts};
 ghost use Rattle.market.specs.Export.{export_answer, export_after};
-ghost use Rattle.host.specs.Market.{codes_of, exported_code};
+ghost use Rattle.host.specs.Market.{codes_of};
 
-use market::{Codes, Exported};
-
-// The length, which is above every refusal's number, or the refusal's number.
-fn exported_code(exported: Exported) -> u64
-    ensures { result ≡ exported_code exported }
-{
-    match exported {
-        Exported::Length(n) => n as u64,
-        Exported::Refused(n) => n as u64,
-    }
-}
+use market::{Codes, Texts};
 
 fn codes_of(two: u32, three: u32, five: u32, eighteen: u32, nineteen: u32) -> Codes
     ensures { result ≡ codes_of two three five eighteen nineteen }
 {
     Codes {
-        two: two,
-        three: three,
-        five: five,
-        eighteen: eighteen,
-        nineteen: nineteen,
+        two,
+        three,
+        five,
+        eighteen,
+        nineteen,
     }
 }
 
-pub fn sawmauve_nem12(
+pub fn sawmauve_nem12<'a>(
     file: &[u8],
-    identifier: &[u8],
-    from: &[u8],
-    to: &[u8],
-    configuration: &[u8],
-    register: &[u8],
-    suffix: &[u8],
-    stream: &[u8],
-    serial: &[u8],
-    next_read: &[u8],
-    reason: &[u8],
-    created: &[u8],
+    identifier: &'a [u8],
+    from: &'a [u8],
+    to: &'a [u8],
+    configuration: &'a [u8],
+    register: &'a [u8],
+    suffix: &'a [u8],
+    stream: &'a [u8],
+    serial: &'a [u8],
+    next_read: &'a [u8],
+    reason: &'a [u8],
+    created: &'a [u8],
     two: u32,
     three: u32,
     five: u32,
@@ -51,12 +42,11 @@ pub fn sawmauve_nem12(
     ensures { let given = lent_texts identifier.now from.now to.now configuration.now register.now suffix.now
         stream.now serial.now next_read.now reason.now created.now in
         let codes = codes_of two three five eighteen nineteen in
-        (result ≡ exported_code (export_answer file.now given codes out.old))
+        (result ≡ length_code (export_answer file.now given codes out.old))
         × (out.new ≡ export_after file.now given codes out.old) }
 {
     let codes = codes_of(two, three, five, eighteen, nineteen);
-    exported_code(market::nem12(
-        file,
+    let texts = Texts {
         identifier,
         from,
         to,
@@ -68,7 +58,6 @@ pub fn sawmauve_nem12(
         next_read,
         reason,
         created,
-        codes,
-        out,
-    ))
+    };
+    base::length_code(market::nem12(file, &texts, codes, out))
 }

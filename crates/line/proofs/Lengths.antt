@@ -1,4 +1,5 @@
 -- How long the line is, and what it leaves in a buffer.
+use Rattle.std.specs.Prelude.{Ok, Err}
 use mathlib.Core.List.{List, ◌++◌}
 use mathlib.Core.Path.{◌≡◌, refl, ap, ◌∙◌}
 use Prim.Native.Nat.{ℕ, ◌+◌, ◌^◌, ◌≤◌, ◌<◌}
@@ -7,11 +8,11 @@ use native.Mathlib.Omega.{arith}
 use borrow.Author.Tests.{lt-ltb, le-ltb}
 use lib.ListN.{length, drop, length-append}
 use lib.Seq.{take_at, drop-append_seam}
+use Rattle.base.specs.declared.Refusal.TheVariants.{ShortBuffer}
 use Rattle.base.specs.Text.{ascii}
 use Rattle.calendar.specs.declared.Date.{Date}
 use Rattle.calendar.specs.Calendar.{date_of}
 use Rattle.file.specs.declared.Figures.{Figures}
-use Rattle.line.specs.declared.LineWritten.TheVariants as lined
 use Rattle.line.specs.Line.{places, decimal, date_text, field, figures_text, refused, newline, AtStart, figures_answer, figures_after}
 use Rattle.line.specs.Inner.Writing.{Added}
 use Rattle.line.proofs.Digits.{length_digits, places_le}
@@ -84,13 +85,13 @@ module _ (g : Figures) (out : List ℕ) {aside held : List ℕ} {n : ℕ} (put :
       let fits : 0 + length (figures_text g) < 2 ^ 64 = omega (arith, figures_short g) in
       put.next ∙ capped_low (0 + length (figures_text g)) fits ∙ zero-add (length (figures_text g))
 
-  pub line_refused : length out < n → (lined.Refused 7 ≡ figures_answer g out) × (out ≡ figures_after g out)
+  pub line_refused : length out < n → (Err ShortBuffer ≡ figures_answer g out) × (out ≡ figures_after g out)
   unfolding figures_answer figures_after
   line_refused l = let short : length out < length (figures_text g) = omega (arith, long) in rw (lt-ltb _ _ short) (refl, refl)
 
   pub line_fits : {left : List ℕ} {r : ℕ} → n ≤ length out → Added out 0 left r (figures_text g)
-      → (lined.Length r ≡ figures_answer g out) × (left ≡ figures_after g out)
+      → (Ok r ≡ figures_answer g out) × (left ≡ figures_after g out)
   unfolding figures_answer figures_after
   line_fits l p =
       let room : length (figures_text g) ≤ length out = omega (arith, long) in
-      rw (le-ltb _ _ room) (ap lined.Length (put_length p room (omega arith)), put_whole p room (omega arith))
+      rw (le-ltb _ _ room) (ap Ok (put_length p room (omega arith)), put_whole p room (omega arith))

@@ -2,7 +2,7 @@
 use mathlib.Core.List.{List, [], ◌∷◌, ◌++◌}
 use mathlib.Core.Logic.{⊎_elim}
 use mathlib.Core.Path.{◌≡◌, refl, sym, ap, ◌∙◌}
-use Prim.Native.Nat.{ℕ, zero, suc, ◌+◌, ◌-◌, ◌/◌, ◌%◌, ◌^◌, ◌≤◌, ◌<◌}
+use Prim.Native.Nat.{ℕ, min, zero, suc, ◌+◌, ◌-◌, ◌/◌, ◌%◌, ◌^◌, ◌≤◌, ◌<◌}
 use native.Mathlib.Nat.{add-zero, add-suc, add_assoc, suc-add, ne_of_gt}
 use native.Mathlib.Numerals.{add-one}
 use native.Mathlib.Omega.{arith}
@@ -28,6 +28,12 @@ capped_low n l = ⊎_elim (λ e. rw e) (λ e. rw e (omega (arith, ltb-false n to
 pub capped_high : (n : ℕ) → top ≤ n → capped n ≡ top
 unfolding capped
 capped_high n l = rw (le-ltb n top l)
+
+-- what `saturating_add` gives
+pub capped_min : (n : ℕ) → min n (2 ^ 64 - 1) ≡ capped n
+capped_min n =
+    ⊎_elim (λ e. omega (arith, ltb-true n top e, capped_low n (omega (arith, ltb-true n top e))))
+    (λ e. omega (arith, capped_high n (ltb-false n top e), ltb-false n top e)) (either (ltb n top))
 
 capped_next : (a b : ℕ) → capped (capped a + b) ≡ capped (a + b)
 capped_next a b =

@@ -1,14 +1,14 @@
 -- The line that the program writes (01, The published file: 'A program reads a file').
+use Rattle.std.specs.Prelude.{Result, Ok, Err}
 use Rattle.std.specs.Prelude.{cond, List, [], ◌∷◌, ◌++◌, ◌≡◌, ℕ, zero, suc, ◌+◌, ◌/◌, ◌%◌, ◌≤◌, leb, ltb, length, take, drop}
+use Rattle.base.specs.declared.Refusal.{Refusal}
+use Rattle.base.specs.declared.Refusal.TheVariants.{ShortBuffer}
+use Rattle.base.specs.Refusals.{number_of}
 use Rattle.base.specs.Text.{ascii}
 use Rattle.calendar.specs.declared.Date.{Date}
 use Rattle.calendar.specs.Calendar.{date_of}
 use Rattle.file.specs.declared.Figures.{Figures}
-use Rattle.file.specs.declared.Verdict.{Verdict}
-use Rattle.file.specs.declared.Verdict.TheVariants.{Accepted, Refused}
 use Rattle.file.specs.Reader.{read_file}
-use Rattle.line.specs.declared.LineWritten.{LineWritten}
-use Rattle.line.specs.declared.LineWritten.TheVariants as lined
 
 -- the last k decimal digits of n in ASCII, highest first
 unfoldable pub digits : ℕ → ℕ → List ℕ
@@ -49,9 +49,9 @@ abbrev pub newline : List ℕ
 newline = ascii "\n"
 
 -- each case of the reader's answer: the figures, or the refusal's number
-unfoldable pub answer_text : Verdict → List ℕ
-answer_text (Accepted g) = figures_text g
-answer_text (Refused number) = refused ++ field number
+unfoldable pub answer_text : Result Figures Refusal → List ℕ
+answer_text (Ok g) = figures_text g
+answer_text (Err r) = refused ++ field (number_of r)
 
 -- a file of at most 65,536 bytes
 unfoldable pub line : List ℕ → List ℕ
@@ -64,24 +64,24 @@ pub record AtStart (before after : List ℕ) (r : ℕ) (text : List ℕ) : Type 
   pub stay : drop r after ≡ drop r before
 
 -- the line of a file of any length, without a line end: its length, and 7 for a shorter buffer
-unfoldable pub figures_answer : Figures → List ℕ → LineWritten
+unfoldable pub figures_answer : Figures → List ℕ → Result ℕ Refusal
 figures_answer g out =
-    cond (ltb (length out) (length (figures_text g))) (lined.Refused 7) (lined.Length (length (figures_text g)))
+    cond (ltb (length out) (length (figures_text g))) (Err ShortBuffer) (Ok (length (figures_text g)))
 
 unfoldable pub figures_after : Figures → List ℕ → List ℕ
 figures_after g out =
     cond (ltb (length out) (length (figures_text g))) out (figures_text g ++ drop (length (figures_text g)) out)
 
 -- the reader's refusals go first, and a refusal changes no byte
-abbrev pub lined_as : Verdict → List ℕ → LineWritten
-lined_as (Accepted g) out = figures_answer g out
-lined_as (Refused number) out = lined.Refused number
+abbrev pub lined_as : Result Figures Refusal → List ℕ → Result ℕ Refusal
+lined_as (Ok g) out = figures_answer g out
+lined_as (Err r) out = Err r
 
-abbrev pub left_as : Verdict → List ℕ → List ℕ
-left_as (Accepted g) out = figures_after g out
-left_as (Refused number) out = out
+abbrev pub left_as : Result Figures Refusal → List ℕ → List ℕ
+left_as (Ok g) out = figures_after g out
+left_as (Err r) out = out
 
-unfoldable pub line_answer : List ℕ → List ℕ → LineWritten
+unfoldable pub line_answer : List ℕ → List ℕ → Result ℕ Refusal
 line_answer bs out = lined_as (read_file bs) out
 
 unfoldable pub line_after : List ℕ → List ℕ → List ℕ

@@ -4,21 +4,19 @@
 pub mod writing;
 
 ghost use Rattle.std.specs.Prelude.{◌≡◌, ◌++◌, ◌<◌};
+ghost use Rattle.base.specs.Refusals.{number_of};
 ghost use Rattle.calendar.specs.Calendar.{day_count};
 ghost use Rattle.line.specs.Line.{date_text, field, head_text, counts_text, figures_text, refused, newline, line as Line·line};
 ghost use Rattle.line.specs.Line.{AtStart, figures_answer, figures_after, line_answer, line_after};
 ghost use Rattle.line.specs.Inner.Writing.{Added};
 
+use base::Refusal;
 use calendar::Date;
-use file::{Figures, Verdict};
+use file::Figures;
 use writing::{put_decimal, put_digits, put_text};
 
-// What putting the line of a file into a buffer of any length answers.
-#[derive(Clone, Copy)]
-pub enum LineWritten {
-    Length(usize),
-    Refused(u8),
-}
+// The longest file whose line is written.
+const MOST_BYTES: usize = 65_536;
 
 // A space and a number.
 fn put_field(out: &mut [u8], at: usize, n: u64) -> usize
@@ -85,11 +83,11 @@ fn put_figures(out: &mut [u8], g: Figures) -> usize
 }
 
 // The line of a refused file.
-fn put_refusal(out: &mut [u8], number: u8) -> usize
-    ensures { Added out.old 0 out.new result (refused ++ field number ++ newline) }
+fn put_refusal(out: &mut [u8], refusal: Refusal) -> usize
+    ensures { Added out.old 0 out.new result (refused ++ field (number_of refusal) ++ newline) }
 {
     let word = put_text(out, 0, b"refused");
-    let end = put_field(out, word, number as u64);
+    let end = put_field(out, word, refusal.number() as u64);
     put_text(out, end, b"\n")
 }
 
@@ -97,17 +95,17 @@ fn put_refusal(out: &mut [u8], number: u8) -> usize
 pub fn line(bytes: &[u8], out: &mut [u8; 160]) -> usize
     ensures { AtStart out.old out.new result (Line·line bytes.now) }
 {
-    if 65_536 < bytes.len() {
+    if MOST_BYTES < bytes.len() {
         return put_text(out, 0, b"too long\n");
     }
     match file::read(bytes) {
-        Verdict::Accepted(g) => put_figures(out, g),
-        Verdict::Refused(number) => put_refusal(out, number),
+        Ok(g) => put_figures(out, g),
+        Err(refusal) => put_refusal(out, refusal),
     }
 }
 
 // The figures of an accepted file, where they have room.
-fn fit_line(out: &mut [u8], g: Figures) -> LineWritten
+fn fit_line(out: &mut [u8], g: Figures) -> Result<usize, Refusal>
     requires { g.first < day_count }
     ensures { (result ≡ figures_answer g out.old)
         × (out.new ≡ figures_after g out.old) }
@@ -115,19 +113,16 @@ fn fit_line(out: &mut [u8], g: Figures) -> LineWritten
     let mut aside = [0u8; 1];
     let n = put_line(&mut aside, g);
     if out.len() < n {
-        return LineWritten::Refused(7);
+        return Err(Refusal::ShortBuffer);
     }
-    LineWritten::Length(put_line(out, g))
+    Ok(put_line(out, g))
 }
 
 // Puts the line of a file of any length, without a line end, at the start of `out`.
-pub fn file_line(bytes: &[u8], out: &mut [u8]) -> LineWritten
+pub fn file_line(bytes: &[u8], out: &mut [u8]) -> Result<usize, Refusal>
     ensures { (result ≡ line_answer bytes.now out.old)
         × (out.new ≡ line_after bytes.now out.old) }
 {
-    let verdict = file::read(bytes);
-    match verdict {
-        Verdict::Accepted(g) => fit_line(out, g),
-        Verdict::Refused(number) => LineWritten::Refused(number),
-    }
+    let g = file::read(bytes)?;
+    fit_line(out, g)
 }

@@ -29,7 +29,7 @@ pub record ToldDay (day day' : ℕ) (v w : ℕ → ℕ) (mark other : ℕ → Ma
   pub rest : r ≡ r'
 
 plain_varies : Plainly varies
-plain_varies = record { small = omega arith; none = λ e. refl }
+plain_varies = omega arith
 
 -- the slots of a day whose slots are alike
 one_same : (mark : ℕ → Mark) (a n : ℕ) → one_mark mark a n ≡ true → (j : ℕ) → j < n → mark a ≡ mark (a + j)

@@ -1,4 +1,5 @@
 -- Two exports with equal texts and codes are equal exactly when what is written of their files is.
+use Rattle.std.specs.Prelude.{None, Some, Ok}
 use mathlib.Core.Bool.{Bool, true, false, cond, false≢true}
 use mathlib.Core.List.{List, [], ◌∷◌, ◌++◌, append_assoc, append_cancel_left, tail-eq_of_cons-eq}
 use mathlib.Core.Path.{◌≡◌, sym, ap, subst, ◌∙◌}
@@ -12,7 +13,6 @@ use lib.Seq.{take-append_seam}
 use Rattle.base.proofs.Logic.{passed}
 use Rattle.base.proofs.Sums.{all_at}
 use Rattle.file.specs.declared.Figures.{Figures}
-use Rattle.file.specs.declared.Verdict.TheVariants as verdict
 use Rattle.file.specs.declared.slots.SlotRecord.{SlotRecord}
 use Rattle.file.specs.Contents.{Bytes}
 use Rattle.file.specs.Reader.{slot_at, head_field_tests, record_ok, table_tests, tables_at, tables_ok, read_file}
@@ -21,7 +21,6 @@ use Rattle.file.proofs.Head.{interval_is}
 use Rattle.file.proofs.Offsets.{value_lt}
 use Rattle.line.specs.Line.{decimal}
 use Rattle.market.specs.declared.Codes.{Codes}
-use Rattle.market.specs.declared.Exported.TheVariants.{Length}
 use Rattle.market.specs.declared.marks.Mark.{Mark}
 use Rattle.market.specs.Fields.{Texts, field, fields, has_code, code_for, mark_of}
 use Rattle.base.specs.Text.{ascii}
@@ -31,7 +30,7 @@ use Rattle.market.specs.Claim.{SameContent, EqualExactly}
 use Rattle.file.proofs.Answers.{figures_are, tabled, dates_le}
 use Rattle.market.proofs.Answers.{answer_is}
 use Rattle.market.proofs.Numerals.{decimal_split}
-use Rattle.market.proofs.Splits.{Plainly}
+use Rattle.market.proofs.Splits.{Coded, Plainly}
 use Rattle.market.proofs.DaySplits.{Slots, Told, days_split}
 use Rattle.market.proofs.SameText.{content_same}
 
@@ -145,10 +144,11 @@ code_le codes ok method =
 
 plain_mark : (codes : Codes) → codes_ok codes ≡ true → (s : SlotRecord) → Plainly (mark_of codes s)
 unfolding mark_of
-plain_mark codes ok s = record {
-  small = cond_le (has_code s.letter) (code_for codes s.method) 0 (code_le codes ok s.method) (omega arith);
-  none = λ e. rw e;
-}
+plain_mark codes ok s = coded (has_code s.letter) (code_for codes s.method) (code_le codes ok s.method)
+  where
+    coded : (b : Bool) (code : ℕ) → code ≤ 99 → Coded b (cond b (Some code) None)
+    coded true code l = l
+    coded false code l = omega arith
 
 not_v : (s : SlotRecord) → record_ok s ≡ true → s.letter ≡ 86 → ⊥
 unfolding record_ok
@@ -156,7 +156,7 @@ not_v s ok e =
     let no : record_ok s ≡ false = rw e in
     false≢true (sym no ∙ ok)
 
-sound : (bs : List ℕ) → Bytes bs → (g : Figures) → read_file bs ≡ verdict.Accepted g → (t : Texts) (codes : Codes)
+sound : (bs : List ℕ) → Bytes bs → (g : Figures) → read_file bs ≡ Ok g → (t : Texts) (codes : Codes)
     → supplied_ok t codes ≡ true → Sound (content_of codes bs)
 unfolding content_of supplied_ok mark_of tables_ok
 sound bs b g e t codes ok =
@@ -188,7 +188,7 @@ sound bs b g e t codes ok =
 
 -- ---- A call that answers a length
 
-module _ (bs : List ℕ) (t : Texts) (codes : Codes) (out : List ℕ) (m : ℕ) (e : export_answer bs t codes out ≡ Length m) where
+module _ (bs : List ℕ) (t : Texts) (codes : Codes) (out : List ℕ) (m : ℕ) (e : export_answer bs t codes out ≡ Ok m) where
   -- the bytes up to the length are the export
   written_is : take m (export_after bs t codes out) ≡ export_of t (content_of codes bs)
   unfolding export_after

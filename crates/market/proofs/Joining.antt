@@ -1,4 +1,5 @@
 -- Records and fields from their parts, and what a turn of a loop adds to them.
+use Rattle.std.specs.Prelude.{None, Some}
 use mathlib.Core.Bool.{Bool, true, false, cond}
 use mathlib.Core.List.{List, [], ◌∷◌, ◌++◌, append_assoc, append-nil}
 use mathlib.Core.Path.{◌≡◌, refl, sym, ap}
@@ -9,7 +10,7 @@ use native.Mathlib.Omega.{arith}
 use lib.ListN.{length}
 use Rattle.line.specs.Line.{digits}
 use Rattle.market.specs.declared.marks.Mark.{Mark}
-use Rattle.market.specs.Fields.{field, joined, has_code, marked, one_mark, ends_run, start_of, day_mark}
+use Rattle.market.specs.Fields.{field, joined, marked, one_mark, ends_run, start_of, day_mark}
 use Rattle.market.specs.Records.{record300, record400, runs, day_records}
 use Rattle.line.specs.Inner.Writing.{Added}
 use Rattle.line.proofs.Putting.{nothing, then, same}
@@ -35,14 +36,14 @@ joined_next_0 f i p q = joined_next f 0 i p (same (ap f (sym (zero-add i))) q)
 
 -- ---- Quality, method and reason
 
-pub without_code : (m : Mark) (reason : List ℕ) → has_code m.letter ≡ false → (44 ∷ m.letter ∷ []) ++ (44 ∷ 44 ∷ []) ≡ marked m reason
+pub without_code : (m : Mark) (reason : List ℕ) → m.code ≡ None → (44 ∷ m.letter ∷ []) ++ (44 ∷ 44 ∷ []) ≡ marked m reason
 unfolding marked
 without_code m reason e = rw e
 
-pub with_code : (m : Mark) (reason : List ℕ) → has_code m.letter ≡ true
-    → (44 ∷ m.letter ∷ []) ++ (digits 2 m.code ++ (field reason ++ (44 ∷ []))) ≡ marked m reason
+pub with_code : (m : Mark) (code : ℕ) (reason : List ℕ) → m.code ≡ Some code
+    → (44 ∷ m.letter ∷ []) ++ (digits 2 code ++ (field reason ++ (44 ∷ []))) ≡ marked m reason
 unfolding marked
-with_code m reason e = rw e
+with_code m code reason e = rw e
 
 -- ---- Runs
 

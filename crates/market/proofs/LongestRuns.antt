@@ -1,4 +1,5 @@
 -- A day's slots stand in one 400 each, with all that are alike beside them.
+use Rattle.std.specs.Prelude.{Option, None, Some}
 use mathlib.Core.Bool.{Bool, true, false, not, ◌||◌, false≢true}
 use mathlib.Core.Logic.{⊎_elim}
 use mathlib.Core.Path.{◌≡◌, refl, sym, ap, ◌∙◌}
@@ -10,7 +11,7 @@ use borrow.Author.Tests.{eqb-false, ne_eqb, eq-eqb, not-false, ltb-true, ltb-fal
 use lib.Dec.{eqb, ltb}
 use Rattle.base.proofs.Logic.{either}
 use Rattle.market.specs.declared.marks.Mark.{Mark}
-use Rattle.market.specs.Fields.{alike, ends_run, start_of}
+use Rattle.market.specs.Fields.{same_code, alike, ends_run, start_of}
 use Rattle.market.specs.Claim.{HasRecord, Holds, Alike, LongestRuns}
 use Rattle.market.proofs.Joining.{start_le}
 use Rattle.market.proofs.Splits.{alike_same}
@@ -19,8 +20,12 @@ or-false : (a b : Bool) → (a || b) ≡ false → (a ≡ false) × (b ≡ false
 or-false true b e = absurd (false≢true (sym e))
 or-false false b e = (refl, e)
 
+code_own : (code : Option ℕ) → same_code code code ≡ true
+code_own None = refl
+code_own (Some code) = eq-eqb code code refl
+
 alike_own : (p : Mark) → alike p p ≡ true
-alike_own p = rw (eq-eqb p.letter p.letter refl, eq-eqb p.code p.code refl)
+alike_own p = rw (eq-eqb p.letter p.letter refl, code_own p.code)
 
 module _ (mark : ℕ → Mark) (a n : ℕ) where
   pub start_after : (j : ℕ) → ends_run mark a n j ≡ true → start_of mark a n (suc j) ≡ suc j

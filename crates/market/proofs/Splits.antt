@@ -1,5 +1,6 @@
 -- Fields and records that are told from an export's bytes.
-use mathlib.Core.Bool.{Bool, true, false, cond}
+use Rattle.std.specs.Prelude.{Option, None, Some}
+use mathlib.Core.Bool.{Bool, true, false, false≢true}
 use mathlib.Core.List.{List, [], ◌∷◌, ◌++◌, append_assoc, append-nil, append_cancel_left, head-eq_of_cons-eq, tail-eq_of_cons-eq}
 use mathlib.Core.Logic.{⊎_elim}
 use mathlib.Core.Path.{◌≡◌, refl, sym, ap, subst, ◌∙◌}
@@ -11,52 +12,62 @@ use lib.Dec.{eqb}
 use Rattle.base.proofs.Logic.{and_parts}
 use Rattle.line.specs.Line.{digits, decimal}
 use Rattle.market.specs.declared.marks.Mark.{Mark}
-use Rattle.market.specs.Fields.{field, fields, joined, kwh, date_field, has_code, marked, alike}
+use Rattle.market.specs.Fields.{field, fields, joined, kwh, date_field, has_code, method_of, reason_for, marked, same_code, alike}
 use Rattle.market.specs.Records.{record300, record400}
 use Rattle.market.proofs.Numerals.{decimal_split, code_split, kwh_split, date_split}
 
 -- ---- Quality and method
 
--- what is written of a slot, or V: a code of two digits for S and F, and 0 for the others
-pub record Plainly (m : Mark) : Type 0 where
-  pub small : m.code ≤ 99
-  pub none : has_code m.letter ≡ false → m.code ≡ 0
+-- what is written of a slot, or V: a code of two digits for S and F, and none for the others
+abbrev pub Coded : Bool → Option ℕ → Type 0
+Coded true None = ⊥
+Coded true (Some code) = code ≤ 99
+Coded false None = 0 ≤ 99
+Coded false (Some code) = ⊥
+
+abbrev pub Plainly : Mark → Type 0
+Plainly m = Coded (has_code m.letter) m.code
 
 pub same_mark : (p q : Mark) → p.letter ≡ q.letter → p.code ≡ q.code → p ≡ q
 same_mark p q l c = λ t. record { letter = l t; code = c t }
 
+code_same : (a b : Option ℕ) → same_code a b ≡ true → a ≡ b
+code_same None None e = refl
+code_same None (Some b) e = absurd (false≢true e)
+code_same (Some a) None e = absurd (false≢true e)
+code_same (Some a) (Some b) e = ap Some (eqb-true a b e)
+
 pub alike_same : (p q : Mark) → alike p q ≡ true → p ≡ q
 alike_same p q e =
-    let parts = and_parts (eqb p.letter q.letter) (eqb p.code q.code) e in
-    same_mark p q (eqb-true _ _ parts.0) (eqb-true _ _ parts.1)
+    let parts = and_parts (eqb p.letter q.letter) (same_code p.code q.code) e in
+    same_mark p q (eqb-true _ _ parts.0) (code_same _ _ parts.1)
 
 -- the fields behind the letter
-behind : Bool → ℕ → List ℕ → List ℕ
-behind coded code reason = cond coded (digits 2 code) [] ++ (field (cond coded reason []) ++ field [])
+behind : Option ℕ → List ℕ → List ℕ
+behind code reason = method_of code ++ (field (reason_for code reason) ++ field [])
 
-behind_split : (coded : Bool) (a b : ℕ) → a ≤ 99 → b ≤ 99 → (coded ≡ false → a ≡ 0) → (coded ≡ false → b ≡ 0) → (reason r r' : List ℕ)
-    → behind coded a reason ++ r ≡ behind coded b reason ++ r' → (a ≡ b) × (r ≡ r')
+behind_split : (coded : Bool) (a b : Option ℕ) → Coded coded a → Coded coded b → (reason r r' : List ℕ)
+    → behind a reason ++ r ≡ behind b reason ++ r' → (a ≡ b) × (r ≡ r')
 unfolding behind
-behind_split true a b l m p q reason r r' e =
+behind_split true None b l m reason r r' e = absurd l
+behind_split true (Some a) None l m reason r r' e = absurd m
+behind_split true (Some a) (Some b) l m reason r r' e =
     let tail : List ℕ = field reason ++ field [] in
     let flat = sym (append_assoc (digits 2 a) tail r) ∙ e ∙ append_assoc (digits 2 b) tail r' in
     let parts = code_split a b l m (tail ++ r) (tail ++ r') flat in
-    (parts.0, append_cancel_left tail r r' parts.1)
-behind_split false a b l m p q reason r r' e =
-    (p refl ∙ sym (q refl), tail-eq_of_cons-eq (tail-eq_of_cons-eq e))
+    (ap Some parts.0, append_cancel_left tail r r' parts.1)
+behind_split false None None l m reason r r' e = (refl, tail-eq_of_cons-eq (tail-eq_of_cons-eq e))
+behind_split false None (Some b) l m reason r r' e = absurd m
+behind_split false (Some a) b l m reason r r' e = absurd l
 
 pub marked_split : (p q : Mark) → Plainly p → Plainly q → (reason r r' : List ℕ) → marked p reason ++ r ≡ marked q reason ++ r'
     → (p ≡ q) × (r ≡ r')
 unfolding marked behind
 marked_split p q a b reason r r' e =
     let letters : p.letter ≡ q.letter = head-eq_of_cons-eq (tail-eq_of_cons-eq e) in
-    let rest : behind (has_code p.letter) p.code reason ++ r ≡ behind (has_code q.letter) q.code reason ++ r' =
-    tail-eq_of_cons-eq (tail-eq_of_cons-eq e) in
-    let alone : behind (has_code p.letter) p.code reason ++ r ≡ behind (has_code p.letter) q.code reason ++ r' =
-    rest ∙ ap (λ (l : ℕ). behind (has_code l) q.code reason ++ r') (sym letters) in
-    let parts =
-    behind_split (has_code p.letter) p.code q.code a.small b.small a.none (λ n. b.none (ap has_code (sym letters) ∙ n))
-    reason r r' alone in
+    let rest : behind p.code reason ++ r ≡ behind q.code reason ++ r' = tail-eq_of_cons-eq (tail-eq_of_cons-eq e) in
+    let other : Coded (has_code p.letter) q.code = subst (λ (l : ℕ). Coded (has_code l) q.code) (sym letters) b in
+    let parts = behind_split (has_code p.letter) p.code q.code a other reason r r' rest in
     (same_mark p q letters parts.0, parts.1)
 
 -- ---- A list of texts

@@ -1,9 +1,9 @@
 -- What is proved of exports (02, W8).
+use Rattle.std.specs.Prelude.{Ok}
 use Rattle.std.specs.Prelude.{true, List, ◌↔◌, ◌≡◌, ℕ, ◌+◌, ◌*◌, ◌/◌, ◌≤◌, ◌<◌, take}
 use Rattle.rules.specs.Numbers.{day_minutes}
 use Rattle.file.specs.Contents.{Bytes}
 use Rattle.market.specs.declared.Codes.{Codes}
-use Rattle.market.specs.declared.Exported.TheVariants.{Length}
 use Rattle.market.specs.declared.marks.Mark.{Mark}
 use Rattle.market.specs.Fields.{Texts, ends_run, start_of}
 use Rattle.market.specs.Export.{Content, content_of, export_answer, export_after}
@@ -24,7 +24,7 @@ pub record SameContent (c d : Content) : Type 0 where
 abbrev pub EqualExactly : Type 0
 EqualExactly =
     (bs cs : List ℕ) → Bytes bs → Bytes cs → (t : Texts) (codes : Codes) (out other : List ℕ) (m n : ℕ)
-    → export_answer bs t codes out ≡ Length m → export_answer cs t codes other ≡ Length n
+    → export_answer bs t codes out ≡ Ok m → export_answer cs t codes other ≡ Ok n
     → ((m ≡ n) × (take m (export_after bs t codes out) ≡ take n (export_after cs t codes other)))
     ↔ SameContent (content_of codes bs) (content_of codes cs)
 

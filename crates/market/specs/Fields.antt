@@ -1,4 +1,5 @@
 -- The fields of an export (02, W8), in the form of AEMO's Meter Data File Format Specification NEM12.
+use Rattle.std.specs.Prelude.{Option, None, Some}
 use Rattle.std.specs.Prelude.{Bool, true, false, cond, not, ◌&&◌, ◌||◌, List, [], ◌∷◌, ◌++◌, ℕ, zero, suc, ◌+◌, ◌/◌, eqb}
 use Rattle.base.specs.Lists.{all}
 use Rattle.base.specs.Text.{ascii}
@@ -8,6 +9,7 @@ use Rattle.file.specs.declared.slots.SlotRecord.{SlotRecord}
 use Rattle.file.specs.Layout.{letter}
 use Rattle.line.specs.Line.{digits, decimal}
 use Rattle.market.specs.declared.Codes.{Codes}
+use Rattle.market.specs.declared.Texts.{Texts as Slices}
 use Rattle.market.specs.declared.marks.Mark.{Mark}
 
 -- what the caller supplies: the identifier, the other header texts in the order of the records, the reason code, the creation time
@@ -45,6 +47,22 @@ abbrev pub lent_texts : List ℕ → List ℕ → List ℕ → List ℕ → List
 lent_texts identifier from to configuration register suffix stream serial next_read reason created =
     texts identifier from to configuration register suffix stream serial next_read
     reason created
+
+-- the same of the struct that lends them
+abbrev pub lent : Slices → Texts
+lent t = record {
+  identifier = t.identifier.now;
+  from = t.from.now;
+  to = t.to.now;
+  configuration = t.configuration.now;
+  register = t.register.now;
+  suffix = t.suffix.now;
+  stream = t.stream.now;
+  serial = t.serial.now;
+  next_read = t.next_read.now;
+  reason = t.reason.now;
+  created = t.created.now;
+}
 
 -- ---- Fields and records
 
@@ -86,30 +104,41 @@ code_for c method =
     (cond (eqb method 5) c.five
     (cond (eqb method 18) c.eighteen c.nineteen)))
 
--- a slot's written quality is its letter, its written method the caller's code for S and F and none, 0, for A and N
+-- a slot's written quality is its letter, its written method the caller's code for S and F and none for A and N
 unfoldable pub mark_of : Codes → SlotRecord → Mark
-mark_of c r = record { letter = r.letter; code = cond (has_code r.letter) (code_for c r.method) 0 }
+mark_of c r = record { letter = r.letter; code = cond (has_code r.letter) (Some (code_for c r.method)) None }
 
 -- V (86) in a 300 says that the quality varies
 abbrev pub varies : Mark
-varies = record { letter = 86; code = 0 }
+varies = record { letter = 86; code = None }
 
 -- one letter, and behind it a two-digit method for S and F
-abbrev pub quality : Mark → List ℕ
-quality m = m.letter ∷ cond (has_code m.letter) (digits 2 m.code) []
+abbrev pub method_of : Option ℕ → List ℕ
+method_of None = []
+method_of (Some code) = digits 2 code
 
-abbrev pub reason_for : Mark → List ℕ → List ℕ
-reason_for m reason = cond (has_code m.letter) reason []
+abbrev pub quality : Mark → List ℕ
+quality m = m.letter ∷ method_of m.code
+
+abbrev pub reason_for : Option ℕ → List ℕ → List ℕ
+reason_for None reason = []
+reason_for (Some code) reason = reason
 
 -- QualityMethod, ReasonCode, ReasonDescription
 unfoldable pub marked : Mark → List ℕ → List ℕ
-marked m reason = field (quality m) ++ (field (reason_for m reason) ++ field [])
+marked m reason = field (quality m) ++ (field (reason_for m.code reason) ++ field [])
 
 -- ---- A day's slots: n from slot a, with these written qualities and methods
 
+abbrev pub same_code : Option ℕ → Option ℕ → Bool
+same_code None None = true
+same_code None (Some b) = false
+same_code (Some a) None = false
+same_code (Some a) (Some b) = eqb a b
+
 -- alike in both
 abbrev pub alike : Mark → Mark → Bool
-alike p q = eqb p.letter q.letter && eqb p.code q.code
+alike p q = eqb p.letter q.letter && same_code p.code q.code
 
 module _ (mark : ℕ → Mark) (a n : ℕ) where
   -- all slots are alike

@@ -1,199 +1,102 @@
 // What the caller supplies: what is refused with 14 and 15.
-ghost use Rattle.std.specs.Prelude.{◌&&◌, [], ◌∷◌, ◌≡◌};
+ghost use Rattle.std.specs.Prelude.{Bool, ℕ, ◌&&◌, [], ◌∷◌, ◌≡◌};
 ghost use Rattle.base.specs.Lists.{every};
-ghost use Rattle.market.specs.Export.{in_class, all_of, identifier_ok, time_ok, codes_ok, supplied_ok};
-ghost use Rattle.market.specs.Fields.{texts};
-ghost use Rattle.market.specs.declared.checks.Class.TheVariants.{Identifier, Plain, Digit};
+ghost use Rattle.market.specs.Export.{identifier_byte, plain_byte, digit_byte, Tells, all_of};
+ghost use Rattle.market.specs.Export.{identifier_ok, time_ok, codes_ok, supplied_ok};
+ghost use Rattle.market.specs.Fields.{lent};
 
-use crate::Codes;
-
-// The bytes of an identifier, of another text, and of a creation time.
-#[derive(Clone, Copy)]
-pub enum Class {
-    Identifier,
-    Plain,
-    Digit,
-}
+use crate::{Codes, Texts};
 
 fn is_digit(byte: u8) -> bool
-    ensures { result ≡ in_class Digit byte }
+    ensures { result ≡ digit_byte byte }
 {
-    if byte < b'0' {
-        return false;
-    }
-    byte <= b'9'
+    b'0' <= byte && byte <= b'9'
 }
 
 // A to Z without I and O, 0 to 9.
 fn is_identifier(byte: u8) -> bool
-    ensures { result ≡ in_class Identifier byte }
+    ensures { result ≡ identifier_byte byte }
 {
-    if is_digit(byte) {
-        return true;
-    }
-    if byte < b'A' {
-        return false;
-    }
-    if b'Z' < byte {
-        return false;
-    }
-    byte != b'I' && byte != b'O'
+    is_digit(byte) || b'A' <= byte && byte <= b'Z' && byte != b'I' && byte != b'O'
 }
 
 // 0x20 to 0x7E without the comma.
 fn is_plain(byte: u8) -> bool
-    ensures { result ≡ in_class Plain byte }
+    ensures { result ≡ plain_byte byte }
 {
-    if byte < 32 {
-        return false;
-    }
-    if 126 < byte {
-        return false;
-    }
-    byte != b','
+    32 <= byte && byte <= 126 && byte != b','
 }
 
-fn is_in(class: Class, byte: u8) -> bool
-    ensures { result ≡ in_class class byte }
+// Every byte passes the test.
+fn all_of<F: Fn(u8) -> bool>(test: F, text: &[u8]) -> bool
+    requires { F.IsAlwaysCallable test }
+    ensures { (k : ℕ → Bool) → Tells (F.post test) k → result ≡ all_of k text.now }
 {
-    match class {
-        Class::Identifier => is_identifier(byte),
-        Class::Plain => is_plain(byte),
-        Class::Digit => is_digit(byte),
-    }
-}
-
-// Every byte is of the class.
-pub fn all_of(class: Class, text: &[u8]) -> bool
-    ensures { result ≡ all_of class text.now }
-{
-    let mut i = 0;
-    while i < text.len() {
-        if !is_in(class, text[i]) {
+    for byte in text {
+        if !test(*byte) {
             return false;
         }
-        i += 1;
     }
     true
 }
 
+#[tactic(auto, unfolding(crate::specs::Export::identifier_ok))]
 pub fn is_meter(identifier: &[u8]) -> bool
     ensures { result ≡ identifier_ok identifier.now }
 {
-    if identifier.len() != 10 {
-        return false;
-    }
-    all_of(Class::Identifier, identifier)
+    identifier.len() == 10 && all_of(|b| is_identifier(b), identifier)
 }
 
+#[tactic(auto, unfolding(crate::specs::Export::time_ok))]
 fn is_time(created: &[u8]) -> bool
     ensures { result ≡ time_ok created.now }
 {
-    if created.len() != 14 {
-        return false;
-    }
-    all_of(Class::Digit, created)
+    created.len() == 14 && all_of(|b| is_digit(b), created)
 }
 
+#[tactic(auto, unfolding(crate::specs::Export::codes_ok))]
 fn are_codes(codes: Codes) -> bool
     ensures { result ≡ codes_ok codes }
 {
-    if 99 < codes.two {
-        return false;
-    }
-    if 99 < codes.three {
-        return false;
-    }
-    if 99 < codes.five {
-        return false;
-    }
-    if 99 < codes.eighteen {
-        return false;
-    }
-    codes.nineteen <= 99
+    codes.two <= 99
+        && codes.three <= 99
+        && codes.five <= 99
+        && codes.eighteen <= 99
+        && codes.nineteen <= 99
 }
 
 fn are_plain(a: &[u8], b: &[u8]) -> bool
-    ensures { result ≡ (all_of Plain a.now && all_of Plain b.now) }
+    ensures { result ≡ (all_of plain_byte a.now && all_of plain_byte b.now) }
 {
-    if !all_of(Class::Plain, a) {
-        return false;
-    }
-    all_of(Class::Plain, b)
+    all_of(|b| is_plain(b), a) && all_of(|b| is_plain(b), b)
 }
 
 // The header texts but the identifier, in the order of the records.
-fn are_headers(
-    from: &[u8],
-    to: &[u8],
-    configuration: &[u8],
-    register: &[u8],
-    suffix: &[u8],
-    stream: &[u8],
-    serial: &[u8],
-    next_read: &[u8],
-) -> bool
-    ensures { result ≡ every ((all_of Plain from.now && all_of Plain to.now)
-        ∷ (all_of Plain configuration.now && all_of Plain register.now)
-        ∷ (all_of Plain suffix.now && all_of Plain stream.now)
-        ∷ (all_of Plain serial.now && all_of Plain next_read.now)
+fn are_headers(texts: &Texts) -> bool
+    ensures { let t = lent texts.now in
+        result ≡ every ((all_of plain_byte t.from && all_of plain_byte t.to)
+        ∷ (all_of plain_byte t.configuration && all_of plain_byte t.register)
+        ∷ (all_of plain_byte t.suffix && all_of plain_byte t.stream)
+        ∷ (all_of plain_byte t.serial && all_of plain_byte t.next_read)
         ∷ []) }
 {
-    if !are_plain(from, to) {
-        return false;
-    }
-    if !are_plain(configuration, register) {
-        return false;
-    }
-    if !are_plain(suffix, stream) {
-        return false;
-    }
-    are_plain(serial, next_read)
+    are_plain(texts.from, texts.to)
+        && are_plain(texts.configuration, texts.register)
+        && are_plain(texts.suffix, texts.stream)
+        && are_plain(texts.serial, texts.next_read)
 }
 
 // The reason code, the creation time and the method codes.
-fn are_reason_time_codes(reason: &[u8], created: &[u8], codes: Codes) -> bool
-    ensures { result ≡ every (all_of Plain reason.now ∷ time_ok created.now ∷ codes_ok codes ∷ []) }
+fn are_reason_time_codes(texts: &Texts, codes: Codes) -> bool
+    ensures { let t = lent texts.now in
+        result ≡ every (all_of plain_byte t.reason ∷ time_ok t.created ∷ codes_ok codes ∷ []) }
 {
-    if !all_of(Class::Plain, reason) {
-        return false;
-    }
-    if !is_time(created) {
-        return false;
-    }
-    are_codes(codes)
+    all_of(|b| is_plain(b), texts.reason) && is_time(texts.created) && are_codes(codes)
 }
 
 // What is refused with 15 where it is false.
-pub fn are_supplied(
-    from: &[u8],
-    to: &[u8],
-    configuration: &[u8],
-    register: &[u8],
-    suffix: &[u8],
-    stream: &[u8],
-    serial: &[u8],
-    next_read: &[u8],
-    reason: &[u8],
-    created: &[u8],
-    codes: Codes,
-) -> bool
-    ensures { let given =
-        texts [] from.now to.now configuration.now register.now suffix.now
-        stream.now serial.now next_read.now reason.now created.now in
-        result ≡ supplied_ok given codes }
+pub fn are_supplied(texts: &Texts, codes: Codes) -> bool
+    ensures { result ≡ supplied_ok (lent texts.now) codes }
 {
-    if !are_headers(
-        from,
-        to,
-        configuration,
-        register,
-        suffix,
-        stream,
-        serial,
-        next_read,
-    ) {
-        return false;
-    }
-    are_reason_time_codes(reason, created, codes)
+    are_headers(texts) && are_reason_time_codes(texts, codes)
 }

@@ -10,7 +10,7 @@ ghost use Rattle.line.specs.Inner.Writing.{Added};
 
 use crate::marks::Mark;
 use crate::writing::{put_field, put_number};
-use crate::{Codes, marks};
+use crate::{Codes, Texts, marks};
 use file::fields;
 use line::writing::{put_digits, put_text};
 
@@ -40,10 +40,8 @@ fn put_values(out: &mut [u8], at: usize, file: &[u8], a: usize, k: usize) -> usi
         Added out.old at out.new result (joined (λ i. field (kwh (value i))) a k)) }
 {
     let mut next = at;
-    let mut i = 0;
-    while i < k {
+    for i in 0..k {
         next = put_value(out, next, file, a + i);
-        i += 1;
     }
     next
 }
@@ -59,25 +57,17 @@ fn put_date(out: &mut [u8], at: usize, number: u32) -> usize
 }
 
 // 300,IntervalDate,values,QualityMethod,ReasonCode,ReasonDescription,UpdateDateTime,MSATSLoadDateTime
-fn put_300(
-    out: &mut [u8],
-    at: usize,
-    file: &[u8],
-    day: Day,
-    mark: Mark,
-    reason: &[u8],
-    created: &[u8],
-) -> usize
+fn put_300(out: &mut [u8], at: usize, file: &[u8], day: Day, mark: Mark, texts: &Texts) -> usize
     requires { (6 * (day.from + day.slots) ≤ length file.now) × (day.number < day_count) }
     ensures { (let value : ℕ → ℕ = λ i. (slot_at file.now i).value in
-        let text = record300 reason.now created.now day.number value day.from day.slots mark in
+        let text = record300 texts.now.reason.now texts.now.created.now day.number value day.from day.slots mark in
         Added out.old at out.new result text) }
 {
     let code = put_text(out, at, b"300,");
     let date = put_date(out, code, day.number);
     let values = put_values(out, date, file, day.from, day.slots);
-    let quality = marks::put_mark(out, values, mark, reason);
-    let time = put_field(out, quality, created);
+    let quality = marks::put_mark(out, values, mark, texts.reason);
+    let time = put_field(out, quality, texts.created);
     put_text(out, time, b",\r\n")
 }
 
@@ -114,10 +104,7 @@ fn put_run(
 fn next_start(ends: bool, start: usize, next: usize) -> usize
     ensures { result ≡ cond ends next start }
 {
-    if ends {
-        return next;
-    }
-    start
+    if ends { next } else { start }
 }
 
 // A 400 for each longest run of slots alike, of the `n` slots from slot `a`.
@@ -136,40 +123,30 @@ fn put_runs(
 {
     let mut next = at;
     let mut start = 0;
-    let mut j = 0;
-    while j < n {
+    for j in 0..n {
         let ends = marks::ends_run(file, codes, a, n, j);
         let mark = marks::mark_at(file, codes, a + j);
         next = put_run(out, next, ends, start + 1, j + 1, mark, reason);
         start = next_start(ends, start, j + 1);
-        j += 1;
     }
     next
 }
 
 // A day's 300 and 400s.
-fn put_day(
-    out: &mut [u8],
-    at: usize,
-    file: &[u8],
-    codes: Codes,
-    day: Day,
-    reason: &[u8],
-    created: &[u8],
-) -> usize
+fn put_day(out: &mut [u8], at: usize, file: &[u8], codes: Codes, day: Day, texts: &Texts) -> usize
     requires { (6 * (day.from + day.slots) ≤ length file.now) × (1 ≤ day.slots) × (day.number < day_count) }
     ensures { (let value : ℕ → ℕ = λ i. (slot_at file.now i).value in
         let marks : ℕ → Mark = λ i. mark_of codes (slot_at file.now i) in
-        let text = day_records reason.now created.now day.number value marks day.from day.slots in
+        let text = day_records texts.now.reason.now texts.now.created.now day.number value marks day.from day.slots in
         Added out.old at out.new result text) }
 {
     let one = marks::are_all_alike(file, codes, day.from, day.slots);
     let mark = marks::day_mark(file, codes, day.from, one);
-    let next = put_300(out, at, file, day, mark, reason, created);
+    let next = put_300(out, at, file, day, mark, texts);
     if one {
         return next;
     }
-    put_runs(out, next, file, codes, day.from, day.slots, reason)
+    put_runs(out, next, file, codes, day.from, day.slots, texts.reason)
 }
 
 // The records of `days` days of `n` slots from day `first` on.
@@ -181,24 +158,21 @@ pub fn put_days(
     first: u32,
     n: usize,
     days: u32,
-    reason: &[u8],
-    created: &[u8],
+    texts: &Texts,
 ) -> usize
     requires { Tabled file.now n days × (first + days ≤ day_count) }
     ensures { (let value : ℕ → ℕ = λ i. (slot_at file.now i).value in
         let marks : ℕ → Mark = λ i. mark_of codes (slot_at file.now i) in
-        Added out.old at out.new result (days_of reason.now created.now first value marks n days)) }
+        Added out.old at out.new result (days_of texts.now.reason.now texts.now.created.now first value marks n days)) }
 {
     let mut next = at;
-    let mut d: u32 = 0;
-    while d < days {
+    for d in 0..days {
         let day = Day {
             number: first + d,
             from: d as usize * n,
             slots: n,
         };
-        next = put_day(out, next, file, codes, day, reason, created);
-        d += 1;
+        next = put_day(out, next, file, codes, day, texts);
     }
     next
 }

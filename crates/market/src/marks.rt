@@ -8,11 +8,11 @@ use crate::Codes;
 use crate::writing::put_field;
 use line::writing::{put_digits, put_text};
 
-// The letter, and the method code that is written with it; 0 where none is.
-#[derive(Clone, Copy)]
+// The letter, and the method code where one is written with it.
+#[derive(Clone, Copy, PartialEq, Eq)]
 pub struct Mark {
     pub letter: u8,
-    pub code: u32,
+    pub code: Option<u32>,
 }
 
 // S and F are written with method and reason code.
@@ -22,22 +22,17 @@ fn has_code(letter: u8) -> bool
     letter == b'S' || letter == b'F'
 }
 
+#[tactic(auto, unfolding(crate::specs::Fields::code_for))]
 fn code_for(codes: Codes, method: u8) -> u32
     ensures { result ≡ code_for codes method }
 {
-    if method == 2 {
-        return codes.two;
+    match method {
+        2 => codes.two,
+        3 => codes.three,
+        5 => codes.five,
+        18 => codes.eighteen,
+        _ => codes.nineteen,
     }
-    if method == 3 {
-        return codes.three;
-    }
-    if method == 5 {
-        return codes.five;
-    }
-    if method == 18 {
-        return codes.eighteen;
-    }
-    codes.nineteen
 }
 
 // What is written of slot `i`.
@@ -48,25 +43,16 @@ pub fn mark_at(file: &[u8], codes: Codes, i: usize) -> Mark
     let letter = file[6 * i + 4];
     let method = file[6 * i + 5];
     if !has_code(letter) {
-        return Mark {
-            letter: letter,
-            code: 0,
-        };
+        return Mark { letter, code: None };
     }
-    let code = code_for(codes, method);
-    Mark {
-        letter: letter,
-        code: code,
-    }
+    let code = Some(code_for(codes, method));
+    Mark { letter, code }
 }
 
 pub fn are_alike(a: Mark, b: Mark) -> bool
     ensures { result ≡ alike a b }
 {
-    if a.letter != b.letter {
-        return false;
-    }
-    a.code == b.code
+    a == b
 }
 
 // The `n` slots from slot `a` are alike.
@@ -75,12 +61,10 @@ pub fn are_all_alike(file: &[u8], codes: Codes, a: usize, n: usize) -> bool
     ensures { result ≡ one_mark (λ i. mark_of codes (slot_at file.now i)) a n }
 {
     let first = mark_at(file, codes, a);
-    let mut j = 0;
-    while j < n {
+    for j in 0..n {
         if !are_alike(first, mark_at(file, codes, a + j)) {
             return false;
         }
-        j += 1;
     }
     true
 }
@@ -95,7 +79,7 @@ pub fn day_mark(file: &[u8], codes: Codes, a: usize, one: bool) -> Mark
     }
     Mark {
         letter: b'V',
-        code: 0,
+        code: None,
     }
 }
 
@@ -117,10 +101,10 @@ pub fn put_mark(out: &mut [u8], at: usize, mark: Mark, reason: &[u8]) -> usize
 {
     let letter = [b',', mark.letter];
     let quality = put_text(out, at, &letter);
-    if !has_code(mark.letter) {
+    let Some(code) = mark.code else {
         return put_text(out, quality, b",,");
-    }
-    let method = put_digits(out, quality, 2, mark.code as u64);
+    };
+    let method = put_digits(out, quality, 2, code as u64);
     let cause = put_field(out, method, reason);
     put_text(out, cause, b",")
 }

@@ -1,5 +1,8 @@
 -- Lines before and after the opening, one at a time.
-use mathlib.Core.Bool.{Bool, true, false, cond, true≢false, false≢true}
+use Rattle.base.specs.declared.Refusal.{Refusal}
+use Rattle.base.specs.declared.Refusal.TheVariants.{OutsideBounds}
+use Rattle.std.specs.Prelude.{Option, Some, None, Result, Ok, Err}
+use mathlib.Core.Bool.{Bool, true, false, cond}
 use mathlib.Core.List.{List, [], ◌∷◌}
 use mathlib.Core.Path.{◌≡◌, refl, ap, sym, subst, ◌∙◌}
 use Prim.Native.Nat.{ℕ, zero, suc, ◌+◌, ◌-◌, ◌≤◌}
@@ -8,8 +11,6 @@ use native.Mathlib.Omega.{arith}
 use lib.ListN.{length, take, drop, length-map}
 use lib.Seq.{drop-length}
 use Rattle.rules.specs.declared.Head.{Head}
-use Rattle.rules.specs.declared.limits.Loaded.{Loaded}
-use Rattle.rules.specs.declared.limits.Loaded.TheVariants as loaded
 use Rattle.rules.specs.Limits.{load_answer}
 use Rattle.rules.specs.Opening.{head_ok}
 use Rattle.book.specs.Arguments.{Call}
@@ -17,48 +18,56 @@ use Rattle.text_log.specs.declared.limits.Limits.{Limits}
 use Rattle.text_log.specs.declared.line.LogLine.{LogLine}
 use Rattle.text_log.specs.declared.line.LogLine.TheVariants as line
 use Rattle.text_log.specs.declared.line.Opening.{Opening}
+use Rattle.text_log.specs.declared.line.Entry.{Entry}
 use Rattle.text_log.specs.declared.lines.Cut.{Cut}
+use Rattle.text_log.specs.Line.{entry_of}
 use Rattle.text_log.specs.Log.{lines, Item, item_in, item_of, items, calls_in, Reading, read_open, head_with, or_built_in, with_table}
 use Rattle.text_log.specs.Log.{with_opening}
 use Rattle.text_log.specs.Log.{read_closed, read_log}
 use Rattle.text_log.specs.Log.Item.{passed, table, opening, call, neither}
 use Rattle.text_log.specs.Log.Reading.{not_a_call, refused}
-use Rattle.text_log.specs.Inner.Lines.{LineAt, ItemAt, FoundAt}
+use Rattle.text_log.specs.Inner.Lines.{LineAt, ItemAt}
 use Rattle.text_log.specs.Inner.Deliveries.{DeliveryTo}
 use Rattle.text_log.proofs.Cutting.{item_at}
 use Rattle.text_log.proofs.OnePass.{delivery_found}
-use Rattle.play.specs.declared.Checked.TheVariants as coded
-use Rattle.play.specs.declared.reading.Step.{Step}
-use Rattle.play.specs.declared.reading.Step.TheVariants.{On, Opened, NotACall, Refused}
+use Rattle.play.specs.declared.NotALog.TheVariants as no_log
+use Rattle.play.specs.declared.reading.TestedLine.{TestedLine}
+use Rattle.play.specs.declared.reading.Wrong.{Wrong}
+use Rattle.play.specs.declared.reading.Wrong.TheVariants.{NotACall, Refused}
 use Rattle.play.specs.Playing.{log_calls, checked_of, checked}
-use Rattle.play.specs.Inner.Steps.{table_step, head_step, opening_step, step_of, goes_on, table_after, opening_at, is_outside, calls_at}
-use Rattle.play.specs.Inner.Steps.{TestedAt, Reached, OpeningMeant}
+use Rattle.play.specs.Inner.Steps.{table_step, head_step, opening_step, step_of, table_after, in_line, calls_at}
+use Rattle.play.specs.Inner.Steps.{PassingAt, OutsideAt, TestedAt, Reached, OpeningMeant}
+
+-- what a line in front of the opening comes to
+abbrev Step : Type 0
+Step = Result (Option Head) Wrong
 
 -- ---- A line before the opening
 
 -- what its step makes of the rest
 unfoldable closed_as : Step → ℕ → Reading → List Item → Reading
-closed_as On n rest xs = rest
-closed_as (Opened h) n rest xs = read_open h (suc n) xs
-closed_as NotACall n rest xs = not_a_call n
-closed_as (Refused k) n rest xs = refused n k
+closed_as (Ok None) n rest xs = rest
+closed_as (Ok (Some h)) n rest xs = read_open h (suc n) xs
+closed_as (Err NotACall) n rest xs = not_a_call n
+closed_as (Err (Refused k)) n rest xs = refused n k
 
 module _ (n : ℕ) (rest : Reading) (xs : List Item) where
-  by_table : (l : Loaded) → with_table n l rest ≡ closed_as (table_step l) n rest xs
+  by_table : (l : Result ℕ Refusal) → with_table n l rest ≡ closed_as (table_step l) n rest xs
   unfolding with_table table_step closed_as
-  by_table (loaded.Limit w) = refl
-  by_table (loaded.Refused k) = refl
+  by_table (Ok w) = refl
+  by_table (Err k) = refl
 
   by_head : (h : Head) (good : Bool)
-      → cond good (read_open h (suc n) xs) (refused n 1) ≡ closed_as (cond good (Opened h) (Refused 1)) n rest xs
+      → cond good (read_open h (suc n) xs) (refused n OutsideBounds)
+      ≡ closed_as (cond good (Ok (Some h)) (Err (Refused OutsideBounds))) n rest xs
   unfolding closed_as
   by_head h true = refl
   by_head h false = refl
 
-  by_opening : (o : Opening) (l : Loaded) → with_opening n o l xs ≡ closed_as (opening_step o l) n rest xs
+  by_opening : (o : Opening) (l : Result ℕ Refusal) → with_opening n o l xs ≡ closed_as (opening_step o l) n rest xs
   unfolding with_opening opening_step head_step closed_as
-  by_opening o (loaded.Limit w) = by_head (head_with o w) (head_ok (head_with o w))
-  by_opening o (loaded.Refused k) = refl
+  by_opening o (Ok w) = by_head (head_with o w) (head_ok (head_with o w))
+  by_opening o (Err k) = refl
 
 by_step : (t : List ℕ) (n : ℕ) (x : Item) (xs : List Item)
     → read_closed t n (x ∷ xs) ≡ closed_as (step_of t x) n (read_closed (table_after t x) (suc n) xs) xs
@@ -132,7 +141,7 @@ none_left bytes at l m = let e : at ≡ length bytes = omega arith in rw e (drop
 
 -- ---- Up to the opening
 
-pub step_passed : (t : List ℕ) → On ≡ step_of t passed
+pub step_passed : (t : List ℕ) → Ok None ≡ step_of t passed
 unfolding step_of
 step_passed [] = refl
 step_passed (w ∷ ws) = refl
@@ -142,23 +151,34 @@ unfolding step_of
 step_opening [] o = refl
 step_opening (w ∷ ws) o = refl
 
-pub step_call : (t : List ℕ) (c : Call) → NotACall ≡ step_of t (call c)
+pub step_call : (t : List ℕ) (c : Call) → Err NotACall ≡ step_of t (call c)
 unfolding step_of
 step_call [] c = refl
 step_call (w ∷ ws) c = refl
 
-pub step_neither : (t : List ℕ) → NotACall ≡ step_of t neither
+pub step_neither : (t : List ℕ) → Err NotACall ≡ step_of t neither
 unfolding step_of
 step_neither [] = refl
 step_neither (w ∷ ws) = refl
 
+pub ruleset step_cases = (step_passed, step_opening, step_call, step_neither)
+
+-- no other line changes the table
+pub kept : (t : List ℕ) (l : LogLine) (limits : Limits) → (l ≡ line.Table → ⊥) → t ≡ table_after t (item_in l limits)
+unfolding table_after item_in
+kept t line.Passed limits n = refl
+kept t line.Table limits n = absurd (n refl)
+kept t (line.Open o) limits n = refl
+kept t (line.Fill c) limits n = refl
+kept t line.NoCall limits n = refl
+
 -- a table of count limits, in 24 places
 module _ (count : ℕ) (values : List ℕ) (room : length values ≡ 24) where
-  pub step_second : (u : List ℕ) → (count ≡ 0 → ⊥) → NotACall ≡ step_of (take count values) (table u)
+  pub step_second : (u : List ℕ) → (count ≡ 0 → ⊥) → Err NotACall ≡ step_of (take count values) (table u)
   unfolding step_of
   step_second u n = go count values room n
     where
-      go : (k : ℕ) (vs : List ℕ) → length vs ≡ 24 → (k ≡ 0 → ⊥) → NotACall ≡ step_of (take k vs) (table u)
+      go : (k : ℕ) (vs : List ℕ) → length vs ≡ 24 → (k ≡ 0 → ⊥) → Err NotACall ≡ step_of (take k vs) (table u)
       go zero vs l m = absurd (m refl)
       go (suc k) [] l m = absurd (omega arith)
       go (suc k) (w ∷ ws) l m = refl
@@ -173,7 +193,7 @@ module _ (count : ℕ) (values : List ℕ) (room : length values ≡ 24) where
       go (suc k) (w ∷ ws) l m = refl
 
 -- the first table, that loads or is refused
-pub step_first : (count : ℕ) (values u : List ℕ) → count ≡ 0 → (l : Loaded) → load_answer u 1 ≡ l
+pub step_first : (count : ℕ) (values u : List ℕ) → count ≡ 0 → (l : Result ℕ Refusal) → load_answer u 1 ≡ l
     → table_step l ≡ step_of (take count values) (table u)
 unfolding step_of
 step_first count values u e l f = rw (e, f)
@@ -183,7 +203,7 @@ unfolding or_built_in
 built_in count values e = rw e
 
 -- no call stands before the opening
-not_counted : (t : List ℕ) (x : Item) → (step_of t x ≡ NotACall → ⊥) → 0 ≡ count_of x
+not_counted : (t : List ℕ) (x : Item) → (step_of t x ≡ Err NotACall → ⊥) → 0 ≡ count_of x
 unfolding count_of
 not_counted t passed n = refl
 not_counted t (table u) n = refl
@@ -201,7 +221,14 @@ unfolding read_log
 leading_first bytes = record { reached = reached_first bytes; read = refl }
 
 module _ {bytes t : List ℕ} {at n : ℕ} (w : Leading bytes t at n) where
-  module _ {r : Cut} (cut : LineAt bytes at r) (x : Item) (is : x ≡ item_of (take (r.end - at) (drop at bytes))) where
+  module _ {r : Cut} (cut : LineAt bytes at r) (entry : Entry) (found : entry ≡ entry_of (take (r.end - at) (drop at bytes))) where
+    abbrev x : Item
+    x = item_in entry.line entry.limits
+
+    is : x ≡ item_of (take (r.end - at) (drop at bytes))
+    unfolding item_of
+    is = ap (λ (e : Entry). item_in e.line e.limits) found
+
     abbrev Rest : Step → Reading
     Rest s = closed_as s (suc n) (read_closed (table_after t x) (suc (suc n)) (items (drop r.next bytes))) (items (drop r.next bytes))
 
@@ -209,69 +236,75 @@ module _ {bytes t : List ℕ} {at n : ℕ} (w : Leading bytes t at n) where
     by s e =
         rw e (w.read ∙ ap (read_closed t (suc n)) ((item_at cut).first ∙ rw (← is)) ∙ by_step t (suc n) x (items (drop r.next bytes)))
 
-    further : (s : Step) → s ≡ step_of t x → (s ≡ NotACall → ⊥) → Reached bytes r.next (n + 1) 0
-    further s e other = reached_next w.reached (item_at cut) 0 (not_counted t x (λ f. other (e ∙ f)) ∙ ap count_of is)
+    further : (o : Option Head) → Ok o ≡ step_of t x → Reached bytes r.next (n + 1) 0
+    further o e =
+        reached_next w.reached (item_at cut) 0
+        (not_counted t x (λ f. let z : ◌≡◌ {A = ℕ} 0 1 = cc in omega arith) ∙ ap count_of is)
 
-    pub leading_next : (s : Step) → s ≡ step_of t x → goes_on s ≡ true → Leading bytes (table_after t x) r.next (n + 1)
+    pub leading_next : Ok None ≡ step_of t x → Leading bytes (table_after t x) r.next (n + 1)
     unfolding closed_as
-    leading_next On e g = record { reached = further On e (λ f. let z : ◌≡◌ {A = ℕ} 0 1 = cc in omega arith); read = rw add-one (by On e) }
-    leading_next (Opened h) e g = absurd (false≢true g)
-    leading_next NotACall e g = absurd (false≢true g)
-    leading_next (Refused k) e g = absurd (false≢true g)
+    leading_next e = record { reached = further None e; read = rw add-one (by (Ok None) e) }
 
-    pub leading_ends : (s : Step) → s ≡ step_of t x → goes_on s ≡ false → OpeningMeant bytes (opening_at s r.next (n + 1))
-    unfolding closed_as opening_at checked checked_of
-    leading_ends On e g = absurd (true≢false g)
-    leading_ends (Opened h) e g =
-        (further (Opened h) e (λ f. let z : ◌≡◌ {A = ℕ} 0 1 = cc in omega arith), rw add-one (by (Opened h) e))
-    leading_ends NotACall e g = rw (by NotACall e, add-one)
-    leading_ends (Refused k) e g = rw (by (Refused k) e, add-one)
+    pub leading_opened : (h : Head) → Ok (Some h) ≡ step_of t x → OpeningMeant bytes (Ok (record { head = h; at = r.next; lines = n + 1 }))
+    unfolding closed_as
+    leading_opened h e = (further (Some h) e, rw add-one (by (Ok (Some h)) e))
 
-  pub leading_none : length bytes ≤ at → coded.NoOpening ≡ checked bytes
+    pub leading_wrong : (wrong : Wrong) → Err wrong ≡ step_of t x → OpeningMeant bytes (Err (in_line wrong (n + 1)))
+    unfolding closed_as checked checked_of
+    leading_wrong NotACall e = rw (by (Err NotACall) e, add-one)
+    leading_wrong (Refused k) e = rw (by (Err (Refused k)) e, add-one)
+
+  pub leading_none : length bytes ≤ at → OpeningMeant bytes (Err no_log.NoOpening)
   unfolding read_closed items lines checked checked_of
   leading_none over = rw (w.read, none_left bytes at w.reached.inside over)
 
 -- ---- After the opening
 
-open_goes_on : (h : Head) (n : ℕ) (xs : List Item) (l : LogLine) (limits : Limits) → is_outside l ≡ false
+none_some : {k : ℕ} → ◌≡◌ {A = Option ℕ} None (Some k) → ⊥
+none_some e = let z : ◌≡◌ {A = ℕ} 0 1 = cc in omega arith
+
+some_same : {j k : ℕ} → ◌≡◌ {A = Option ℕ} (Some j) (Some k) → j ≡ k
+some_same e = cc
+
+open_goes_on : (h : Head) (n : ℕ) (xs : List Item) (l : LogLine) (limits : Limits) (k : ℕ) → calls_at l ≡ Some k
     → read_open h n (item_in l limits ∷ xs) ≡ read_open h (suc n) xs
 unfolding read_open item_in
-open_goes_on h n xs line.Passed limits e = refl
-open_goes_on h n xs line.Table limits e = absurd (true≢false e)
-open_goes_on h n xs (line.Open o) limits e = absurd (true≢false e)
-open_goes_on h n xs (line.Fill c) limits e = refl
-open_goes_on h n xs line.NoCall limits e = absurd (true≢false e)
+open_goes_on h n xs line.Passed limits k e = refl
+open_goes_on h n xs line.Table limits k e = absurd (none_some e)
+open_goes_on h n xs (line.Open o) limits k e = absurd (none_some e)
+open_goes_on h n xs (line.Fill c) limits k e = refl
+open_goes_on h n xs line.NoCall limits k e = absurd (none_some e)
 
-open_ends : (h : Head) (n : ℕ) (xs : List Item) (l : LogLine) (limits : Limits) → is_outside l ≡ true
+open_ends : (h : Head) (n : ℕ) (xs : List Item) (l : LogLine) (limits : Limits) → calls_at l ≡ None
     → read_open h n (item_in l limits ∷ xs) ≡ not_a_call n
 unfolding read_open item_in
-open_ends h n xs line.Passed limits e = absurd (false≢true e)
+open_ends h n xs line.Passed limits e = absurd (none_some (sym e))
 open_ends h n xs line.Table limits e = refl
 open_ends h n xs (line.Open o) limits e = refl
-open_ends h n xs (line.Fill c) limits e = absurd (false≢true e)
+open_ends h n xs (line.Fill c) limits e = absurd (none_some (sym e))
 open_ends h n xs line.NoCall limits e = refl
 
-count_line : (l : LogLine) (limits : Limits) → calls_at l ≡ count_of (item_in l limits)
+count_line : (l : LogLine) (limits : Limits) (k : ℕ) → calls_at l ≡ Some k → k ≡ count_of (item_in l limits)
 unfolding item_in count_of
-count_line line.Passed limits = refl
-count_line line.Table limits = refl
-count_line (line.Open o) limits = refl
-count_line (line.Fill c) limits = refl
-count_line line.NoCall limits = refl
+count_line line.Passed limits k e = cc
+count_line line.Table limits k e = absurd (none_some e)
+count_line (line.Open o) limits k e = absurd (none_some e)
+count_line (line.Fill c) limits k e = cc
+count_line line.NoCall limits k e = absurd (none_some e)
 
-pub calls_little : (l : LogLine) → calls_at l ≤ 1
-calls_little line.Passed = omega arith
-calls_little line.Table = omega arith
-calls_little (line.Open o) = omega arith
-calls_little (line.Fill c) = omega arith
-calls_little line.NoCall = omega arith
+pub calls_little : (l : LogLine) {k : ℕ} → calls_at l ≡ Some k → k ≤ 1
+calls_little line.Passed {k} e = let f : 0 ≡ k = some_same e in omega arith
+calls_little line.Table e = absurd (none_some e)
+calls_little (line.Open o) e = absurd (none_some e)
+calls_little (line.Fill c) {k} e = let f : 1 ≡ k = some_same e in omega arith
+calls_little line.NoCall e = absurd (none_some e)
 
 -- a delivery can stand there, and is one call
 pub passing_delivery : {bytes : List ℕ} {at next : ℕ} → DeliveryTo bytes at next
-    → TestedAt bytes at (record { outside = false; calls = 1; next = next })
+    → TestedAt bytes at (Some (record { calls = 1; next = next }))
 passing_delivery {bytes} {at} d =
-    subst (λ next. TestedAt bytes at (record { outside = false; calls = 1; next = next })) d.ends
-    record { line = _; found = delivery_found bytes at d.delivery d.line; outside = refl; calls = refl }
+    subst (λ next. PassingAt bytes at (record { calls = 1; next = next })) d.ends
+    record { line = _; found = delivery_found bytes at d.delivery d.line; calls = refl }
 
 -- the lines from an opening up to a place are good
 pub record Following (bytes : List ℕ) (h : Head) (from before at n calls : ℕ) : Type 0 where
@@ -283,22 +316,24 @@ pub following_first : {bytes : List ℕ} {h : Head} {from before : ℕ} → Reac
 following_first reached = record { reached = reached; read = refl }
 
 module _ {bytes : List ℕ} {h : Head} {from before at n calls : ℕ} (w : Following bytes h from before at n calls) where
-  module _ {l : LogLine} {next : ℕ} (found : FoundAt bytes at l next) where
-    pub following_next : is_outside l ≡ false → (k : ℕ) → k ≡ calls_at l → Following bytes h from before next (n + 1) (calls + k)
-    following_next e k f = record {
-      reached = reached_next w.reached found.item k (f ∙ count_line l found.limits);
-      read = rw add-one (w.read ∙ rw found.item.first (open_goes_on h (suc n) (items (drop next bytes)) l found.limits e));
-    }
+  pub following_next : {r : TestedLine} → PassingAt bytes at r → Following bytes h from before r.next (n + 1) (calls + r.calls)
+  following_next {r} told =
+      let first = told.found.item.first in record {
+        reached = reached_next w.reached told.found.item r.calls (count_line told.line told.found.limits r.calls told.calls);
+        read = rw add-one
+            (w.read ∙ rw first (open_goes_on h (suc n) (items (drop r.next bytes)) told.line told.found.limits r.calls told.calls));
+      }
 
-    pub following_ends : is_outside l ≡ true → coded.NotACall (n + 1) ≡ checked_of bytes
-        (read_open h (suc before) (items (drop from bytes)))
-    unfolding checked_of
-    following_ends e =
-        let out : read_open h (suc before) (items (drop from bytes)) ≡ not_a_call (suc n) =
-        w.read ∙ rw found.item.first (open_ends h (suc n) (items (drop next bytes)) l found.limits e) in
-        rw (out, add-one)
+  pub following_ends : OutsideAt bytes at → Err (no_log.NotACall (n + 1)) ≡ checked_of bytes
+      (read_open h (suc before) (items (drop from bytes)))
+  unfolding checked_of
+  following_ends told =
+      let out : read_open h (suc before) (items (drop from bytes)) ≡ not_a_call (suc n) =
+      w.read ∙ rw told.found.item.first (open_ends h (suc n) (items (drop told.next bytes)) told.line told.found.limits told.outside) in
+      rw (out, add-one)
 
-  pub following_last : length bytes ≤ at → coded.Log h n calls ≡ checked_of bytes (read_open h (suc before) (items (drop from bytes)))
+  pub following_last : length bytes ≤ at
+      → Ok (record { head = h; lines = n; calls = calls }) ≡ checked_of bytes (read_open h (suc before) (items (drop from bytes)))
   unfolding read_open items lines calls_in checked_of
   following_last over =
       let none = none_left bytes at w.reached.inside over in

@@ -1,4 +1,5 @@
 -- The claim about two logs, from the claim about whole lists.
+use Rattle.base.specs.declared.Refusal.TheVariants.{Conflict}
 use mathlib.Core.Bool.{true}
 use mathlib.Core.List.Memᴰ
 use mathlib.Core.List.{List, [], ◌∷◌, Memᴰ}
@@ -42,14 +43,14 @@ same_codes h b kept (call c ∷ xs) e =
 same_codes h b kept (neither ∷ xs) e = ap (λ (l : List ℕ). 103 ∷ l) (same_codes h b kept xs e)
 
 -- a call that is refused with 10 has a line with 10
-conflict_told : (h : Head) (b : Book) (xs : List Item) → Memᴰ (refused 10) (answers h b (calls_in xs)) → Memᴰ 10 (codes h b xs)
+conflict_told : (h : Head) (b : Book) (xs : List Item) → Memᴰ (refused Conflict) (answers h b (calls_in xs)) → Memᴰ 10 (codes h b xs)
 unfolding calls_in answers codes item_code after_item
 conflict_told h b [] m = absurd (Memᴰ.not-nil m)
 conflict_told h b (passed ∷ xs) m = Memᴰ.tail (conflict_told h b xs m)
 conflict_told h b (table t ∷ xs) m = Memᴰ.tail (conflict_told h b xs m)
 conflict_told h b (opening o ∷ xs) m = Memᴰ.tail (conflict_told h b xs m)
 conflict_told h b (call c ∷ xs) m =
-    ⊎_elim (λ (e : refused 10 ≡ answer h b c). Memᴰ.head (ap answer_code e))
+    ⊎_elim (λ (e : refused Conflict ≡ answer h b c). Memᴰ.head (ap answer_code e))
     (λ rest. Memᴰ.tail (conflict_told h (after h b c) xs rest)) (Memᴰ.cases_cons m)
 conflict_told h b (neither ∷ xs) m = Memᴰ.tail (conflict_told h b xs m)
 

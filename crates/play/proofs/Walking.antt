@@ -1,37 +1,42 @@
 -- The walk over a log's lines: before each, what is still to come from the present lists completes what was told.
-use mathlib.Core.Bool.{true}
+use mathlib.Core.Bool.{Bool, true, false, cond}
 use mathlib.Core.List.{List, [], ◌∷◌, ◌++◌, append_assoc, append-nil}
 use mathlib.Core.Path.{◌≡◌, refl, sym, ap, ◌∙◌}
-use Prim.Native.Nat.{ℕ, ◌+◌, ◌≤◌, ◌<◌}
+use Prim.Native.Nat.{ℕ, zero, suc, ◌+◌, ◌≤◌, ◌<◌}
 use native.Mathlib.Numerals.{add-one}
 use native.Mathlib.Omega.{arith}
+use lib.Dec.{eqb}
 use lib.ListN.{length, take, drop, set, length-set}
 use lib.Seq.{take-suc-set, take-length}
 use Rattle.rules.specs.declared.Head.{Head}
-use Rattle.book.specs.Cells.{Book, slots_fit, days_fit, reads_fit, agreed_fits, cells_fit, counts_fit, book_fits}
+use Rattle.book.specs.Cells.{Book}
 use Rattle.book.specs.Filling.{after_all}
 use Rattle.text_log.specs.declared.limits.Limits.{Limits}
 use Rattle.text_log.specs.declared.line.LogLine.{LogLine}
-use Rattle.text_log.specs.Log.{lines, Item, item_in, items, calls_in}
+use Rattle.text_log.specs.Log.{with_byte, lines, Item, item_in, items, calls_in}
 use Rattle.text_log.specs.Log.Item.{passed, table, opening, call, neither}
 use Rattle.text_log.specs.Inner.Lines.{FoundAt}
 use Rattle.play.specs.Playing.{log_calls, item_code, after_item, codes}
-use Rattle.play.proofs.Stepping.{lines_first, none_left}
+use Rattle.play.proofs.Stepping.{lines_first}
 
--- lists as long as those that fit do
-pub still_fits : (h : Head) (b first : Book) → length b.cells.slots.values ≡ length first.cells.slots.values
-    → length b.cells.slots.versions ≡ length first.cells.slots.versions
-    → length b.cells.slots.statuses ≡ length first.cells.slots.statuses
-    → length b.cells.holidays ≡ length first.cells.holidays
-    → length b.cells.readings ≡ length first.cells.readings
-    → length b.cells.read_versions ≡ length first.cells.read_versions
-    → length b.cells.agreed.values ≡ length first.cells.agreed.values
-    → length b.cells.agreed.versions ≡ length first.cells.agreed.versions
-    → length b.counts ≡ length first.counts → length b.cells.widths ≡ length first.cells.widths
-    → book_fits h first ≡ true → book_fits h b ≡ true
-unfolding book_fits cells_fit slots_fit days_fit reads_fit agreed_fits counts_fit
-still_fits h b first values versions statuses holidays readings read_versions agreed agreed-versions counts widths fits =
-    rw (values, versions, statuses, holidays, readings, read_versions, agreed, agreed-versions, counts, widths) fits
+-- lines are left only where bytes are, and none only where none are
+some_left : (at : ℕ) (bytes : List ℕ) → 0 < length (lines (drop at bytes)) → at < length bytes
+unfolding lines
+some_left zero [] some = absurd (omega arith)
+some_left (suc at) [] some = absurd (omega arith)
+some_left zero (b ∷ bs) some = omega arith
+some_left (suc at) (b ∷ bs) some = let inside : at < length bs = some_left at bs some in omega arith
+
+one_line : (b : ℕ) (ends : Bool) (rest : List (List ℕ)) → length (cond ends ([] ∷ rest) (with_byte b rest)) ≡ 0 → ⊥
+unfolding with_byte
+one_line b true rest e = omega arith
+one_line b false [] e = omega arith
+one_line b false (line ∷ rest) e = omega arith
+
+no_lines : (bytes : List ℕ) → length (lines bytes) ≡ 0 → bytes ≡ []
+unfolding lines
+no_lines [] e = refl
+no_lines (b ∷ bs) e = absurd (one_line b (eqb b 10) (lines bs) e)
 
 pub record Walked (h : Head) (bytes : List ℕ) (first : Book) (answers : List ℕ) (b : Book) (at i : ℕ) : Type 0 where
   pub inside : at ≤ length bytes
@@ -54,8 +59,12 @@ module _ (h : Head) (bytes : List ℕ) (first : Book) where
   walk_first answers e = record { inside = omega arith; line_count = omega arith; told = refl; left = refl }
 
   module _ {answers : List ℕ} {b : Book} {at i : ℕ} (w : Walked h bytes first answers b at i) where
+    -- a byte of answers is left only where a line is
+    pub walk_line : i < length answers → at < length bytes
+    walk_line more = some_left at bytes (omega (arith, w.line_count))
+
     module _ {l : LogLine} {next : ℕ} (found : FoundAt bytes at l next) where
-      pub walk_room : i < length answers
+      walk_room : i < length answers
       walk_room = omega (arith, w.line_count, lines_first found.item)
 
       pub walk_next : (code : ℕ) (b' : Book)
@@ -77,10 +86,10 @@ module _ (h : Head) (bytes : List ℕ) (first : Book) where
             left = rw lists (sym (call_first h b x rest) ∙ ap (λ (xs : List Item). after_all h b (calls_in xs)) (sym cut) ∙ w.left);
           }
 
-    pub walk_last : length bytes ≤ at → (answers ≡ codes h first (items bytes)) × (b ≡ after_all h first (log_calls bytes))
+    pub walk_last : length answers ≤ i → (answers ≡ codes h first (items bytes)) × (b ≡ after_all h first (log_calls bytes))
     unfolding items lines codes calls_in after_all
     walk_last over =
-        let none = none_left bytes at w.inside over in
+        let none = no_lines (drop at bytes) (omega (arith, w.line_count)) in
         let e : length answers ≡ i = sym w.line_count ∙ rw none (omega arith) in
         let all : take i answers ++ [] ≡ answers = append-nil (take i answers) ∙ rw (← e) (take-length answers) in
         (sym all ∙ (rw none at w.told), rw none at w.left)

@@ -1,13 +1,13 @@
 -- The claim about two logs: what is proved of every two byte strings that are logs, whatever the lists held before (01, demand 3).
-use Rattle.std.specs.Prelude.{true, cond, ◌↔◌, ◌≡◌, ℕ, ltb, length, drop}
+use Rattle.std.specs.Prelude.{true, cond, ◌↔◌, ◌≡◌, ℕ, ltb, length, drop, Ok, Err}
 use mathlib.Core.List.{List, [], ◌∷◌, ◌++◌, Memᴰ}
+use Rattle.base.specs.declared.Refusal.TheVariants.{ShortBuffer}
 use Rattle.rules.specs.declared.Head.{Head}
 use Rattle.book.specs.Answers.{answer_code}
 use Rattle.book.specs.Arguments.{Call}
 use Rattle.book.specs.Cells.{Book}
 use Rattle.book.specs.Opening.{opened}
 use Rattle.book.specs.Plain.{plain_answer, keep}
-use Rattle.publishing.specs.declared.Published.TheVariants.{Length, Refused}
 use Rattle.publishing.specs.Publishing.{publish_answer, publish_after}
 use Rattle.claim.specs.Claim.{plain_of, plain_file, SameOutcomes, AcceptedCall, SameCalls}
 use Rattle.text_log.specs.Log.{Item, items, read_log}
@@ -34,7 +34,8 @@ pub record LogClaim (h g : Head) (x y : List ℕ) (b c : Book) (p q : List ℕ) 
   pub answers_plain : answers_after x b p ≡ plain_codes h [] (items x)
   -- 2. publishing what `play` left refuses only for a short buffer, and writes 01's file of the plain book's outcomes
   pub publish_answers : (out : List ℕ)
-      → publish_answer h (play_after x b p) out ≡ cond (ltb (length out) (length (file_by h x))) (Refused 7) (Length (length (file_by h x)))
+      → publish_answer h (play_after x b p) out
+      ≡ cond (ltb (length out) (length (file_by h x))) (Err ShortBuffer) (Ok (length (file_by h x)))
   pub publish_writes : (out : List ℕ)
       → publish_after h (play_after x b p) out
       ≡ cond (ltb (length out) (length (file_by h x))) out (file_by h x ++ drop (length (file_by h x)) out)

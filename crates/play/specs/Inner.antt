@@ -1,3 +1,2 @@
 -- What the contracts of inner functions say.
 pub mod Steps
-pub mod Filling

@@ -1,5 +1,5 @@
 -- What checking and playing a log answer and leave, from what its bytes are.
-use Rattle.std.specs.Prelude.{Bool, cond, ◌&&◌, List, [], ◌∷◌, ℕ, eqb, length}
+use Rattle.std.specs.Prelude.{Bool, cond, ◌&&◌, List, [], ◌∷◌, ℕ, eqb, length, Result, Ok, Err}
 use Rattle.rules.specs.declared.Head.{Head}
 use Rattle.book.specs.Answers.{answer_code}
 use Rattle.book.specs.Arguments.{Call}
@@ -9,23 +9,24 @@ use Rattle.book.specs.Filling.{answer, after, after_all}
 use Rattle.text_log.specs.Log.{lines, Item, items, calls_in, Reading, read_log}
 use Rattle.text_log.specs.Log.Item.{passed, table, opening, call, neither}
 use Rattle.text_log.specs.Log.Reading.{log, no_opening, not_a_call, refused}
-use Rattle.play.specs.declared.Checked.{Checked}
-use Rattle.play.specs.declared.Checked.TheVariants as coded
-use Rattle.play.specs.declared.Played.{Played}
-use Rattle.play.specs.declared.Played.TheVariants.{AsChecked, Lengths}
+use Rattle.play.specs.declared.Log.{Log}
+use Rattle.play.specs.declared.NotALog.{NotALog}
+use Rattle.play.specs.declared.NotALog.TheVariants.{NoOpening, NotACall, Refused}
+use Rattle.play.specs.declared.Unplayed.{Unplayed}
+use Rattle.play.specs.declared.Unplayed.TheVariants.{NotALog as unplayed, Lengths}
 
 -- the filling calls of a log, in order
 abbrev pub log_calls : List ℕ → List Call
 log_calls bytes = calls_in (items bytes)
 
 -- a log: its head, how many lines it has, and how many filling calls
-unfoldable pub checked_of : List ℕ → Reading → Checked
-checked_of bytes (log h) = coded.Log h (length (lines bytes)) (length (log_calls bytes))
-checked_of bytes no_opening = coded.NoOpening
-checked_of bytes (not_a_call n) = coded.NotACall n
-checked_of bytes (refused n k) = coded.Refused n k
+unfoldable pub checked_of : List ℕ → Reading → Result Log NotALog
+checked_of bytes (log h) = Ok (record { head = h; lines = length (lines bytes); calls = length (log_calls bytes) })
+checked_of bytes no_opening = Err NoOpening
+checked_of bytes (not_a_call n) = Err (NotACall n)
+checked_of bytes (refused n k) = Err (Refused n k)
 
-unfoldable pub checked : List ℕ → Checked
+unfoldable pub checked : List ℕ → Result Log NotALog
 checked bytes = checked_of bytes (read_log bytes)
 
 -- the ten lists have the lengths of the head, and there is a byte of answers for each line
@@ -53,14 +54,19 @@ unfoldable pub codes : Head → Book → List Item → List ℕ
 codes h b [] = []
 codes h b (x ∷ xs) = item_code h b x ∷ codes h (after_item h b x) xs
 
--- playing answers as checking does, and 2 for lengths that are wrong
-unfoldable pub played_as : List ℕ → Book → List ℕ → Reading → Played
-played_as bytes b answers (log h) = cond (lengths_ok bytes h b answers) (AsChecked (checked bytes)) Lengths
-played_as bytes b answers no_opening = AsChecked (checked bytes)
-played_as bytes b answers (not_a_call n) = AsChecked (checked bytes)
-played_as bytes b answers (refused n k) = AsChecked (checked bytes)
+-- what checking answers, as playing does
+abbrev pub as_checked : Result Log NotALog → Result Log Unplayed
+as_checked (Ok l) = Ok l
+as_checked (Err why) = Err (unplayed why)
 
-unfoldable pub play_answer : List ℕ → Book → List ℕ → Played
+-- playing answers as checking does, and 2 for lengths that are wrong
+unfoldable pub played_as : List ℕ → Book → List ℕ → Reading → Result Log Unplayed
+played_as bytes b answers (log h) = cond (lengths_ok bytes h b answers) (as_checked (checked bytes)) (Err Lengths)
+played_as bytes b answers no_opening = as_checked (checked bytes)
+played_as bytes b answers (not_a_call n) = as_checked (checked bytes)
+played_as bytes b answers (refused n k) = as_checked (checked bytes)
+
+unfoldable pub play_answer : List ℕ → Book → List ℕ → Result Log Unplayed
 play_answer bytes b answers = played_as bytes b answers (read_log bytes)
 
 -- the lists after the calls, in order after opening; a refusal leaves them

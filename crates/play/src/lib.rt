@@ -5,107 +5,68 @@ mod filling;
 mod reading;
 
 ghost use Rattle.std.specs.Prelude.{◌≡◌};
-ghost use Rattle.book.specs.Lent.{lent_book};
+ghost use Rattle.book.specs.Written.{written_book, SameBook};
+ghost use Rattle.play.specs.declared.Unplayed.TheVariants.{NotALog as not_a_log};
 ghost use Rattle.play.specs.Playing.{checked, play_answer, play_after, answers_after};
 
-use crate::reading::OpeningFound;
+use base::Refusal;
+use book::lent::BookMut;
 use rules::Head;
 
-// What the bytes of a log are.
+// What the bytes of a log are: its head, how many lines it has, and how many filling calls.
 #[derive(Clone, Copy)]
-pub enum Checked {
-    // its head, how many lines it has, and how many filling calls
-    Log(Head, usize, usize),
-    NoOpening,
-    // the number of the line, from 1
-    NotACall(usize),
-    // the number of the line, and that of the refusal
-    Refused(usize, u8),
+pub struct Log {
+    pub head: Head,
+    pub lines: usize,
+    pub calls: usize,
 }
 
-// What playing a log answers.
+// Why bytes are no log, with the number of the line, from 1.
 #[derive(Clone, Copy)]
-pub enum Played {
-    AsChecked(Checked),
+pub enum NotALog {
+    NoOpening,
+    NotACall(usize),
+    Refused(usize, Refusal),
+}
+
+// Why a log is not played.
+#[derive(Clone, Copy)]
+pub enum Unplayed {
+    NotALog(NotALog),
     // 2: a list of the wrong length, or not a byte for each line
     Lengths,
 }
 
-pub fn check(log: &[u8]) -> Checked
-    ensures { result ≡ checked log.now }
-{
-    let opening = reading::find_opening(log);
-    match opening {
-        OpeningFound::Opened(head, at, lines) => reading::following(log, head, at, lines),
-        OpeningFound::Without(found) => found,
+impl From<NotALog> for Unplayed {
+    ghost from_gives = { λ why unplayed. unplayed ≡ not_a_log why };
+
+    fn from(why: NotALog) -> Unplayed {
+        Unplayed::NotALog(why)
     }
 }
 
-pub fn play(
-    log: &[u8],
-    values: &mut [u32],
-    versions: &mut [u32],
-    statuses: &mut [u8],
-    holidays: &mut [u8],
-    readings: &mut [u32],
-    read_versions: &mut [u32],
-    agreed: &mut [u32],
-    agreed_versions: &mut [u32],
-    counts: &mut [u16],
-    widths: &mut [u16],
-    answers: &mut [u8],
-) -> Played
-    ensures { let bytes = log.now in
-        let book =
-        lent_book values.old versions.old statuses.old holidays.old readings.old read_versions.old
-        agreed.old agreed_versions.old counts.old widths.old in
-        (result ≡ play_answer bytes book answers.old)
-        × (lent_book values.new versions.new statuses.new holidays.new readings.new read_versions.new
-        agreed.new agreed_versions.new counts.new widths.new
-        ≡ play_after bytes book answers.old)
-        × (answers.new ≡ answers_after bytes book answers.old) }
+#[tactic(auto, unfolding(crate::specs::Playing::checked))]
+pub fn check(log: &[u8]) -> Result<Log, NotALog>
+    ensures { result ≡ checked log.now }
 {
-    let found = check(log);
-    match found {
-        Checked::Log(head, lines, _) => {
-            if answers.len() != lines {
-                return Played::Lengths;
-            }
-            let opened = book::open(
-                head,
-                values,
-                versions,
-                statuses,
-                holidays,
-                readings,
-                read_versions,
-                agreed,
-                agreed_versions,
-                counts,
-                widths,
-            );
-            if !filling::is_done(opened) {
-                return Played::Lengths;
-            }
-            filling::fill_all(
-                log,
-                head,
-                values,
-                versions,
-                statuses,
-                holidays,
-                readings,
-                read_versions,
-                agreed,
-                agreed_versions,
-                counts,
-                widths,
-                answers,
-            );
-            Played::AsChecked(found)
-        }
-        Checked::NoOpening => Played::AsChecked(found),
-        Checked::NotACall(_) => Played::AsChecked(found),
-        Checked::Refused(_, _) => Played::AsChecked(found),
+    let opening = reading::find_opening(log)?;
+    reading::following(log, opening)
+}
+
+pub fn play(log: &[u8], book: &mut BookMut<'_>, answers: &mut [u8]) -> Result<Log, Unplayed>
+    ensures told { let bytes = log.now in
+        let before = written_book book.old in
+        (result ≡ play_answer bytes before answers.old)
+        × (written_book book.new ≡ play_after bytes before answers.old)
+        × (answers.new ≡ answers_after bytes before answers.old) }
+    ensures same { SameBook book.old book.new }
+{
+    let found = check(log)?;
+    if answers.len() != found.lines {
+        return Err(Unplayed::Lengths);
     }
+    let head = found.head;
+    book::open(head, book).map_err(|_| Unplayed::Lengths)?;
+    filling::fill_all(log, head, book, answers);
+    Ok(found)
 }

@@ -1,4 +1,6 @@
 -- Every file that publishing writes is read back as what the book publishes.
+use Rattle.base.specs.declared.Refusal.{Refusal}
+use Rattle.std.specs.Prelude.{Result, Ok, Err}
 use mathlib.Core.Bool.{true}
 use mathlib.Core.List.{List}
 use mathlib.Core.Path.{◌≡◌, ap, ◌∙◌}
@@ -26,8 +28,6 @@ use Rattle.file.specs.Layout.{file_of}
 use Rattle.file.specs.Contents.{span}
 use Rattle.file.proofs.Content.{length_file}
 use Rattle.file.proofs.Canonical.{content_back}
-use Rattle.publishing.specs.declared.Published.{Published}
-use Rattle.publishing.specs.declared.Published.TheVariants.{Length, Refused}
 use Rattle.publishing.specs.Publishing.{published, file_length, publish_rules, publish_answer, bytes_after, publish_after}
 use Rattle.publishing.specs.Claim.{SumsToR, EveryFile}
 use Rattle.publishing.specs.Inner.Publishing.{Sound}
@@ -39,12 +39,12 @@ unfolding book_ok
 sound_book h b good fit ok =
     record { head = good; fit = (fits_of h b fit).0; cells = (and_parts (cells_ok h b.cells) _ ok).0 }
 
-module _ (h : Head) (b : Book) (out : List ℕ) (n : ℕ) (e : publish_answer h b out ≡ Length n) where
+module _ (h : Head) (b : Book) (out : List ℕ) (n : ℕ) (e : publish_answer h b out ≡ Ok n) where
   answered : (head_ok h ≡ true) × (book_fits h b ≡ true) × (book_ok h b ≡ true) × (file_length h b.cells ≡ n)
   unfolding publish_answer
   answered =
       let (same, kept) =
-      unless_answered Refused (λ a. a ≡ Length n) (λ k r. let z : ◌≡◌ {A = ℕ} 0 1 = cc in omega arith) (publish_rules h b out) _ e in
+      unless_answered Err (λ a. a ≡ Ok n) (λ k r. let z : ◌≡◌ {A = ℕ} 0 1 = cc in omega arith) (publish_rules h b out) _ e in
       (not-false _ (kept 0), not-false _ (kept 1), not-false _ (kept 2), cc)
 
   sound : Sound h b.cells
@@ -57,7 +57,7 @@ module _ (h : Head) (b : Book) (out : List ℕ) (n : ℕ) (e : publish_answer h 
   file_left : take n (publish_after h b out) ≡ file_of (published h b.cells)
   unfolding publish_after
   file_left =
-      ap (λ (p : Published). take n (bytes_after p (published h b.cells) out)) e
+      ap (λ (p : Result ℕ Refusal). take n (bytes_after p (published h b.cells) out)) e
       ∙ take_at (file_of (published h b.cells)) (drop n out) n file_long
 
 -- a scaled span of what a book publishes

@@ -1,4 +1,5 @@
 -- What a book publishes is well formed: its file is accepted, and two books publish one file exactly when they publish one content.
+use Rattle.std.specs.Prelude.{Ok}
 use mathlib.Core.Path.{◌≡◌, refl, sym, ap, ◌∙◌}
 use mathlib.Core.Bool.{true, false≢true}
 use mathlib.Core.Logic.{◌↔◌}
@@ -14,7 +15,6 @@ use Rattle.rules.specs.Opening.{Cells, day_tests, head_tests, head_ok, first_day
 use Rattle.rules.specs.Spans.{outcome_at, no_outcome, outcomes}
 use Rattle.rules.proofs.Bounds.{bounded}
 use Rattle.rules.proofs.Outcomes.{outcome_fits}
-use Rattle.file.specs.declared.Verdict.TheVariants.{Accepted}
 use Rattle.file.specs.Layout.{figures_of, tables_of, file_of}
 use Rattle.file.specs.Reader.{head_field_tests, layout_ok, layout_fits, read_file, tables_part}
 use Rattle.file.specs.Contents.{WellFormed, slot, slot_record, records_of}
@@ -70,7 +70,7 @@ module _ (h : Head) (b : Cells) where
     published_fits = fitting (published h b) well_formed
 
     -- the reader accepts it, with its figures and its tables
-    pub published_accepted : (read_file (file_of (published h b)) ≡ Accepted (figures_of (published h b)))
+    pub published_accepted : (read_file (file_of (published h b)) ≡ Ok (figures_of (published h b)))
         × (tables_part (file_of (published h b)) ≡ tables_of (published h b))
     published_accepted = (accepted (published h b) well_formed, tables_back (published h b) well_formed)
 

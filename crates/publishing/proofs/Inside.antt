@@ -14,7 +14,8 @@ use Rattle.rules.specs.declared.Head.{Head}
 use Rattle.rules.specs.declared.Outcome.{Outcome}
 use Rattle.rules.specs.declared.linear.StraightLine.{StraightLine}
 use Rattle.rules.specs.declared.stretch.Stretch.{Stretch}
-use Rattle.rules.specs.declared.stretch.Begins.{Begins}
+use Rattle.std.specs.Prelude.{Option}
+use Rattle.rules.specs.declared.Span.{Span}
 use Rattle.rules.specs.Opening.{Cells, slot_count}
 use Rattle.rules.specs.Tests.{good_at}
 use Rattle.rules.specs.Filling.{filled_at, shape_at}
@@ -95,7 +96,7 @@ module _ (h : Head) (w : Bounded h) (b : Cells) (d₀ : List ℕ) (from until : 
             let ends : i ≡ (carried_at h b i).until
             → ⊥ = λ e. omega (arith, e ∙ ap (λ (r : Stretch). r.until) (sym (held.carried l)) ∙ held.end) in
             let none = (carried_on h w b i (omega arith) ends).0 in
-            begun_next h b i ∙ ap (λ (g : Begins). begun_before h b i ++ list_of g) none ∙ append-nil _ ∙ held.begun l
+            begun_next h b i ∙ ap (λ (g : Option Span). begun_before h b i ++ list_of g) none ∙ append-nil _ ∙ held.begun l
 
     on_stretch : i + 1 < until → fit_next slot x here ≡ stretch_at h b (i + 1)
     on_stretch l =
@@ -219,7 +220,7 @@ module _ (h : Head) (b : Cells) (d₀ : List ℕ) (from until : ℕ) (o : Bool) 
 
 -- from a stretch to the next
 module _ (h : Head) (w : Bounded h) (b : Cells) (i : ℕ) (inside : i < slot_count h) (n : ℕ) (known : n ≡ length (begun_before h b i))
-    (g : Begins)
+    (g : Option Span)
     (begins : g ≡ begins_at h b i) where
   -- with the span that begins at slot i
   pub spans_begun : n + length (list_of g) ≡ length (begun_before h b (i + 1))

@@ -1,4 +1,7 @@
 -- What publishing knows once it refuses nothing.
+use Rattle.base.specs.declared.Refusal.TheVariants.{OutsideBounds, WrongLength, ShortBuffer, ImpossibleCell}
+use Rattle.base.specs.declared.Refusal.{Refusal}
+use Rattle.std.specs.Prelude.{Result, Ok, Err}
 use mathlib.Core.Bool.{Bool, true, false, not, ◌||◌, false≢true}
 use mathlib.Core.Logic.{⊎_elim}
 use mathlib.Core.List.{List, [], ◌∷◌, ◌++◌}
@@ -26,8 +29,6 @@ use Rattle.book.specs.Cells.{Book, book_fits}
 use Rattle.book.specs.Cells.{book_ok}
 use Rattle.book.proofs.Fits.{lengths_of}
 use Rattle.publishing.specs.Publishing.{published, file_length, publish_answer, publish_after}
-use Rattle.publishing.specs.declared.Published.{Published}
-use Rattle.publishing.specs.declared.Published.TheVariants.{Length, Refused}
 use Rattle.file.specs.Layout.{file_of}
 use Rattle.publishing.specs.Inner.Publishing.{Sound, Put, Left}
 
@@ -122,26 +123,26 @@ module _ (h : Head) (b : Cells) (s : Sound h b) where
 
 -- each case of the answer, and of the buffer
 module _ (h : Head) (b : Book) (d : List ℕ) where
-  pub refused_1 : head_ok h ≡ false → Left h b d (Refused 1) d
+  pub refused_1 : head_ok h ≡ false → Left h b d (Err OutsideBounds) d
   unfolding publish_after publish_answer
   refused_1 p = rw p (refl, refl)
 
   module _ (good : head_ok h ≡ true) where
-    pub refused_2 : book_fits h b ≡ false → Left h b d (Refused 2) d
+    pub refused_2 : book_fits h b ≡ false → Left h b d (Err WrongLength) d
     unfolding publish_after publish_answer
     refused_2 p = rw (good, p) (refl, refl)
 
-    pub refused_11 : book_fits h b ≡ true → book_ok h b ≡ false → Left h b d (Refused 11) d
+    pub refused_11 : book_fits h b ≡ true → book_ok h b ≡ false → Left h b d (Err ImpossibleCell) d
     unfolding publish_after publish_answer
     refused_11 fit p = rw (good, fit, p) (refl, refl)
 
-    pub put_left : book_fits h b ≡ true → book_ok h b ≡ true → (p : Published) (e : List ℕ) → Put h b.cells d p e → Left h b d p e
+    pub put_left : book_fits h b ≡ true → book_ok h b ≡ true → (p : Result ℕ Refusal) (e : List ℕ) → Put h b.cells d p e → Left h b d p e
     unfolding publish_after publish_answer
     put_left fit ok p e put = rw (good, fit, ok) put
 
 module _ (h : Head) (b : Cells) (d : List ℕ) (n : ℕ) (found : n ≡ file_length h b) where
-  pub refused_7 : length d < n → Put h b d (Refused 7) d
+  pub refused_7 : length d < n → Put h b d (Err ShortBuffer) d
   refused_7 p = rw (lt-ltb (length d) (file_length h b) (rw found at p)) (refl, refl)
 
-  pub long_enough : n ≤ length d → (e : List ℕ) → e ≡ file_of (published h b) ++ drop (file_length h b) d → Put h b d (Length n) e
+  pub long_enough : n ≤ length d → (e : List ℕ) → e ≡ file_of (published h b) ++ drop (file_length h b) d → Put h b d (Ok n) e
   long_enough p e q = rw (le-ltb (length d) (file_length h b) (rw found at p), found) (refl, q)

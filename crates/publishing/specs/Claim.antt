@@ -1,16 +1,14 @@
 -- Every file (01, demand 2): what is proved of what `publish` leaves wherever it answers a length.
-use Rattle.std.specs.Prelude.{List, ◌≡◌, ℕ, ◌≤◌, ◌<◌, length, take}
+use Rattle.std.specs.Prelude.{List, ◌≡◌, ℕ, ◌≤◌, ◌<◌, length, take, Ok}
 use Rattle.base.specs.Lists.{sum}
 use Rattle.rules.specs.declared.Head.{Head}
 use Rattle.rules.specs.declared.Span.{Span}
 use Rattle.rules.specs.Opening.{Cells, slot_count}
 use Rattle.rules.specs.Spans.{start, slots_in, R, span_of, outcome_at}
 use Rattle.book.specs.Cells.{Book}
-use Rattle.file.specs.declared.Verdict.TheVariants.{Accepted}
 use Rattle.file.specs.Layout.{Content, figures_of, tables_of}
 use Rattle.file.specs.Reader.{read_file, tables_part}
 use Rattle.file.specs.Contents.{slot, span, content_of}
-use Rattle.publishing.specs.declared.Published.TheVariants.{Length}
 use Rattle.publishing.specs.Publishing.{published, publish_answer, publish_after}
 
 -- the values that a content has for the slots of a span sum to R, which lies between the two ends of the span's record (02, W10)
@@ -23,7 +21,7 @@ pub record SumsToR (h : Head) (b : Cells) (f : Content) (s : Span) : Type 0 wher
 pub record ReadsBack (h : Head) (b : Cells) (n : ℕ) (file : List ℕ) : Type 0 where
   pub long : length file ≡ n
   -- 1. `read` accepts it, with the figures of what the book publishes, counts and sum included
-  pub accepted : read_file file ≡ Accepted (figures_of (published h b))
+  pub accepted : read_file file ≡ Ok (figures_of (published h b))
   -- 2. `tables` hands back their tables
   pub tables : tables_part file ≡ tables_of (published h b)
   -- 3. the content that these two answers hold is what the book publishes
@@ -40,5 +38,5 @@ pub record ReadsBack (h : Head) (b : Cells) (n : ℕ) (file : List ℕ) : Type 0
 -- where `publish` answers a length n, the first n bytes that it leaves are such a file; proved by `every_file`
 abbrev pub EveryFile : Type 0
 EveryFile =
-    (h : Head) (b : Book) (out : List ℕ) (n : ℕ) → publish_answer h b out ≡ Length n
+    (h : Head) (b : Book) (out : List ℕ) (n : ℕ) → publish_answer h b out ≡ Ok n
     → ReadsBack h b.cells n (take n (publish_after h b out))

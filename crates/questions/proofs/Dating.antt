@@ -1,38 +1,20 @@
--- The slot of a date and a minute, and the parts of a day number's date.
+-- The parts of a day number's date.
 use mathlib.Core.Bool.{Bool, true, false, ◌&&◌}
 use mathlib.Core.List.{List, [], ◌∷◌}
-use mathlib.Core.Path.{◌≡◌, refl, ap, ◌∙◌}
+use mathlib.Core.Path.{◌≡◌, refl, ap}
 use Prim.Native.Nat.{ℕ, zero, suc, ◌-◌, ◌≤◌, ◌<◌}
 use native.Mathlib.Omega.{arith}
-use borrow.Author.Tests.{leb-true, lt-ltb, le-ltb}
+use borrow.Author.Tests.{leb-true, le-leb, lt-leb}
+use Rattle.std.specs.Prelude.{Ok, Err}
+use Rattle.base.specs.declared.Refusal.TheVariants.{NoPlace}
 use lib.Dec.{leb}
 use lib.ListN.{get_or}
 use Rattle.base.proofs.Logic.{and_parts}
 use Rattle.calendar.specs.declared.Date.{Date}
-use Rattle.calendar.specs.Calendar.{leap, month_lengths, month_length, day_number, is_date, date_of}
+use Rattle.calendar.specs.Calendar.{leap, month_lengths, month_length, day_count, date_of}
 use Rattle.calendar.proofs.Bounds.{Bounded, bounded}
 use Rattle.calendar.proofs.Dates.{number_of_date}
-use Rattle.rules.specs.declared.Head.{Head}
-use Rattle.rules.specs.Opening.{head_ok}
-use Rattle.explain.specs.declared.naming.Named.{Named}
-use Rattle.explain.specs.Naming.{slot_named}
-use Rattle.questions.specs.Naming.{named_code, slot_code, date_digits, date_code}
-
--- g is the head that was made of the numbers
-module _ (g h : Head) (same : g ≡ h) (year month day minute : ℕ) where
-  pub bad_head : head_ok g ≡ false → 100000001 ≡ slot_code h year month day minute
-  unfolding slot_code
-  bad_head e = rw (rw same at e)
-
-  pub bad_date : head_ok g ≡ true → is_date year month day ≡ false → 100000003 ≡ slot_code h year month day minute
-  unfolding slot_code
-  bad_date e f = rw (rw same at e, f)
-
-  pub named_slot : head_ok g ≡ true → is_date year month day ≡ true → (n : ℕ) → n ≡ day_number year month day
-      → (k : Named) → k ≡ slot_named g (record { day = n; minute = minute }) → (r : ℕ) → r ≡ named_code k
-      → r ≡ slot_code h year month day minute
-  unfolding slot_code
-  named_slot e f n is k found r code = rw (rw same at e, f, ← same, ← is) (code ∙ ap named_code found)
+use Rattle.questions.specs.Naming.{date_digits, date_answer}
 
 -- ---- Dates
 
@@ -53,14 +35,14 @@ month_at_most y m = get_d_at_most 31 (month_lengths (leap y)) (lengths (leap y))
     lengths true = refl
     lengths false = refl
 
-pub date_bounds : (d : Date) (n : ℕ) → n ≤ 36524 → d ≡ date_of n → Bounded d.year d.month d.day
+pub date_bounds : (d : Date) (n : ℕ) → n < day_count → d ≡ date_of n → Bounded d.year d.month d.day
 date_bounds d n l e =
     rw e (bounded (date_of n).year (date_of n).month (date_of n).day (number_of_date n (omega arith)).0)
 
-pub no_day : (n : ℕ) → 36524 < n → 100000003 ≡ date_code n
-unfolding date_code
-no_day n l = rw (lt-ltb _ _ l)
+pub no_day : (n : ℕ) → day_count ≤ n → Err NoPlace ≡ date_answer n
+unfolding date_answer
+no_day n l = rw (le-leb _ _ l)
 
-pub day_told : (n : ℕ) → n ≤ 36524 → (d : Date) → d ≡ date_of n → date_digits d ≡ date_code n
-unfolding date_code
-day_told n l d e = rw (le-ltb _ _ l) (ap date_digits e)
+pub day_told : (n : ℕ) → n < day_count → (d : Date) → d ≡ date_of n → Ok (date_digits d) ≡ date_answer n
+unfolding date_answer
+day_told n l d e = rw (lt-leb _ _ l) (ap (λ (x : Date). Ok (date_digits x)) e)

@@ -2,4 +2,3 @@ pub mod Simulating
 pub mod Follow
 pub mod Logs
 pub mod Naming
-pub mod Lines

@@ -1,37 +1,42 @@
 -- What a host is given of a log: a number, the figures of the log, or the line that is wrong; and one line's call as numbers.
-use Rattle.std.specs.Prelude.{cond, List, [], ◌∷◌, ℕ, eqb, length}
+use Rattle.std.specs.Prelude.{cond, List, [], ◌∷◌, ℕ, eqb, length, Result, Ok, Err}
+use Rattle.base.specs.Refusals.{number_of}
 use Rattle.book.specs.declared.calls.Call.{Call}
 use Rattle.book.specs.declared.calls.Call.TheVariants.{Delivery, Agreed, Holiday, Register}
 use Rattle.text_log.specs.declared.line.LogLine.{LogLine}
 use Rattle.text_log.specs.declared.line.LogLine.TheVariants.{Passed, Table, Open, Fill, NoCall}
 use Rattle.text_log.specs.Line.{entry_of}
-use Rattle.play.specs.declared.Checked.{Checked}
-use Rattle.play.specs.declared.Checked.TheVariants.{Log, NoOpening, NotACall, Refused}
-use Rattle.play.specs.declared.Played.{Played}
-use Rattle.play.specs.declared.Played.TheVariants.{AsChecked, Lengths}
+use Rattle.play.specs.declared.Log.{Log}
+use Rattle.play.specs.declared.NotALog.{NotALog}
+use Rattle.play.specs.declared.NotALog.TheVariants.{NoOpening, NotACall, Refused}
+use Rattle.play.specs.declared.Unplayed.{Unplayed}
+use Rattle.play.specs.declared.Unplayed.TheVariants.{NotALog as no_log, Lengths}
 use Rattle.play.specs.Playing.{checked}
 
--- 0 for a log, 104 without an opening, 105 where a line is no call, 13 or 1 where one is refused
-abbrev pub check_code : Checked → ℕ
-check_code (Log h lines calls) = 0
-check_code NoOpening = 104
-check_code (NotACall line) = 105
-check_code (Refused line k) = k
+-- 104 without an opening, 105 where a line is no call, 13 or 1 where one is refused
+abbrev pub why_code : NotALog → ℕ
+why_code NoOpening = 104
+why_code (NotACall line) = 105
+why_code (Refused line k) = number_of k
+
+-- 0 for a log
+abbrev pub check_code : Result Log NotALog → ℕ
+check_code (Ok found) = 0
+check_code (Err why) = why_code why
 
 -- the line that is wrong, or 0
-abbrev pub check_line : Checked → ℕ
-check_line (Log h lines calls) = 0
-check_line NoOpening = 0
-check_line (NotACall line) = line
-check_line (Refused line k) = line
+abbrev pub check_line : Result Log NotALog → ℕ
+check_line (Ok found) = 0
+check_line (Err NoOpening) = 0
+check_line (Err (NotACall line)) = line
+check_line (Err (Refused line k)) = line
 
 -- the head, the number of lines and that of filling calls; what is no log leaves the figures
-abbrev pub log_figures : Checked → List ℕ → List ℕ
-log_figures (Log h lines calls) held =
-    h.year ∷ h.month ∷ h.day ∷ h.days ∷ h.interval ∷ h.limit ∷ h.tolerance ∷ lines ∷ calls ∷ []
-log_figures NoOpening held = held
-log_figures (NotACall line) held = held
-log_figures (Refused line k) held = held
+abbrev pub log_figures : Result Log NotALog → List ℕ → List ℕ
+log_figures (Ok found) held =
+    found.head.year ∷ found.head.month ∷ found.head.day ∷ found.head.days ∷ found.head.interval ∷ found.head.limit ∷ found.head.tolerance
+    ∷ found.lines ∷ found.calls ∷ []
+log_figures (Err why) held = held
 
 -- 2, as for any list of a wrong length, where there are not nine places
 unfoldable pub log_code : List ℕ → List ℕ → ℕ
@@ -41,9 +46,10 @@ unfoldable pub log_after : List ℕ → List ℕ → List ℕ
 log_after bytes held = cond (eqb (length held) 9) (log_figures (checked bytes) held) held
 
 -- playing answers as checking does, or 2
-abbrev pub played_code : Played → ℕ
-played_code (AsChecked found) = check_code found
-played_code Lengths = 2
+abbrev pub played_code : Result Log Unplayed → ℕ
+played_code (Ok found) = 0
+played_code (Err (no_log why)) = why_code why
+played_code (Err Lengths) = 2
 
 -- ---- One line
 

@@ -1,24 +1,46 @@
 // The export that explains a slot, its fields as numbers.
-ghost use Rattle.std.specs.Prelude.{◌≡◌, length};
+ghost use Rattle.std.specs.Prelude.{◌≡◌};
 ghost use Rattle.book.specs.Lent.{lent_book};
 ghost use Rattle.file.specs.Layout.{letter};
 ghost use Rattle.host.specs.Codes.{head_of};
-ghost use Rattle.questions.specs.Follow.{cause_code, rule_code, bit, fields_of, explain_code, fields_after};
+ghost use Rattle.questions.specs.Follow.{cause_code, rule_code, line_in, found_in, fields_of, explain_code, fields_after};
 
-use explain::{Explanation, Rule};
+use base::Refusal;
+use book::Book;
+use explain::{Explanation, Rule, Shares, Spanned};
 use host::head_of;
-use rules::Quality;
+use rules::filling::References;
+use rules::linear::StraightLine;
 use rules::tests::Cause;
+use rules::{Quality, linear, opening};
 
-fn cause_code(cause: Cause) -> u64
+// What does not apply is written as false and 0.
+const NO_SPAN: Spanned = Spanned {
+    first: 0,
+    last: 0,
+    lowest: 0,
+    highest: 0,
+    advance: 0,
+    actual: 0,
+    state: 0,
+};
+
+const NO_SHARES: Shares = Shares {
+    t: 0,
+    whole: 0,
+    passed: 0,
+    reached: 0,
+};
+
+fn cause_code(cause: Option<Cause>) -> u64
     ensures { result ≡ cause_code cause }
 {
     match cause {
-        Cause::Nothing => 0,
-        Cause::Gap => 1,
-        Cause::TimeChange => 2,
-        Cause::Partial => 3,
-        Cause::Demand => 4,
+        None => 0,
+        Some(Cause::Gap) => 1,
+        Some(Cause::TimeChange) => 2,
+        Some(Cause::Partial) => 3,
+        Some(Cause::Demand) => 4,
     }
 }
 
@@ -30,9 +52,31 @@ fn rule_code(rule: Rule) -> u64
         Rule::Delivered => 0,
         Rule::Agreed => 5,
         Rule::OutageZero => 1,
-        Rule::Linear => 2,
-        Rule::SameDay => 3,
+        Rule::Linear(_) => 2,
+        Rule::SameDay(_) => 3,
         Rule::Nothing => 4,
+    }
+}
+
+fn line_in(rule: Rule) -> StraightLine
+    ensures { result ≡ line_in rule }
+{
+    match rule {
+        Rule::Linear(line) => line,
+        _ => linear::bare(0),
+    }
+}
+
+fn found_in(rule: Rule) -> References
+    ensures { result ≡ found_in rule }
+{
+    match rule {
+        Rule::SameDay(found) => found,
+        _ => References {
+            days: [0; 4],
+            values: [0; 4],
+            count: 0,
+        },
     }
 }
 
@@ -47,87 +91,52 @@ fn letter_of(quality: Quality) -> u64
     }
 }
 
-fn bit_of(is_so: bool) -> u64
-    ensures { result ≡ bit is_so }
-{
-    if is_so { 1 } else { 0 }
-}
-
-fn wide(x: u32) -> u64
-    ensures { result ≡ x }
-{
-    x as u64
-}
-
-fn byte(x: u8) -> u64
-    ensures { result ≡ x }
-{
-    x as u64
-}
-
-// In the order of the struct.
+// In the order of 01.
 fn fields_of(e: Explanation) -> [u64; 34]
     ensures { result ≡ fields_of e }
 {
-    let cause = e.cause;
-    let rule = e.rule;
     let filled = e.filled;
-    let before = filled.quality;
-    let line = e.line;
-    let found = e.found;
-    let days = found.days;
-    let values = found.values;
-    let span = e.span;
-    let shares = e.shares;
+    let line = line_in(e.rule);
+    let found = found_in(e.rule);
+    let span = e.span.unwrap_or(NO_SPAN);
+    let shares = e.shares.unwrap_or(NO_SHARES);
     let outcome = e.outcome;
-    let after = outcome.quality;
     [
-        cause_code(cause),
-        rule_code(rule),
-        wide(filled.value),
-        letter_of(before),
-        byte(filled.method),
-        wide(line.left),
-        wide(line.right),
-        wide(line.place),
-        wide(line.length),
+        cause_code(e.cause),
+        rule_code(e.rule),
+        u64::from(filled.value),
+        letter_of(filled.quality),
+        u64::from(filled.method),
+        u64::from(line.left),
+        u64::from(line.right),
+        u64::from(line.place),
+        u64::from(line.length),
         found.count as u64,
-        wide(days[0]),
-        wide(days[1]),
-        wide(days[2]),
-        wide(days[3]),
-        wide(values[0]),
-        wide(values[1]),
-        wide(values[2]),
-        wide(values[3]),
-        bit_of(span.inside),
-        wide(span.first),
-        wide(span.last),
-        wide(span.lowest),
-        wide(span.highest),
+        u64::from(found.days[0]),
+        u64::from(found.days[1]),
+        u64::from(found.days[2]),
+        u64::from(found.days[3]),
+        u64::from(found.values[0]),
+        u64::from(found.values[1]),
+        u64::from(found.values[2]),
+        u64::from(found.values[3]),
+        u64::from(e.span.is_some()),
+        u64::from(span.first),
+        u64::from(span.last),
+        u64::from(span.lowest),
+        u64::from(span.highest),
         span.advance,
         span.actual,
-        byte(span.state),
-        bit_of(shares.scaled),
+        u64::from(span.state),
+        u64::from(e.shares.is_some()),
         shares.t,
         shares.whole,
         shares.passed,
         shares.reached,
-        wide(outcome.value),
-        letter_of(after),
-        byte(outcome.method),
+        u64::from(outcome.value),
+        letter_of(outcome.quality),
+        u64::from(outcome.method),
     ]
-}
-
-fn put(fields: &mut [u64], from: [u64; 34])
-    requires { length fields.old ≡ 34 }
-    ensures { fields.new ≡ from }
-{
-    let mut i = 0;
-    while i < 34 {
-        fields[i] = from[i];
-        i += 1;
-    }
 }
 
 // 0 and the 34 fields, or the refusal's number; 2 also for a list of fields that is not 34 long.
@@ -159,8 +168,13 @@ pub fn sawmauve_explain(
         × (fields.new ≡ fields_after head book slot fields.old) }
 {
     let head = head_of(year, month, day, days, interval, limit, tolerance);
-    let told = explain::explain(
-        head,
+    if !opening::head_ok(head) {
+        return Refusal::OutsideBounds.number() as u32;
+    }
+    if fields.len() != 34 {
+        return Refusal::WrongLength.number() as u32;
+    }
+    let book = Book::of(
         values,
         versions,
         statuses,
@@ -171,17 +185,12 @@ pub fn sawmauve_explain(
         agreed_versions,
         counts,
         widths,
-        slot,
     );
-    if told.refused == 1 {
-        return 1;
+    match explain::explain(head, &book, slot) {
+        Ok(explanation) => {
+            fields.copy_from_slice(&fields_of(explanation));
+            0
+        }
+        Err(refusal) => refusal.number() as u32,
     }
-    if fields.len() != 34 {
-        return 2;
-    }
-    if told.refused != 0 {
-        return told.refused as u32;
-    }
-    put(fields, fields_of(told.explanation));
-    0
 }

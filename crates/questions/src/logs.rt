@@ -1,35 +1,48 @@
 // The exports of a whole log, and of one line of it.
-ghost use Rattle.std.specs.Prelude.{[], ◌∷◌, ◌≡◌, length};
+ghost use Rattle.std.specs.Prelude.{◌≡◌, length};
 ghost use Rattle.book.specs.Lent.{lent_book};
 ghost use Rattle.play.specs.Playing.{checked, play_answer, play_after, answers_after};
-ghost use Rattle.questions.specs.Logs.{check_code, check_line, log_figures, log_code, log_after, played_code};
+ghost use Rattle.questions.specs.Logs.{why_code, check_code, check_line, log_figures, log_code, log_after, played_code};
 ghost use Rattle.questions.specs.Logs.{call_code, call_fields, line_code, line_fields, one_code, one_fields};
 
+use base::Refusal;
 use book::calls::Call;
-use play::{Checked, Played};
+use book::lent::BookMut;
+use play::{Log, NotALog, Unplayed};
 use text_log::line::LogLine;
 
-// The nine figures of a log, and 0; else the number of what it is.
-fn tell_log(found: Checked, figures: &mut [u64]) -> u32
+// The number of why bytes are no log.
+fn why_code(why: NotALog) -> u32
+    ensures { result ≡ why_code why }
+{
+    match why {
+        NotALog::NoOpening => 104,
+        NotALog::NotACall(_) => 105,
+        NotALog::Refused(_, refusal) => refusal.number() as u32,
+    }
+}
+
+// The nine figures of a log, and 0; else the number of why it is none.
+fn tell_log(found: Result<Log, NotALog>, figures: &mut [u64]) -> u32
     requires { length figures.old ≡ 9 }
     ensures { (result ≡ check_code found) × (figures.new ≡ log_figures found figures.old) }
 {
     match found {
-        Checked::Log(head, lines, calls) => {
-            figures[0] = head.year as u64;
-            figures[1] = head.month as u64;
-            figures[2] = head.day as u64;
-            figures[3] = head.days as u64;
-            figures[4] = head.interval as u64;
-            figures[5] = head.limit as u64;
-            figures[6] = head.tolerance as u64;
-            figures[7] = lines as u64;
-            figures[8] = calls as u64;
+        Ok(Log { head, lines, calls }) => {
+            figures.copy_from_slice(&[
+                u64::from(head.year),
+                u64::from(head.month),
+                u64::from(head.day),
+                u64::from(head.days),
+                u64::from(head.interval),
+                u64::from(head.limit),
+                u64::from(head.tolerance),
+                lines as u64,
+                calls as u64,
+            ]);
             0
         }
-        Checked::NoOpening => 104,
-        Checked::NotACall(_) => 105,
-        Checked::Refused(_, number) => number as u32,
+        Err(why) => why_code(why),
     }
 }
 
@@ -38,20 +51,20 @@ pub fn sawmauve_log(log: &[u8], figures: &mut [u64]) -> u32
         × (figures.new ≡ log_after log.now figures.old) }
 {
     if figures.len() != 9 {
-        return 2;
+        return Refusal::WrongLength.number() as u32;
     }
     let found = play::check(log);
     tell_log(found, figures)
 }
 
-fn line_number(found: Checked) -> u64
+fn line_number(found: Result<Log, NotALog>) -> u64
     ensures { result ≡ check_line found }
 {
     match found {
-        Checked::Log(_, _, _) => 0,
-        Checked::NoOpening => 0,
-        Checked::NotACall(line) => line as u64,
-        Checked::Refused(line, _) => line as u64,
+        Ok(_) => 0,
+        Err(NotALog::NoOpening) => 0,
+        Err(NotALog::NotACall(line)) => line as u64,
+        Err(NotALog::Refused(line, _)) => line as u64,
     }
 }
 
@@ -61,38 +74,28 @@ pub fn sawmauve_log_line(log: &[u8]) -> u64
     line_number(play::check(log))
 }
 
-fn check_code(found: Checked) -> u32
-    ensures { result ≡ check_code found }
-{
-    match found {
-        Checked::Log(_, _, _) => 0,
-        Checked::NoOpening => 104,
-        Checked::NotACall(_) => 105,
-        Checked::Refused(_, number) => number as u32,
-    }
-}
-
-fn played_code(played: Played) -> u32
+fn played_code(played: Result<Log, Unplayed>) -> u32
     ensures { result ≡ played_code played }
 {
     match played {
-        Played::AsChecked(found) => check_code(found),
-        Played::Lengths => 2,
+        Ok(_) => 0,
+        Err(Unplayed::NotALog(why)) => why_code(why),
+        Err(Unplayed::Lengths) => Refusal::WrongLength.number() as u32,
     }
 }
 
-pub fn sawmauve_play(
+pub fn sawmauve_play<'a>(
     log: &[u8],
-    values: &mut [u32],
-    versions: &mut [u32],
-    statuses: &mut [u8],
-    holidays: &mut [u8],
-    readings: &mut [u32],
-    read_versions: &mut [u32],
-    agreed: &mut [u32],
-    agreed_versions: &mut [u32],
-    counts: &mut [u16],
-    widths: &mut [u16],
+    values: &'a mut [u32],
+    versions: &'a mut [u32],
+    statuses: &'a mut [u8],
+    holidays: &'a mut [u8],
+    readings: &'a mut [u32],
+    read_versions: &'a mut [u32],
+    agreed: &'a mut [u32],
+    agreed_versions: &'a mut [u32],
+    counts: &'a mut [u16],
+    widths: &'a mut [u16],
     answers: &mut [u8],
 ) -> u32
     ensures { let bytes = log.now in
@@ -105,8 +108,7 @@ pub fn sawmauve_play(
         ≡ play_after bytes book answers.old)
         × (answers.new ≡ answers_after bytes book answers.old) }
 {
-    let played = play::play(
-        log,
+    let mut book = BookMut {
         values,
         versions,
         statuses,
@@ -117,22 +119,9 @@ pub fn sawmauve_play(
         agreed_versions,
         counts,
         widths,
-        answers,
-    );
+    };
+    let played = play::play(log, &mut book, answers);
     played_code(played)
-}
-
-fn put_seven(fields: &mut [u32], a: u32, b: u32, c: u32, d: u32, e: u32, f: u32, g: u32)
-    requires { length fields.old ≡ 7 }
-    ensures { fields.new ≡ a ∷ b ∷ c ∷ d ∷ e ∷ f ∷ g ∷ [] }
-{
-    fields[0] = a;
-    fields[1] = b;
-    fields[2] = c;
-    fields[3] = d;
-    fields[4] = e;
-    fields[5] = f;
-    fields[6] = g;
 }
 
 fn tell_call(call: Call, fields: &mut [u32]) -> u32
@@ -146,7 +135,7 @@ fn tell_call(call: Call, fields: &mut [u32]) -> u32
             value,
             status,
         } => {
-            put_seven(fields, slot, version, value, status, 0, 0, 0);
+            fields.copy_from_slice(&[slot, version, value, status, 0, 0, 0]);
             110
         }
         Call::Agreed {
@@ -154,11 +143,11 @@ fn tell_call(call: Call, fields: &mut [u32]) -> u32
             version,
             value,
         } => {
-            put_seven(fields, slot, version, value, 0, 0, 0, 0);
+            fields.copy_from_slice(&[slot, version, value, 0, 0, 0, 0]);
             111
         }
         Call::Holiday(day) => {
-            put_seven(fields, day, 0, 0, 0, 0, 0, 0);
+            fields.copy_from_slice(&[day, 0, 0, 0, 0, 0, 0]);
             112
         }
         Call::Register {
@@ -167,7 +156,7 @@ fn tell_call(call: Call, fields: &mut [u32]) -> u32
             reading,
             width,
         } => {
-            put_seven(fields, boundary, version, reading, width, 0, 0, 0);
+            fields.copy_from_slice(&[boundary, version, reading, width, 0, 0, 0]);
             113
         }
     }
@@ -179,16 +168,15 @@ fn tell_line(line: LogLine, fields: &mut [u32]) -> u32
 {
     match line {
         LogLine::Passed => {
-            put_seven(fields, 0, 0, 0, 0, 0, 0, 0);
+            fields.copy_from_slice(&[0; 7]);
             103
         }
         LogLine::Table => {
-            put_seven(fields, 0, 0, 0, 0, 0, 0, 0);
+            fields.copy_from_slice(&[0; 7]);
             106
         }
         LogLine::Open(o) => {
-            put_seven(
-                fields,
+            fields.copy_from_slice(&[
                 o.year,
                 o.month,
                 o.day,
@@ -196,7 +184,7 @@ fn tell_line(line: LogLine, fields: &mut [u32]) -> u32
                 o.interval,
                 o.kind,
                 o.tolerance,
-            );
+            ]);
             102
         }
         LogLine::Fill(call) => tell_call(call, fields),
@@ -209,7 +197,7 @@ pub fn sawmauve_call(line: &[u8], fields: &mut [u32]) -> u32
         × (fields.new ≡ one_fields line.now fields.old) }
 {
     if fields.len() != 7 {
-        return 2;
+        return Refusal::WrongLength.number() as u32;
     }
     let found = text_log::line::line_of(line);
     tell_line(found, fields)

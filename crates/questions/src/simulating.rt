@@ -1,30 +1,31 @@
 // The export of a simulated berth (02, W12).
 ghost use Rattle.std.specs.Prelude.{◌≡◌, length};
+ghost use Rattle.base.specs.Refusals.{code_of};
 ghost use Rattle.book.specs.Lent.{lent_book};
 ghost use Rattle.host.specs.Codes.{head_of};
-ghost use Rattle.questions.specs.Simulating.{host_answer, simulated_code, report_in, host_lists, host_bytes, host_report};
+ghost use Rattle.questions.specs.Simulating.{host_answer, report_in, host_lists, host_bytes, host_report};
 
-use berth::Simulated;
+use base::Refusal;
+use berth::Report;
+use book::lent::BookMut;
 use rules::opening;
 
 // The state and the difference into the report, and 0; else the refusal's number.
-fn tell(simulated: Simulated, report: &mut [i64]) -> u32
+fn tell(simulated: Result<Report, Refusal>, report: &mut [i64]) -> u32
     requires { length report.old ≡ 2 }
-    ensures { (result ≡ simulated_code simulated) × (report.new ≡ report_in simulated report.old) }
+    ensures { (result ≡ code_of simulated) × (report.new ≡ report_in simulated report.old) }
 {
     match simulated {
-        Simulated::Run(found) => {
-            let state = found.state as i64;
-            let difference = found.difference;
-            report[0] = state;
-            report[1] = difference;
+        Ok(found) => {
+            report[0] = found.state as i64;
+            report[1] = found.difference;
             0
         }
-        Simulated::Refused(n) => n as u32,
+        Err(refusal) => refusal.number() as u32,
     }
 }
 
-pub fn sawmauve_simulate(
+pub fn sawmauve_simulate<'a>(
     year: u32,
     month: u32,
     day: u32,
@@ -34,16 +35,16 @@ pub fn sawmauve_simulate(
     tolerance: u32,
     seed: u32,
     loss: u32,
-    values: &mut [u32],
-    versions: &mut [u32],
-    statuses: &mut [u8],
-    holidays: &mut [u8],
-    readings: &mut [u32],
-    read_versions: &mut [u32],
-    agreed: &mut [u32],
-    agreed_versions: &mut [u32],
-    counts: &mut [u16],
-    widths: &mut [u16],
+    values: &'a mut [u32],
+    versions: &'a mut [u32],
+    statuses: &'a mut [u8],
+    holidays: &'a mut [u8],
+    readings: &'a mut [u32],
+    read_versions: &'a mut [u32],
+    agreed: &'a mut [u32],
+    agreed_versions: &'a mut [u32],
+    counts: &'a mut [u16],
+    widths: &'a mut [u16],
     out: &mut [u8],
     report: &mut [i64],
 ) -> u32
@@ -52,7 +53,7 @@ pub fn sawmauve_simulate(
         agreed.old agreed_versions.old counts.old widths.old in
         let given = out.old in
         let told = report.old in
-        (result ≡ simulated_code (host_answer head seed loss book given told))
+        (result ≡ code_of (host_answer head seed loss book given told))
         × (lent_book values.new versions.new statuses.new holidays.new readings.new read_versions.new
         agreed.new agreed_versions.new counts.new widths.new
         ≡ host_lists head seed loss book given told)
@@ -61,15 +62,12 @@ pub fn sawmauve_simulate(
 {
     let head = host::head_of(year, month, day, days, interval, limit, tolerance);
     if !opening::head_ok(head) {
-        return 1;
+        return Refusal::OutsideBounds.number() as u32;
     }
     if report.len() != 2 {
-        return 2;
+        return Refusal::WrongLength.number() as u32;
     }
-    let simulated = berth::simulate(
-        head,
-        seed,
-        loss,
+    let mut book = BookMut {
         values,
         versions,
         statuses,
@@ -80,7 +78,7 @@ pub fn sawmauve_simulate(
         agreed_versions,
         counts,
         widths,
-        out,
-    );
+    };
+    let simulated = berth::simulate(head, seed, loss, &mut book, out);
     tell(simulated, report)
 }

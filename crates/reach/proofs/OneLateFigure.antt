@@ -1,4 +1,5 @@
 -- How far one late figure reaches (02, W14): the theorem, for every list of calls and one more delivery that is stored.
+use Rattle.std.specs.Prelude.{Ok}
 use mathlib.Core.Bool.{true, ◌&&◌}
 use mathlib.Core.List.{List, [], ◌∷◌, ◌++◌}
 use mathlib.Core.Path.{◌≡◌, refl, sym, ap, ◌∙◌}
@@ -21,7 +22,6 @@ use Rattle.book.specs.Filling.{input_rules, against_delivery, slots_with, delive
 use Rattle.book.proofs.Agreement.{cells_agree}
 use Rattle.book.proofs.Kept.{unless_accepted}
 use Rattle.file.specs.Layout.{row, slot_row, span_row, file_of}
-use Rattle.publishing.specs.declared.Published.TheVariants.{Length}
 use Rattle.publishing.specs.Publishing.{published, publish_answer, publish_after}
 use Rattle.claim.specs.Claim.{left_by, plain_of, plain_file}
 use Rattle.reach.specs.Reach.{SameRecords, Unmoved, Reach}
@@ -88,7 +88,7 @@ module _ (h : Head) (b : Book) (i version value status : ℕ) (e : answer h b (d
       (not-false _ (u 0), leb-false _ _ (u 2))
 
 -- what publishing leaves in a buffer with room begins with the file
-wrote : (h : Head) (calls : List Call) (out : List ℕ) (n : ℕ) → publish_answer h (left_by h calls) out ≡ Length n
+wrote : (h : Head) (calls : List Call) (out : List ℕ) (n : ℕ) → publish_answer h (left_by h calls) out ≡ Ok n
     → publish_after h (left_by h calls) out ≡ plain_file h calls ++ drop n out
 unfolding publish_after
 wrote h calls out n e = rw (e, cells_agree h calls)

@@ -1,5 +1,5 @@
 -- How far one late figure reaches (02, W14): which slots and spans one more stored delivery can move, and that no other moves.
-use Rattle.std.specs.Prelude.{List, [], ◌∷◌, ◌++◌, ◌⊎◌, ◌≡◌, false, ℕ, suc, ◌+◌, ◌*◌, ◌/◌, ◌%◌, ◌≤◌, ◌<◌, length, get_or, take, drop}
+use Rattle.std.specs.Prelude.{List, [], ◌∷◌, ◌++◌, ◌⊎◌, ◌≡◌, false, ℕ, suc, ◌+◌, ◌*◌, ◌/◌, ◌%◌, ◌≤◌, ◌<◌, length, get_or, take, drop, Ok}
 use Rattle.calendar.specs.Calendar.{weekday}
 use Rattle.rules.specs.declared.Head.{Head}
 use Rattle.rules.specs.declared.Span.{Span}
@@ -11,7 +11,6 @@ use Rattle.book.specs.Arguments.{Call}
 use Rattle.book.specs.Arguments.Call.{delivery}
 use Rattle.book.specs.Filling.{answer}
 use Rattle.file.specs.Layout.{file_of}
-use Rattle.publishing.specs.declared.Published.TheVariants.{Length}
 use Rattle.publishing.specs.Publishing.{published, publish_answer, publish_after}
 use Rattle.claim.specs.Claim.{left_by, plain_of}
 
@@ -129,7 +128,7 @@ pub record Unmoved (h : Head) (b c : Cells) (i : ℕ) : Type 0 where
 pub record BeforeAndAfter (h : Head) (calls more : List Call) (i : ℕ) : Type 0 where
   pub plain : Unmoved h (plain_of h calls) (plain_of h more) i
   pub written : (out later : List ℕ) (n m : ℕ)
-      → publish_answer h (left_by h calls) out ≡ Length n → publish_answer h (left_by h more) later ≡ Length m
+      → publish_answer h (left_by h calls) out ≡ Ok n → publish_answer h (left_by h more) later ≡ Ok m
       → SameRecords h (plain_of h calls) (plain_of h more) i (publish_after h (left_by h calls) out)
       (publish_after h (left_by h more) later)
 

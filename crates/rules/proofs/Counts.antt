@@ -1,13 +1,15 @@
 -- There is one span fewer than boundaries with a reading.
-use mathlib.Core.Bool.{Bool, true, false, cond}
-use mathlib.Core.List.{List, []}
+use mathlib.Core.Bool.{Bool, true, false, cond, not}
+use mathlib.Core.List.{List, [], ◌∷◌}
 use mathlib.Core.Option.{Option, none, some}
-use mathlib.Core.Path.{◌≡◌, refl, sym, ap, ◌∙◌}
+use mathlib.Core.Path.{◌≡◌, refl, sym, ap, ap₂, ◌∙◌}
 use Prim.Native.Nat.{ℕ, zero, suc, ◌+◌, ◌-◌, ◌≤◌}
-use native.Mathlib.Nat.{add-zero, zero-add}
 use native.Mathlib.Numerals.{add-one}
 use native.Mathlib.Omega.{arith}
-use lib.ListN.{length, length-append, get_or}
+use lib.Dec.{eqb}
+use lib.ListN.{length, length-append}
+use Rattle.std.specs.Prelude.{count_by}
+use Rattle.std.proofs.lemmas.List.Sums.{sum_by-cons}
 use Rattle.base.specs.Lists.{sum}
 use Rattle.base.proofs.Sums.{sum_first, sum_none, sum_place}
 use Rattle.rules.specs.declared.Head.{Head}
@@ -15,32 +17,33 @@ use Rattle.rules.specs.Opening.{Cells}
 use Rattle.rules.specs.Spans.{is_read, next_read, span_to, span_from, spans_from, spans}
 use Rattle.rules.specs.Inner.Stretches.{read_count}
 use Rattle.rules.proofs.Boundaries.{next_tells, next_none}
-use Rattle.rules.proofs.Stretches.{is_read_lem, unread}
 
 -- 1 for a boundary with a reading
 abbrev one : List ℕ → ℕ → ℕ
 one r d = cond (is_read r d) 1 0
 
 module _ (r : List ℕ) where
-  pub count_none : read_count r 0 ≡ 0
-  unfolding read_count sum
-  count_none = refl
-
-  -- one boundary on
-  pub count_read : (d : ℕ) → (get_or r d 0 ≡ 0 → ⊥) → read_count r d + 1 ≡ read_count r (d + 1)
-  unfolding read_count sum
-  count_read d e = rw (add-one d, zero-add d, is_read_lem r d e)
-
-  pub count_unread : (d : ℕ) → get_or r d 0 ≡ 0 → read_count r d ≡ read_count r (d + 1)
-  unfolding read_count sum
-  count_unread d e = rw (add-one d, zero-add d, unread r d e) (sym (add-zero (read_count r d)))
-
   one_small : (d : ℕ) → one r d ≤ 1
   one_small d = go (is_read r d)
     where
       go : (t : Bool) → cond t 1 0 ≤ 1
       go true = omega arith
       go false = omega arith
+
+sum_shift : (f : ℕ → ℕ) (k : ℕ) → sum f 1 k ≡ sum (λ i. f (suc i)) 0 k
+unfolding sum
+sum_shift f zero = refl
+sum_shift f (suc k) = let e : 1 + k ≡ suc (0 + k) = omega arith in
+    ap₂ ◌+◌ (sum_shift f k) (ap f e)
+
+-- the boundaries with a reading, counted over the list
+pub read_versions_counted : (r : List ℕ) → count_by (λ v. not (eqb v 0)) r ≡ read_count r (length r)
+unfolding read_count sum is_read
+read_versions_counted [] = refl
+read_versions_counted (v ∷ r) =
+    sum_by-cons (λ (x : ℕ). cond (not (eqb x 0)) 1 0) v r
+    ∙ ap (λ (n : ℕ). one (v ∷ r) 0 + n) (read_versions_counted r ∙ sym (sum_shift (one (v ∷ r)) (length r)))
+    ∙ sym (sum_first (one (v ∷ r)) 0 (length r))
 
 module _ (h : Head) (b : Cells) where
   abbrev r : List ℕ

@@ -10,6 +10,7 @@ use borrow.Author.Tests.{eq-eqb, ne_eqb}
 use lib.Dec.{eqb}
 use lib.ListN.{get_or}
 use Rattle.rules.specs.declared.Head.{Head}
+use Rattle.std.specs.Prelude.{Option, Some}
 use Rattle.rules.specs.declared.tests.Cause.{Cause}
 use Rattle.rules.specs.declared.tests.Cause.TheVariants.{Gap}
 use Rattle.rules.specs.Opening.{Slots, Agreed, slot_count}
@@ -94,7 +95,7 @@ module _ (h : Head) (s : Slots) where
   unfolding good_at cause_at cause_of is_gap
   good_delivered i = go (eqb (get_or s.versions i 0) 0) _
     where
-      go : (t : Bool) (x : Cause) → is_good (cond t Gap x) ≡ true → t ≡ false
+      go : (t : Bool) (x : Option Cause) → is_good (cond t (Some Gap) x) ≡ true → t ≡ false
       go true x e = absurd (false≢true e)
       go false x e = refl
 

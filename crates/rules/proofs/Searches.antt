@@ -151,9 +151,6 @@ module _ (h : Head) (w : Bounded h) (slot week : ℕ) (seven : week ≡ 7 * slot
     parts : 7 * n h w ≡ first * n h w + (7 - first) * n h w
     parts = let p : 7 ≡ first + (7 - first) = omega (arith, b.short) in ap (λ (x : ℕ). x * n h w) p ∙ add-mul first (7 - first) (n h w)
 
-    pub begin_fits : first * n h w ≤ slot + week
-    begin_fits = omega (arith, parts, seven)
-
     module _ (begin : ℕ) (begins : begin ≡ slot + week - first * n h w) where
       begin_day : begin / n h w ≡ slot / n h w + (7 - first)
       begin_day =
@@ -192,9 +189,6 @@ module _ (h : Head) (w : Bounded h) (slot week : ℕ) (seven : week ≡ 7 * slot
 
     within : 7 * n h w ≤ at
     within = days_low h w 7 at (omega (arith, i.reach, more))
-
-    pub slot_inside : week ≤ at
-    slot_inside = rw seven within
 
     next_day : at / n h w ≡ next / n h w + 7
     next_day = rw seven (days_on h w 7 at within)

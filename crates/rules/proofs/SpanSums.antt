@@ -76,13 +76,8 @@ module _ (h : Head) (b : Cells) (first last : ℕ) where
       unfolding stretch_by span_stretch
       meet_stretch = rw (f, compared_is, p, scaling_first)
 
--- a span's figures rest on no register version
+-- a span's scaling rests on no register version
 module _ (h : Head) (s : Slots) (holidays readings v w : List ℕ) (agreed : Agreed) (widths : List ℕ) (first last : ℕ) where
-  pub span_versions : span_of h (cells s holidays readings v agreed widths) first last
-      ≡ span_of h (cells s holidays readings w agreed widths) first last
-  unfolding span_of G range R state_of actual_sum start slots_in
-  span_versions = refl
-
   pub stretch_versions : (i : ℕ)
       → span_stretch h (cells s holidays readings v agreed widths) first last i
       ≡ span_stretch h (cells s holidays readings w agreed widths) first last i

@@ -9,9 +9,9 @@ use native.Mathlib.Nat.{mod-eq_of_lt}
 use native.Mathlib.Omega.{arith}
 use borrow.Author.Tests.{ne_eqb}
 use lib.ListN.{length, length-append}
+use Rattle.std.specs.Prelude.{None}
 use Rattle.rules.specs.declared.Head.{Head}
 use Rattle.rules.specs.declared.Span.{Span}
-use Rattle.rules.specs.declared.stretch.Begins.TheVariants.{Nothing}
 use Rattle.rules.specs.Opening.{Cells, slots_per_day, slot_count}
 use Rattle.rules.specs.Spans.{is_read, next_read, span_to, span_from, spans_from, spans}
 use Rattle.rules.specs.Inner.Stretches.{first_of, begins_at}
@@ -60,7 +60,7 @@ module _ (h : Head) (b : Cells) where
     unfolding begins_at
     begins_first d = rw (mul-mod_left, mul-div_cancel d positive)
 
-    begins_inside : (d k : ℕ) → 0 < k → k < n → begins_at h b (d * n + k) ≡ Nothing
+    begins_inside : (d k : ℕ) → 0 < k → k < n → begins_at h b (d * n + k) ≡ None
     unfolding begins_at
     begins_inside d k l m =
         let z : (d * n + k) % n ≡ 0 → ⊥ = λ y. omega (arith, mul-add-mod_self_right d n k, mod-eq_of_lt m) in

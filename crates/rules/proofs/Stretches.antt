@@ -13,8 +13,9 @@ use borrow.Author.Tests.{eq-eqb, ne_eqb}
 use lib.Dec.{eqb}
 use lib.ListN.{length, get_or}
 use Rattle.base.proofs.Logic.{either}
+use Rattle.std.specs.Prelude.{None, Option as Coded}
 use Rattle.rules.specs.declared.Head.{Head}
-use Rattle.rules.specs.declared.stretch.Begins.TheVariants.{Nothing}
+use Rattle.rules.specs.declared.Span.{Span}
 use Rattle.rules.specs.Opening.{Cells, slots_per_day, slot_count}
 use Rattle.rules.specs.Spans.{is_read, last_read, next_read, state_of, span_to, span_from}
 use Rattle.rules.specs.Inner.Stretches.{unscaled_to, span_stretch, stretch_of, stretch_on, stretch_at, carried_at, begins_at, begins_with}
@@ -110,32 +111,32 @@ module _ (h : Head) (w : Bounded h) (b : Cells) where
   day_before j l = day_below h w j (omega arith)
 
   -- no span begins inside a day, or at a boundary without a reading
-  none_inside : (j : ℕ) → suc j / n ≡ j / n → begins_at h b (suc j) ≡ Nothing
+  none_inside : (j : ℕ) → suc j / n ≡ j / n → begins_at h b (suc j) ≡ None
   unfolding begins_at
   none_inside j e =
       let z : suc j % n ≡ 0 → ⊥ = λ m. omega (arith, div-add-mod' (suc j) n, div-add-mod' j n, ap (λ (x : ℕ). x * n) e) in
       rw (ne_eqb (suc j % n) 0 z)
 
-  none_unread : (i : ℕ) → is_read r (i / n) ≡ false → begins_at h b i ≡ Nothing
+  none_unread : (i : ℕ) → is_read r (i / n) ≡ false → begins_at h b i ≡ None
   unfolding begins_at span_from
-  none_unread i t = rw t (go (eqb (i % n) 0))
+  none_unread i t = rw t (go (eqb (i % n) 0) None)
     where
-      go : (x : Bool) → cond x Nothing Nothing ≡ Nothing
-      go true = refl
-      go false = refl
+      go : (x : Bool) (y : Coded Span) → cond x y y ≡ y
+      go true y = refl
+      go false y = refl
 
   -- where the carried stretch goes on, it is the slot's, and no span begins
   pub carried_on : (i : ℕ) → i < slot_count h → (i ≡ (carried_at h b i).until → ⊥)
-      → (begins_at h b i ≡ Nothing) × (carried_at h b i ≡ stretch_at h b i)
+      → (begins_at h b i ≡ None) × (carried_at h b i ≡ stretch_at h b i)
   unfolding carried_at stretch_at
   carried_on zero l x = absurd (x refl)
   carried_on (suc j) l x = ⊎_elim inside first (day_step n j positive)
     where
-      inside : suc j / n ≡ j / n → (begins_at h b (suc j) ≡ Nothing) × (stretch_on h b (j / n) (suc j) ≡ stretch_on h b (suc j / n) (suc j))
+      inside : suc j / n ≡ j / n → (begins_at h b (suc j) ≡ None) × (stretch_on h b (j / n) (suc j) ≡ stretch_on h b (suc j / n) (suc j))
       inside e = (none_inside j e, rw e)
 
       first : (suc j ≡ suc (j / n) * n) × (suc j / n ≡ suc (j / n))
-          → (begins_at h b (suc j) ≡ Nothing) × (stretch_on h b (j / n) (suc j) ≡ stretch_on h b (suc j / n) (suc j))
+          → (begins_at h b (suc j) ≡ None) × (stretch_on h b (j / n) (suc j) ≡ stretch_on h b (suc j / n) (suc j))
       first (p, e) =
           ⊎_elim (λ t. absurd (x (p ∙ sym (read_ends (j / n) (suc j) (day_before j l) t))))
           (λ t. (none_unread (suc j) (rw e t), rw e (same_stretch (j / n) (suc j) (day_before j l) t)))
@@ -171,7 +172,7 @@ module _ (h : Head) (w : Bounded h) (b : Cells) where
     unfolding begins_at begins_with span_from span_to
     begins_some last e = rw (day_begins, e) (⊎_elim (λ t. rw t) (λ t. rw t) (either (is_read r (i / n))))
 
-    pub begins_none : next_read r (i / n + 1) (h.days - i / n) ≡ none → begins_at h b i ≡ Nothing
+    pub begins_none : next_read r (i / n + 1) (h.days - i / n) ≡ none → begins_at h b i ≡ None
     unfolding begins_at span_from span_to
     begins_none e = rw (day_begins, e) (⊎_elim (λ t. rw t) (λ t. rw t) (either (is_read r (i / n))))
 

@@ -12,7 +12,8 @@ use lib.ListN.{length, get_or, take}
 use Rattle.base.proofs.Logic.{and_parts, either}
 use Rattle.base.specs.Lists.{sum_of}
 use Rattle.rules.specs.declared.Head.{Head}
-use Rattle.rules.specs.declared.tests.Cause.TheVariants.{Nothing, Gap, TimeChange, Partial, Demand}
+use Rattle.std.specs.Prelude.{Some, None}
+use Rattle.rules.specs.declared.tests.Cause.TheVariants.{Gap, TimeChange, Partial, Demand}
 use Rattle.rules.specs.Opening.{Slots, Agreed, slots_per_day}
 use Rattle.rules.specs.Tests.{is_good, time_change_bit, partial_bit, cause_of, cause_at, good_at}
 use Rattle.rules.specs.Weeks.{first_back, farthest_back, weeks_within}
@@ -26,7 +27,8 @@ use Rattle.rules.proofs.Runs.{place_low, linear_tells}
 use Rattle.rules.proofs.Fillings.{filled_by}
 
 -- only the last test can leave a slot good
-last_test : (a b c d : Bool) → is_good (cond a Gap (cond b TimeChange (cond c Partial (cond d Demand Nothing)))) ≡ true → d ≡ false
+last_test : (a b c d : Bool)
+    → is_good (cond a (Some Gap) (cond b (Some TimeChange) (cond c (Some Partial) (cond d (Some Demand) None)))) ≡ true → d ≡ false
 last_test true b c d e = absurd (false≢true e)
 last_test false true c d e = absurd (false≢true e)
 last_test false false true d e = absurd (false≢true e)

@@ -1,8 +1,8 @@
 -- The harbour's table of demand limits (02, W5).
-use Rattle.std.specs.Prelude.{Bool, cond, ◌&&◌, List, [], ◌∷◌, ℕ, zero, suc, ◌-◌, leb, ltb, length, get_or}
+use Rattle.std.specs.Prelude.{Bool, cond, ◌&&◌, List, [], ◌∷◌, ℕ, zero, suc, ◌-◌, leb, ltb, length, get_or, Result, Ok, Err}
+use Rattle.base.specs.declared.Refusal.{Refusal}
+use Rattle.base.specs.declared.Refusal.TheVariants.{OutsideBounds, WrongLimits}
 use Rattle.base.specs.Lists.{every, all}
-use Rattle.rules.specs.declared.limits.Loaded.{Loaded}
-use Rattle.rules.specs.declared.limits.Loaded.TheVariants.{Limit, Refused}
 use Rattle.rules.specs.Numbers.{most_limit}
 
 -- the limit before place i, counted from 0; the first is at least 1, so above 0
@@ -27,6 +27,6 @@ abbrev pub place_tests : List ℕ → ℕ → List Bool
 place_tests table kind = leb 1 kind ∷ leb kind (length table) ∷ []
 
 -- 13 for a table that breaks this, before 1 for a kind that is no place; else the limit there
-unfoldable pub load_answer : List ℕ → ℕ → Loaded
+unfoldable pub load_answer : List ℕ → ℕ → Result ℕ Refusal
 load_answer table kind =
-    cond (table_ok table) (cond (every (place_tests table kind)) (Limit (get_or table (kind - 1) 0)) (Refused 1)) (Refused 13)
+    cond (table_ok table) (cond (every (place_tests table kind)) (Ok (get_or table (kind - 1) 0)) (Err OutsideBounds)) (Err WrongLimits)

@@ -5,12 +5,12 @@ ghost use Rattle.rules.specs.Opening.{slot_count};
 ghost use Rattle.rules.specs.Tests.{good_at};
 ghost use Rattle.rules.specs.Filling.{is_reference, references, mean_of, from_references, is_outage_zero, filled_at, shape_of, shape_at};
 ghost use Rattle.rules.specs.References.{reference_days, in_four};
-ghost use Rattle.rules.specs.Lent.{lent_slots, lent_agreed};
+ghost use Rattle.rules.specs.Lent.{slots_in, agreed_in};
 ghost use Rattle.rules.specs.Inner.Lent.{Lent, Settled};
 ghost use Rattle.rules.specs.Inner.Walks.{actual_of, agreed_of, line_at, line_before, ruled_by, Drawn};
 
 use crate::linear::StraightLine;
-use crate::{Head, Outcome, Quality, linear, opening, tests, weeks};
+use crate::{Agreed, Head, Outcome, Quality, Slots, linear, opening, tests, weeks};
 
 // Up to four values of the same position on earlier weeks, nearest first, and their days.
 #[derive(Clone, Copy)]
@@ -44,37 +44,23 @@ pub struct RuledSlot {
 }
 
 // Slot `at` can be a reference.
-fn is_reference(
-    head: Head,
-    values: &[u32],
-    versions: &[u32],
-    statuses: &[u8],
-    holidays: &[u8],
-    at: usize,
-) -> bool
-    requires { Lent head (lent_slots values.now versions.now statuses.now) holidays.now × (at < slot_count head) }
-    ensures { result ≡ is_reference head (lent_slots values.now versions.now statuses.now) holidays.now at }
+fn is_reference(head: Head, slots: &Slots<'_>, holidays: &[u8], at: usize) -> bool
+    requires { Lent head (slots_in slots.now) holidays.now × (at < slot_count head) }
+    ensures { result ≡ is_reference head (slots_in slots.now) holidays.now at }
 {
-    if !tests::is_good(head, values, versions, statuses, at) {
+    if !tests::is_good(head, slots, at) {
         return false;
     }
-    if tests::outage_bit(statuses[at]) {
+    if tests::outage_bit(slots.statuses[at]) {
         return false;
     }
     holidays[opening::day_of(head, at)] == 0
 }
 
 // The references of slot `slot`: the search stops at the fourth.
-pub fn find_references(
-    head: Head,
-    values: &[u32],
-    versions: &[u32],
-    statuses: &[u8],
-    holidays: &[u8],
-    slot: usize,
-) -> References
-    requires { Lent head (lent_slots values.now versions.now statuses.now) holidays.now × (slot < slot_count head) }
-    ensures { let s = lent_slots values.now versions.now statuses.now in
+pub fn find_references(head: Head, slots: &Slots<'_>, holidays: &[u8], slot: usize) -> References
+    requires { Lent head (slots_in slots.now) holidays.now × (slot < slot_count head) }
+    ensures { let s = slots_in slots.now in
         let xs = references head s holidays.now slot in
         (result.days ≡ in_four (reference_days head s holidays.now slot)) × (result.values ≡ in_four xs) × (result.count ≡ length xs) }
 {
@@ -85,17 +71,18 @@ pub fn find_references(
     let mut count: usize = 0;
     let way = weeks::way_back(head, holidays, day.number);
     let begin = slot + week - way.first * day.slots;
-    let passed = weeks::pass_gaps(versions, begin, week, way.weeks);
+    let passed = weeks::pass_gaps(slots.versions, begin, week, way.weeks);
     let mut at = passed.at;
     let mut left = passed.left;
+    // the loop that 01 names
     'weeks: loop {
         if left == 0 {
             break 'weeks;
         }
         at -= week;
         left -= 1;
-        if is_reference(head, values, versions, statuses, holidays, at) {
-            found[count] = values[at];
+        if is_reference(head, slots, holidays, at) {
+            found[count] = slots.values[at];
             days[count] = opening::day_of(head, at) as u32;
             count += 1;
             if count == 4 {
@@ -104,9 +91,9 @@ pub fn find_references(
         }
     }
     References {
-        days: days,
+        days,
         values: found,
-        count: count,
+        count,
     }
 }
 
@@ -119,20 +106,16 @@ pub fn mean_of(found: References) -> Mean
         × (result.mean * result.number + result.remainder ≡ sum_of xs)
         × (result.remainder < result.number) }
 {
-    let values = found.values;
-    let count = found.count;
     let mut sum: u64 = 0;
-    let mut i = 0;
-    while i < count {
-        sum += values[i] as u64;
-        i += 1;
+    for value in &found.values[..found.count] {
+        sum += *value as u64;
     }
-    let number = count as u64;
+    let number = found.count as u64;
     let rest = sum % number;
     Mean {
         mean: (sum / number) as u32,
         remainder: rest as u32,
-        number: count as u32,
+        number: found.count as u32,
     }
 }
 
@@ -150,26 +133,16 @@ fn shape_of(mean: Mean) -> u64
 fn unshaped(outcome: Outcome) -> Shaped
     ensures { (result.outcome ≡ outcome) × (result.shape ≡ 0) }
 {
-    Shaped {
-        outcome: outcome,
-        shape: 0,
-    }
+    Shaped { outcome, shape: 0 }
 }
 
 // Filled from the same day of earlier weeks, or not at all.
-fn same_day(
-    head: Head,
-    values: &[u32],
-    versions: &[u32],
-    statuses: &[u8],
-    holidays: &[u8],
-    at: usize,
-) -> Shaped
-    requires { Lent head (lent_slots values.now versions.now statuses.now) holidays.now × (at < slot_count head) }
-    ensures { let xs = references head (lent_slots values.now versions.now statuses.now) holidays.now at in
+fn same_day(head: Head, slots: &Slots<'_>, holidays: &[u8], at: usize) -> Shaped
+    requires { Lent head (slots_in slots.now) holidays.now × (at < slot_count head) }
+    ensures { let xs = references head (slots_in slots.now) holidays.now at in
         (result.outcome ≡ from_references xs) × (result.shape ≡ shape_of result.outcome xs) }
 {
-    let found = find_references(head, values, versions, statuses, holidays, at);
+    let found = find_references(head, slots, holidays, at);
     if found.count == 0 {
         let none = Outcome {
             value: 0,
@@ -185,7 +158,7 @@ fn same_day(
         method: 3,
     };
     Shaped {
-        outcome: outcome,
+        outcome,
         shape: shape_of(mean),
     }
 }
@@ -195,7 +168,7 @@ pub fn delivered(value: u32) -> Outcome
     ensures { result ≡ actual_of value }
 {
     Outcome {
-        value: value,
+        value,
         quality: Quality::A,
         method: 0,
     }
@@ -206,7 +179,7 @@ pub fn by_agreement(value: u32) -> Outcome
     ensures { result ≡ agreed_of value }
 {
     Outcome {
-        value: value,
+        value,
         quality: Quality::F,
         method: 5,
     }
@@ -216,18 +189,16 @@ pub fn by_agreement(value: u32) -> Outcome
 // applies, `line` which line it lies on.
 pub fn unscaled(
     head: Head,
-    values: &[u32],
-    versions: &[u32],
-    statuses: &[u8],
+    slots: &Slots<'_>,
     holidays: &[u8],
     at: usize,
     outage: bool,
     line: StraightLine,
 ) -> Shaped
-    requires { Lent head (lent_slots values.now versions.now statuses.now) holidays.now
+    requires { Lent head (slots_in slots.now) holidays.now
         × (at < slot_count head)
         × (0 < line.length → Drawn line) }
-    ensures { let xs = references head (lent_slots values.now versions.now statuses.now) holidays.now at in
+    ensures { let xs = references head (slots_in slots.now) holidays.now at in
         (result.outcome ≡ ruled_by outage line xs) × (result.shape ≡ shape_of result.outcome xs) }
 {
     if outage {
@@ -241,66 +212,53 @@ pub fn unscaled(
     if 0 < line.length {
         let value = linear::line_value(line);
         let outcome = Outcome {
-            value: value,
+            value,
             quality: Quality::S,
             method: 2,
         };
         return Shaped {
-            outcome: outcome,
+            outcome,
             shape: 12 * (value as u64),
         };
     }
-    same_day(head, values, versions, statuses, holidays, at)
+    same_day(head, slots, holidays, at)
 }
 
 // The outcome before scaling of slot `at`, which has a cause, its shape and its line; `before` is that of the slot before.
 pub fn fill_cause(
     head: Head,
-    values: &[u32],
-    versions: &[u32],
-    statuses: &[u8],
+    slots: &Slots<'_>,
     holidays: &[u8],
-    agreed: &[u32],
-    agreed_versions: &[u32],
+    agreed: &Agreed<'_>,
     at: usize,
     outage: bool,
     before: StraightLine,
 ) -> RuledSlot
-    requires { let s = lent_slots values.now versions.now statuses.now in
+    requires { let s = slots_in slots.now in
         Lent head s holidays.now
-        × Settled head (lent_agreed agreed.now agreed_versions.now)
+        × Settled head (agreed_in agreed.now)
         × (at < slot_count head)
         × (good_at head s at ≡ false)
         × (outage ≡ is_outage_zero head s at)
-        × (before ≡ line_before head s agreed_versions.now at) }
-    ensures { let s = lent_slots values.now versions.now statuses.now in
-        let a = lent_agreed agreed.now agreed_versions.now in
+        × (before ≡ line_before head s (agreed_in agreed.now).versions at) }
+    ensures { let s = slots_in slots.now in
+        let a = agreed_in agreed.now in
         (result.outcome ≡ filled_at head s a holidays.now at)
         × (result.shape ≡ shape_at head s a holidays.now at)
         × (result.line ≡ line_at head s a.versions at) }
 {
-    let line = linear::line_on(
-        head,
-        values,
-        versions,
-        statuses,
-        agreed_versions,
-        at,
-        outage,
-        before,
-    );
-    if 0 < agreed_versions[at] {
+    let line = linear::line_on(head, slots, agreed.versions, at, outage, before);
+    if 0 < agreed.versions[at] {
         return RuledSlot {
-            outcome: by_agreement(agreed[at]),
+            outcome: by_agreement(agreed.values[at]),
             shape: 0,
-            line: line,
+            line,
         };
     }
-    let shaped = unscaled(head, values, versions, statuses, holidays, at, outage, line);
-    let outcome = shaped.outcome;
+    let shaped = unscaled(head, slots, holidays, at, outage, line);
     RuledSlot {
-        outcome: outcome,
+        outcome: shaped.outcome,
         shape: shaped.shape,
-        line: line,
+        line,
     }
 }

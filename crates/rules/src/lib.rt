@@ -42,6 +42,33 @@ pub struct Head {
     pub tolerance: u32,
 }
 
+// The three lent lists of slots.
+#[derive(Clone, Copy)]
+pub struct Slots<'a> {
+    pub values: &'a [u32],
+    pub versions: &'a [u32],
+    pub statuses: &'a [u8],
+}
+
+// The two lent lists of agreed values (02, W1).
+#[derive(Clone, Copy)]
+pub struct Agreed<'a> {
+    pub values: &'a [u32],
+    pub versions: &'a [u32],
+}
+
+// The nine lent lists.
+#[derive(Clone, Copy)]
+pub struct Cells<'a> {
+    pub slots: Slots<'a>,
+    pub holidays: &'a [u8],
+    pub readings: &'a [u32],
+    pub read_versions: &'a [u32],
+    pub agreed: Agreed<'a>,
+    // of the readings (02, W10)
+    pub widths: &'a [u16],
+}
+
 // Actual, substituted, agreed, none.
 #[derive(Clone, Copy)]
 pub enum Quality {

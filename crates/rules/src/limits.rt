@@ -4,30 +4,21 @@ ghost use Rattle.base.specs.Lists.{all};
 ghost use Rattle.rules.specs.Limits.{rises_at, table_ok, load_answer};
 
 use crate::MOST_LIMIT;
-
-// The demand limit in W, or the refusal's number.
-#[derive(Clone, Copy)]
-pub enum Loaded {
-    Limit(u32),
-    Refused(u8),
-}
+use base::Refusal;
 
 // Each limit is above the one before, and none over 1,000,000.
 fn is_rising(table: &[u32]) -> bool
     ensures { result ≡ all (rises_at table.now) 0 (length table.now) }
 {
     let mut last = 0;
-    let mut i = 0;
-    while i < table.len() {
-        let limit = table[i];
-        if limit <= last {
+    for limit in table {
+        if *limit <= last {
             return false;
         }
-        if MOST_LIMIT < limit {
+        if MOST_LIMIT < *limit {
             return false;
         }
-        last = limit;
-        i += 1;
+        last = *limit;
     }
     true
 }
@@ -44,19 +35,19 @@ fn table_ok(table: &[u32]) -> bool
     is_rising(table)
 }
 
-// The limit at a place of the table, counted from 1.
-pub fn load(table: &[u32], kind: u32) -> Loaded
+// The demand limit in W at a place of the table, counted from 1.
+pub fn load(table: &[u32], kind: u32) -> Result<u32, Refusal>
     ensures { result ≡ load_answer table.now kind }
 {
     if !table_ok(table) {
-        return Loaded::Refused(13);
+        return Err(Refusal::WrongLimits);
     }
     if kind < 1 {
-        return Loaded::Refused(1);
+        return Err(Refusal::OutsideBounds);
     }
     let place = kind as usize;
     if table.len() < place {
-        return Loaded::Refused(1);
+        return Err(Refusal::OutsideBounds);
     }
-    Loaded::Limit(table[place - 1])
+    Ok(table[place - 1])
 }

@@ -3,11 +3,11 @@ ghost use Rattle.std.specs.Prelude.{true, false, ◌≡◌, ◌+◌, ◌<◌, le
 ghost use Rattle.rules.specs.Opening.{slot_count};
 ghost use Rattle.rules.specs.Tests.{good_at};
 ghost use Rattle.rules.specs.Filling.{is_outage_zero, is_agreed, in_run, run_before, floor_over, line_value};
-ghost use Rattle.rules.specs.Lent.{lent_slots};
+ghost use Rattle.rules.specs.Lent.{slots_in};
 ghost use Rattle.rules.specs.Inner.Lent.{Fitted};
 ghost use Rattle.rules.specs.Inner.Walks.{bare_line, line_at, line_before, length_within, Drawn};
 
-use crate::{Head, MOST_MINUTES, outage, tests};
+use crate::{Head, MOST_MINUTES, Slots, outage, tests};
 
 // A slot's place j in its run and, where the line fills the run, its length g and the values l and r beside it; a slot in no run
 // has place 0.
@@ -24,7 +24,7 @@ pub fn bare(place: u32) -> StraightLine
     ensures { result ≡ bare_line place }
 {
     StraightLine {
-        place: place,
+        place,
         length: 0,
         left: 0,
         right: 0,
@@ -56,70 +56,54 @@ pub fn line_value(line: StraightLine) -> u32
 }
 
 // The slots of the run that begins at slot `at`, looked for up to two hours on; 0 where no good slot follows it there.
-fn length_within(
-    head: Head,
-    values: &[u32],
-    versions: &[u32],
-    statuses: &[u8],
-    agreed_versions: &[u32],
-    at: usize,
-) -> usize
-    requires { let s = lent_slots values.now versions.now statuses.now in
+fn length_within(head: Head, slots: &Slots<'_>, agreed_versions: &[u32], at: usize) -> usize
+    requires { let s = slots_in slots.now in
         Fitted head s
         × (length agreed_versions.now ≡ slot_count head)
         × (at < slot_count head)
         × (in_run head s agreed_versions.now at ≡ true) }
-    ensures { let s = lent_slots values.now versions.now statuses.now in
+    ensures { let s = slots_in slots.now in
         result ≡ length_within head s agreed_versions.now at }
 {
     let most = (MOST_MINUTES / head.interval) as usize;
-    let mut k: usize = 1;
-    while k <= most {
+    for k in 1..=most {
         let next = at + k;
-        if values.len() <= next {
+        if slots.values.len() <= next {
             return 0;
         }
-        if tests::is_good(head, values, versions, statuses, next) {
+        if tests::is_good(head, slots, next) {
             return k;
         }
         if 0 < agreed_versions[next] {
             return 0;
         }
         // the slot before lies in the run, so it is not zeroed
-        if outage::outage_zero(versions, statuses, next, false) {
+        if outage::outage_zero(slots.versions, slots.statuses, next, false) {
             return 0;
         }
-        k += 1;
     }
     0
 }
 
 // The line at the first slot of a run.
-fn begin(
-    head: Head,
-    values: &[u32],
-    versions: &[u32],
-    statuses: &[u8],
-    agreed_versions: &[u32],
-    at: usize,
-) -> StraightLine
-    requires { let s = lent_slots values.now versions.now statuses.now in
+fn begin(head: Head, slots: &Slots<'_>, agreed_versions: &[u32], at: usize) -> StraightLine
+    requires { let s = slots_in slots.now in
         Fitted head s
         × (length agreed_versions.now ≡ slot_count head)
         × (at < slot_count head)
         × (in_run head s agreed_versions.now at ≡ true)
         × (run_before head s agreed_versions.now at ≡ 0) }
-    ensures { let s = lent_slots values.now versions.now statuses.now in
+    ensures { let s = slots_in slots.now in
         result ≡ line_at head s agreed_versions.now at }
 {
     if at < 1 {
         return bare(1);
     }
     let last = at - 1;
-    if !tests::is_good(head, values, versions, statuses, last) {
+    if !tests::is_good(head, slots, last) {
         return bare(1);
     }
-    let length = length_within(head, values, versions, statuses, agreed_versions, at);
+    let length = length_within(head, slots, agreed_versions, at);
     if length == 0 {
         return bare(1);
     }
@@ -127,8 +111,8 @@ fn begin(
     StraightLine {
         place: 1,
         length: length as u32,
-        left: values[last],
-        right: values[after],
+        left: slots.values[last],
+        right: slots.values[after],
     }
 }
 
@@ -136,15 +120,13 @@ fn begin(
 // applies.
 pub fn line_unagreed(
     head: Head,
-    values: &[u32],
-    versions: &[u32],
-    statuses: &[u8],
+    slots: &Slots<'_>,
     agreed_versions: &[u32],
     at: usize,
     outage: bool,
     before: StraightLine,
 ) -> StraightLine
-    requires { let s = lent_slots values.now versions.now statuses.now in
+    requires { let s = slots_in slots.now in
         Fitted head s
         × (length agreed_versions.now ≡ slot_count head)
         × (at < slot_count head)
@@ -152,56 +134,42 @@ pub fn line_unagreed(
         × (is_agreed agreed_versions.now at ≡ false)
         × (outage ≡ is_outage_zero head s at)
         × (before ≡ line_before head s agreed_versions.now at) }
-    ensures { let s = lent_slots values.now versions.now statuses.now in
+    ensures { let s = slots_in slots.now in
         result ≡ line_at head s agreed_versions.now at }
 {
     if outage {
         return bare(0);
     }
     if before.place == 0 {
-        return begin(head, values, versions, statuses, agreed_versions, at);
+        return begin(head, slots, agreed_versions, at);
     }
-    let place = before.place + 1;
     StraightLine {
-        place: place,
-        length: before.length,
-        left: before.left,
-        right: before.right,
+        place: before.place + 1,
+        ..before
     }
 }
 
 // The line at slot `at`, which has a cause.
 pub fn line_on(
     head: Head,
-    values: &[u32],
-    versions: &[u32],
-    statuses: &[u8],
+    slots: &Slots<'_>,
     agreed_versions: &[u32],
     at: usize,
     outage: bool,
     before: StraightLine,
 ) -> StraightLine
-    requires { let s = lent_slots values.now versions.now statuses.now in
+    requires { let s = slots_in slots.now in
         Fitted head s
         × (length agreed_versions.now ≡ slot_count head)
         × (at < slot_count head)
         × (good_at head s at ≡ false)
         × (outage ≡ is_outage_zero head s at)
         × (before ≡ line_before head s agreed_versions.now at) }
-    ensures { let s = lent_slots values.now versions.now statuses.now in
+    ensures { let s = slots_in slots.now in
         result ≡ line_at head s agreed_versions.now at }
 {
     if 0 < agreed_versions[at] {
         return bare(0);
     }
-    line_unagreed(
-        head,
-        values,
-        versions,
-        statuses,
-        agreed_versions,
-        at,
-        outage,
-        before,
-    )
+    line_unagreed(head, slots, agreed_versions, at, outage, before)
 }

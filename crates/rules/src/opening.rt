@@ -18,13 +18,7 @@ pub struct Day {
 pub fn is_interval(interval: u32) -> bool
     ensures { result ≡ interval_ok interval }
 {
-    if interval == 5 {
-        return true;
-    }
-    if interval == 15 {
-        return true;
-    }
-    interval == 30
+    matches!(interval, 5 | 15 | 30)
 }
 
 // The last day is not after 2099-12-31: 400 days from any day before 2098 end in time.
@@ -86,21 +80,19 @@ pub fn day_with(head: Head, slot: usize) -> Day
     requires { head_ok head ≡ true }
     ensures { (result.number ≡ slot / slots_per_day head) × (result.slots ≡ slots_per_day head) }
 {
-    if head.interval == 30 {
-        return Day {
+    match head.interval {
+        30 => Day {
             number: slot / 48,
             slots: 48,
-        };
-    }
-    if head.interval == 15 {
-        return Day {
+        },
+        15 => Day {
             number: slot / 96,
             slots: 96,
-        };
-    }
-    Day {
-        number: slot / 288,
-        slots: 288,
+        },
+        _ => Day {
+            number: slot / 288,
+            slots: 288,
+        },
     }
 }
 

@@ -10,12 +10,10 @@ fn outage_after(versions: &[u32], statuses: &[u8], start: usize) -> bool
     requires { (length statuses.now ≡ length versions.now) × (start ≤ length versions.now) }
     ensures { result ≡ outage_after versions.now statuses.now start (length versions.now - start) }
 {
-    let mut j = start;
-    while j < versions.len() {
+    for j in start..versions.len() {
         if versions[j] != 0 {
             return tests::outage_bit(statuses[j]);
         }
-        j += 1;
     }
     false
 }

@@ -25,7 +25,7 @@ pub fn first() -> Pass
         line: linear::bare(0),
     };
     Pass {
-        walk: walk,
+        walk,
         stretch: stretch::unscaled_to(0),
     }
 }

@@ -16,7 +16,6 @@ pub fn range_of(g: u32, u: u16, v: u16) -> Range
     requires { g < dial_modulus }
     ensures { result ≡ range_of g u v }
 {
-    let down = u as u32;
     let highest = g + (v as u32);
     if highest >= DIAL_MODULUS {
         return Range {
@@ -24,15 +23,9 @@ pub fn range_of(g: u32, u: u16, v: u16) -> Range
             highest: highest - DIAL_MODULUS,
         };
     }
-    if g <= down {
-        return Range {
-            lowest: 0,
-            highest: highest,
-        };
-    }
     Range {
-        lowest: g - down,
-        highest: highest,
+        lowest: g.saturating_sub(u as u32),
+        highest,
     }
 }
 
@@ -51,22 +44,11 @@ pub fn least_in(range: Range, v: u64) -> u64
     highest
 }
 
-// How far `a` lies above `b`.
-fn above(a: u64, b: u64) -> u64
-    ensures { result ≡ a - b }
-{
-    if a <= b {
-        return 0;
-    }
-    a - b
-}
-
 // Some advance in the range is within the tolerance of `v`.
 pub fn is_near(range: Range, v: u64, tolerance: u64) -> bool
     ensures { result ≡ is_near range v tolerance }
 {
-    if above(range.lowest as u64, v) > tolerance {
-        return false;
-    }
-    above(v, range.highest as u64) <= tolerance
+    let lowest = range.lowest as u64;
+    let highest = range.highest as u64;
+    lowest.saturating_sub(v) <= tolerance && v.saturating_sub(highest) <= tolerance
 }

@@ -3,7 +3,7 @@ ghost use Rattle.std.specs.Prelude.{◌≡◌, ◌+◌, ◌-◌, ◌^◌, ◌<�
 ghost use Rattle.base.specs.Numbers.{dial_modulus};
 ghost use Rattle.rules.specs.Opening.{slot_count};
 ghost use Rattle.rules.specs.Spans.{is_s, advance, state_by, share};
-ghost use Rattle.rules.specs.Lent.{lent_slots, lent_agreed};
+ghost use Rattle.rules.specs.Lent.{slots_in, agreed_in};
 ghost use Rattle.rules.specs.Inner.Lent.{Lent, Settled, Dialled, Widths};
 ghost use Rattle.rules.specs.Inner.Walks.{walk_at};
 ghost use Rattle.rules.specs.Numbers.{most_slots};
@@ -11,7 +11,7 @@ ghost use Rattle.rules.specs.Inner.Summaries.{summary_of, actual_added, added_to
 
 use crate::range::Range;
 use crate::walk::Walk;
-use crate::{Head, Outcome, Quality, direct, filling, linear, outage, range};
+use crate::{Agreed, Head, Outcome, Quality, Slots, direct, filling, linear, outage, range};
 use base::DIAL_MODULUS;
 
 // V, the sum and the number of the shapes, whether a slot is N, whether one is S.
@@ -55,10 +55,7 @@ fn add_actual(sum: Summary, value: u64) -> Summary
 {
     Summary {
         actual: sum.actual + value,
-        shapes: sum.shapes,
-        count: sum.count,
-        hole: sum.hole,
-        filled: sum.filled,
+        ..sum
     }
 }
 
@@ -68,46 +65,35 @@ fn add(sum: Summary, slot: Outcome, shape: u64) -> Summary
     ensures { result ≡ added_to sum slot shape }
 {
     let value = slot.value as u64;
-    let quality = slot.quality;
-    match quality {
+    match slot.quality {
         Quality::A => add_actual(sum, value),
         Quality::S => Summary {
-            actual: sum.actual,
             shapes: sum.shapes + shape,
             count: sum.count + 1,
-            hole: sum.hole,
             filled: true,
+            ..sum
         },
         Quality::F => add_actual(sum, value),
-        Quality::N => Summary {
-            actual: sum.actual,
-            shapes: sum.shapes,
-            count: sum.count,
-            hole: true,
-            filled: sum.filled,
-        },
+        Quality::N => Summary { hole: true, ..sum },
     }
 }
 
 // The sums of `count` slots from the slot of `first`.
 pub fn summarise(
     head: Head,
-    values: &[u32],
-    versions: &[u32],
-    statuses: &[u8],
+    slots: &Slots<'_>,
     holidays: &[u8],
-    agreed: &[u32],
-    agreed_versions: &[u32],
+    agreed: &Agreed<'_>,
     first: Walk,
     count: usize,
 ) -> Summary
-    requires { let s = lent_slots values.now versions.now statuses.now in
+    requires { let s = slots_in slots.now in
         Lent head s holidays.now
-        × Settled head (lent_agreed agreed.now agreed_versions.now)
+        × Settled head (agreed_in agreed.now)
         × (first.at + count ≤ slot_count head)
-        × (first ≡ walk_at head s agreed_versions.now first.at) }
-    ensures { let s = lent_slots values.now versions.now statuses.now in
-        let a = lent_agreed agreed.now agreed_versions.now in
+        × (first ≡ walk_at head s (agreed_in agreed.now).versions first.at) }
+    ensures { let s = slots_in slots.now in
+        let a = agreed_in agreed.now in
         result ≡ summary_of head s a holidays.now first.at count }
 {
     let mut sum = Summary {
@@ -122,39 +108,19 @@ pub fn summarise(
     let mut outage = first.outage;
     let mut line = first.line;
     let mut k = 0;
+    // no `for`: how far the slots are direct is found in each turn
     while k < count {
         let at = start + k;
-        let run = direct::add_up(
-            head,
-            values,
-            versions,
-            statuses,
-            agreed,
-            agreed_versions,
-            at,
-            to,
-            outage,
-        );
+        let run = direct::add_up(head, slots, agreed, at, to, outage);
         if at < run.end {
             outage = run.outage;
             line = linear::bare(0);
             sum = add_actual(sum, run.sum);
             k = run.end - start;
         } else {
-            outage = outage::outage_zero(versions, statuses, at, outage);
-            line = linear::line_unagreed(
-                head,
-                values,
-                versions,
-                statuses,
-                agreed_versions,
-                at,
-                outage,
-                line,
-            );
-            let shaped = filling::unscaled(
-                head, values, versions, statuses, holidays, at, outage, line,
-            );
+            outage = outage::outage_zero(slots.versions, slots.statuses, at, outage);
+            line = linear::line_unagreed(head, slots, agreed.versions, at, outage, line);
+            let shaped = filling::unscaled(head, slots, holidays, at, outage, line);
             sum = add(sum, shaped.outcome, shaped.shape);
             k += 1;
         }
@@ -210,7 +176,7 @@ pub fn compare(
     let range = range::range_of(advance, widths[first], widths[last]);
     let r = range::least_in(range, sum.actual);
     Compared {
-        range: range,
+        range,
         advance: r,
         state: state_of(sum, range, r, head.tolerance as u64),
     }
@@ -235,12 +201,7 @@ fn new_value(t: u64, p: u64, c: u64, e: u64) -> u32
 pub fn is_substituted(quality: Quality) -> bool
     ensures { result ≡ is_s quality }
 {
-    match quality {
-        Quality::A => false,
-        Quality::S => true,
-        Quality::F => false,
-        Quality::N => false,
-    }
+    matches!(quality, Quality::S)
 }
 
 // The scaling at the first slot of a span.
@@ -272,14 +233,6 @@ pub fn scale(shape: u64, by: Scaling) -> Scaled
     let e = shape + by.extra;
     let passed = by.passed + e;
     let value = new_value(by.t, by.passed, passed, by.whole);
-    let next = Scaling {
-        t: by.t,
-        whole: by.whole,
-        extra: by.extra,
-        passed: passed,
-    };
-    Scaled {
-        value: value,
-        next: next,
-    }
+    let next = Scaling { passed, ..by };
+    Scaled { value, next }
 }

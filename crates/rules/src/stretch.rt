@@ -1,28 +1,20 @@
 // The span that a slot lies in, or the stretch outside spans (01, Spans).
-ghost use Rattle.std.specs.Prelude.{[], ◌≡◌, ◌≤◌};
-ghost use Rattle.rules.specs.declared.stretch.Begins.TheVariants.{Nothing};
+ghost use Rattle.std.specs.Prelude.{None, ◌≡◌, ◌≤◌};
 ghost use Rattle.rules.specs.Spans.{span_of};
-ghost use Rattle.rules.specs.Lent.{lent_slots, lent_agreed, lent_cells, cells};
+ghost use Rattle.rules.specs.Lent.{slots_in, agreed_in, cells_in};
 ghost use Rattle.rules.specs.Inner.Lent.{Lent, Settled, Dialled, Widths, Whole};
 ghost use Rattle.rules.specs.Inner.Stretches.{unscaled_to, span_stretch, stretch_by, stretch_from, stretch_at, begins_with, begins_at};
 ghost use Rattle.rules.specs.Inner.Stretches.{fit_outcome, fit_next, Scalable, Starts, Before};
 
-use crate::readings::Next;
 use crate::spans::{Scaling, Summary};
 use crate::walk::Walk;
-use crate::{Head, Outcome, Quality, Span, opening, readings, spans};
+use crate::{Cells, Head, Outcome, Quality, Span, opening, readings, spans};
 
 // Where the stretch ends, and how it is scaled.
 #[derive(Clone, Copy)]
 pub struct Stretch {
     pub until: usize,
     pub by: Scaling,
-}
-
-#[derive(Clone, Copy)]
-pub enum Begins {
-    Span(Span),
-    Nothing,
 }
 
 // A span's outcome, and the span before its first slot.
@@ -35,7 +27,7 @@ pub struct Met {
 // The span that begins at a slot, and the stretch that the slot lies in.
 #[derive(Clone, Copy)]
 pub struct Entered {
-    pub begins: Begins,
+    pub begins: Option<Span>,
     pub stretch: Stretch,
 }
 
@@ -56,10 +48,7 @@ pub fn unscaled_to(until: usize) -> Stretch
         extra: 0,
         passed: 0,
     };
-    Stretch {
-        until: until,
-        by: by,
-    }
+    Stretch { until, by }
 }
 
 fn stretch_by(until: usize, state: u8, sum: Summary, r: u64) -> Stretch
@@ -70,50 +59,32 @@ fn stretch_by(until: usize, state: u8, sum: Summary, r: u64) -> Stretch
         return unscaled_to(until);
     }
     Stretch {
-        until: until,
+        until,
         by: spans::scaling_of(sum, r),
     }
 }
 
 // The span between two boundaries, where the pass stands at its first slot.
-fn meet(
-    head: Head,
-    values: &[u32],
-    versions: &[u32],
-    statuses: &[u8],
-    holidays: &[u8],
-    readings: &[u32],
-    agreed: &[u32],
-    agreed_versions: &[u32],
-    widths: &[u16],
-    walk: Walk,
-    first: usize,
-    last: usize,
-) -> Met
-    requires { let s = lent_slots values.now versions.now statuses.now in
-        Lent head s holidays.now
-        × Dialled head readings.now
-        × Settled head (lent_agreed agreed.now agreed_versions.now)
-        × Starts head s agreed_versions.now walk first last
-        × Widths head widths.now }
-    ensures { let s = lent_slots values.now versions.now statuses.now in
-        let a = lent_agreed agreed.now agreed_versions.now in
-        let b = cells s holidays.now readings.now [] a widths.now in
+fn meet(head: Head, cells: &Cells<'_>, walk: Walk, first: usize, last: usize) -> Met
+    requires { let b = cells_in cells.now in
+        Lent head b.slots b.holidays
+        × Dialled head b.readings
+        × Settled head b.agreed
+        × Starts head b.slots b.agreed.versions walk first last
+        × Widths head b.widths }
+    ensures { let b = cells_in cells.now in
         (result.span ≡ span_of head b first last) × (result.stretch ≡ span_stretch head b first last walk.at) }
 {
     let day = opening::slots_per_day(head);
     let sum = spans::summarise(
         head,
-        values,
-        versions,
-        statuses,
-        holidays,
-        agreed,
-        agreed_versions,
+        &cells.slots,
+        cells.holidays,
+        &cells.agreed,
         walk,
         (last - first) * day,
     );
-    let found = spans::compare(head, readings, widths, first, last, sum);
+    let found = spans::compare(head, cells.readings, cells.widths, first, last, sum);
     let range = found.range;
     let span = Span {
         first: first as u32,
@@ -123,89 +94,43 @@ fn meet(
         state: found.state,
     };
     Met {
-        span: span,
+        span,
         stretch: stretch_by(last * day, found.state, sum, found.advance),
     }
 }
 
 // No span begins at the slot.
 fn no_span(stretch: Stretch) -> Entered
-    ensures { (result.begins ≡ Nothing) × (result.stretch ≡ stretch) }
+    ensures { (result.begins ≡ None) × (result.stretch ≡ stretch) }
 {
     Entered {
-        begins: Begins::Nothing,
-        stretch: stretch,
+        begins: None,
+        stretch,
     }
 }
 
 // The stretch that begins at boundary `day`, where a pass stands, and ends at boundary `last`.
-fn reach(
-    head: Head,
-    values: &[u32],
-    versions: &[u32],
-    statuses: &[u8],
-    holidays: &[u8],
-    readings: &[u32],
-    read_versions: &[u32],
-    agreed: &[u32],
-    agreed_versions: &[u32],
-    widths: &[u16],
-    walk: Walk,
-    day: usize,
-    last: usize,
-) -> Entered
-    requires { let b = lent_cells values.now versions.now statuses.now holidays.now readings.now read_versions.now
-        agreed.now agreed_versions.now widths.now in
-        Whole head b × Starts head (lent_slots values.now versions.now statuses.now) agreed_versions.now walk day last }
-    ensures { let b = lent_cells values.now versions.now statuses.now holidays.now readings.now read_versions.now
-        agreed.now agreed_versions.now widths.now in
+fn reach(head: Head, cells: &Cells<'_>, walk: Walk, day: usize, last: usize) -> Entered
+    requires { let b = cells_in cells.now in
+        Whole head b × Starts head b.slots b.agreed.versions walk day last }
+    ensures { let b = cells_in cells.now in
         (result.begins ≡ begins_with head b day last) × (result.stretch ≡ stretch_from head b day last walk.at) }
 {
-    if read_versions[day] == 0 {
+    if cells.read_versions[day] == 0 {
         return no_span(unscaled_to(last * opening::slots_per_day(head)));
     }
-    let met = meet(
-        head,
-        values,
-        versions,
-        statuses,
-        holidays,
-        readings,
-        agreed,
-        agreed_versions,
-        widths,
-        walk,
-        day,
-        last,
-    );
-    let span = met.span;
-    let stretch = met.stretch;
+    let met = meet(head, cells, walk, day, last);
     Entered {
-        begins: Begins::Span(span),
-        stretch: stretch,
+        begins: Some(met.span),
+        stretch: met.stretch,
     }
 }
 
 // The stretch that a pass's slot lies in. `carried` is that of the slot before.
-pub fn enter(
-    head: Head,
-    values: &[u32],
-    versions: &[u32],
-    statuses: &[u8],
-    holidays: &[u8],
-    readings: &[u32],
-    read_versions: &[u32],
-    agreed: &[u32],
-    agreed_versions: &[u32],
-    widths: &[u16],
-    walk: Walk,
-    carried: Stretch,
-) -> Entered
-    requires { let b = lent_cells values.now versions.now statuses.now holidays.now readings.now read_versions.now
-        agreed.now agreed_versions.now widths.now in
+pub fn enter(head: Head, cells: &Cells<'_>, walk: Walk, carried: Stretch) -> Entered
+    requires { let b = cells_in cells.now in
         Whole head b × Before head b walk carried }
-    ensures { let b = lent_cells values.now versions.now statuses.now holidays.now readings.now read_versions.now
-        agreed.now agreed_versions.now widths.now in
+    ensures { let b = cells_in cells.now in
         (result.begins ≡ begins_at head b walk.at) × (result.stretch ≡ stretch_at head b walk.at) }
 {
     let at = walk.at;
@@ -213,24 +138,9 @@ pub fn enter(
         return no_span(carried);
     }
     let day = at / opening::slots_per_day(head);
-    let next = readings::next_read(read_versions, day + 1);
-    match next {
-        Next::At(last) => reach(
-            head,
-            values,
-            versions,
-            statuses,
-            holidays,
-            readings,
-            read_versions,
-            agreed,
-            agreed_versions,
-            widths,
-            walk,
-            day,
-            last,
-        ),
-        Next::Nowhere => no_span(unscaled_to(opening::slot_count(head))),
+    match readings::next_read(cells.read_versions, day + 1) {
+        Some(last) => reach(head, cells, walk, day, last),
+        None => no_span(unscaled_to(opening::slot_count(head))),
     }
 }
 
@@ -246,8 +156,7 @@ pub fn fit(slot: Outcome, shape: u64, here: Stretch) -> InStretch
             next: here,
         };
     }
-    let quality = slot.quality;
-    if !spans::is_substituted(quality) {
+    if !spans::is_substituted(slot.quality) {
         return InStretch {
             outcome: slot,
             next: here,
@@ -259,13 +168,9 @@ pub fn fit(slot: Outcome, shape: u64, here: Stretch) -> InStretch
         quality: Quality::S,
         method: slot.method + 16,
     };
-    let rest = scaled.next;
     let next = Stretch {
-        until: here.until,
-        by: rest,
+        by: scaled.next,
+        ..here
     };
-    InStretch {
-        outcome: outcome,
-        next: next,
-    }
+    InStretch { outcome, next }
 }

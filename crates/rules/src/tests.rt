@@ -1,66 +1,55 @@
 // The tests of a slot (01, Tests of a slot).
 ghost use Rattle.std.specs.Prelude.{◌≡◌, ◌<◌};
 ghost use Rattle.rules.specs.Opening.{slot_count};
-ghost use Rattle.rules.specs.Tests.{cause_of, is_good, good_at, outage_bit};
-ghost use Rattle.rules.specs.Lent.{lent_slots};
+ghost use Rattle.rules.specs.Tests.{cause_of, good_at, outage_bit};
+ghost use Rattle.rules.specs.Lent.{slots_in};
 ghost use Rattle.rules.specs.Inner.Lent.{Fitted};
 
-use crate::Head;
+use crate::{Head, Slots};
 
-// The first test that applies to a slot; nothing, where the slot is good.
+// A test that applies to a slot.
 #[derive(Clone, Copy)]
 pub enum Cause {
-    Nothing,
     Gap,
     TimeChange,
     Partial,
     Demand,
 }
 
-pub fn cause_of(limit: u32, interval: u32, version: u32, value: u32, status: u8) -> Cause
+// The first test that applies; none, where the slot is good.
+pub fn cause_of(limit: u32, interval: u32, version: u32, value: u32, status: u8) -> Option<Cause>
     ensures { result ≡ cause_of limit interval version value status }
 {
     if version == 0 {
-        return Cause::Gap;
+        return Some(Cause::Gap);
     }
     if status % 2 == 1 {
-        return Cause::TimeChange;
+        return Some(Cause::TimeChange);
     }
     if status / 4 % 2 == 1 {
-        return Cause::Partial;
+        return Some(Cause::Partial);
     }
     if (limit as u64) * (interval as u64) < (value as u64) * 60 {
-        return Cause::Demand;
+        return Some(Cause::Demand);
     }
-    Cause::Nothing
+    None
 }
 
-fn is_nothing(found: Cause) -> bool
-    ensures { result ≡ is_good found }
+pub fn is_good(head: Head, slots: &Slots<'_>, at: usize) -> bool
+    requires { Fitted head (slots_in slots.now) × (at < slot_count head) }
+    ensures { result ≡ good_at head (slots_in slots.now) at }
 {
-    match found {
-        Cause::Nothing => true,
-        Cause::Gap => false,
-        Cause::TimeChange => false,
-        Cause::Partial => false,
-        Cause::Demand => false,
-    }
-}
-
-pub fn is_good(head: Head, values: &[u32], versions: &[u32], statuses: &[u8], at: usize) -> bool
-    requires { Fitted head (lent_slots values.now versions.now statuses.now) × (at < slot_count head) }
-    ensures { result ≡ good_at head (lent_slots values.now versions.now statuses.now) at }
-{
-    if versions[at] == 0 {
+    if slots.versions[at] == 0 {
         return false;
     }
-    is_nothing(cause_of(
+    cause_of(
         head.limit,
         head.interval,
-        versions[at],
-        values[at],
-        statuses[at],
-    ))
+        slots.versions[at],
+        slots.values[at],
+        slots.statuses[at],
+    )
+    .is_none()
 }
 
 // The outage bit of a status.

@@ -2,12 +2,12 @@
 ghost use Rattle.std.specs.Prelude.{◌≡◌, ◌+◌, ◌<◌};
 ghost use Rattle.rules.specs.Opening.{slot_count};
 ghost use Rattle.rules.specs.Filling.{filled_at, shape_at};
-ghost use Rattle.rules.specs.Lent.{lent_slots, lent_agreed};
+ghost use Rattle.rules.specs.Lent.{slots_in, agreed_in};
 ghost use Rattle.rules.specs.Inner.Lent.{Lent, Settled};
 ghost use Rattle.rules.specs.Inner.Walks.{walk_at};
 
 use crate::linear::StraightLine;
-use crate::{Head, Outcome, filling, linear, outage, tests};
+use crate::{Agreed, Head, Outcome, Slots, filling, linear, outage, tests};
 
 // What is known at slot `at` of the slot before it: whether outage zero applies to it, and its line.
 #[derive(Clone, Copy)]
@@ -28,63 +28,46 @@ pub struct Filled {
 // One slot of the walk.
 pub fn fill_at(
     head: Head,
-    values: &[u32],
-    versions: &[u32],
-    statuses: &[u8],
+    slots: &Slots<'_>,
     holidays: &[u8],
-    agreed: &[u32],
-    agreed_versions: &[u32],
+    agreed: &Agreed<'_>,
     walk: Walk,
 ) -> Filled
-    requires { let s = lent_slots values.now versions.now statuses.now in
+    requires { let s = slots_in slots.now in
         Lent head s holidays.now
-        × Settled head (lent_agreed agreed.now agreed_versions.now)
+        × Settled head (agreed_in agreed.now)
         × (walk.at < slot_count head)
-        × (walk ≡ walk_at head s agreed_versions.now walk.at) }
-    ensures { let s = lent_slots values.now versions.now statuses.now in
-        let a = lent_agreed agreed.now agreed_versions.now in
+        × (walk ≡ walk_at head s (agreed_in agreed.now).versions walk.at) }
+    ensures { let s = slots_in slots.now in
+        let a = agreed_in agreed.now in
         (result.outcome ≡ filled_at head s a holidays.now walk.at)
         × (result.shape ≡ shape_at head s a holidays.now walk.at)
         × (result.next ≡ walk_at head s a.versions (walk.at + 1)) }
 {
     let at = walk.at;
     let on = at + 1;
-    if tests::is_good(head, values, versions, statuses, at) {
+    if tests::is_good(head, slots, at) {
         let next = Walk {
             at: on,
             outage: false,
             line: linear::bare(0),
         };
         return Filled {
-            outcome: filling::delivered(values[at]),
+            outcome: filling::delivered(slots.values[at]),
             shape: 0,
-            next: next,
+            next,
         };
     }
-    let outage = outage::outage_zero(versions, statuses, at, walk.outage);
-    let carried = walk.line;
-    let lined = filling::fill_cause(
-        head,
-        values,
-        versions,
-        statuses,
-        holidays,
-        agreed,
-        agreed_versions,
-        at,
-        outage,
-        carried,
-    );
-    let outcome = lined.outcome;
-    let line = lined.line;
+    let outage = outage::outage_zero(slots.versions, slots.statuses, at, walk.outage);
+    let lined = filling::fill_cause(head, slots, holidays, agreed, at, outage, walk.line);
     let next = Walk {
         at: on,
-        outage: outage,
-        line: line,
+        outage,
+        line: lined.line,
     };
     Filled {
-        outcome: outcome,
+        outcome: lined.outcome,
         shape: lined.shape,
-        next: next,
+        next,
     }
 }

@@ -25,15 +25,9 @@ fn way_within(day: usize, first: usize, farthest: usize) -> Way
     requires { (first ≤ 7) × (day < 400) × (farthest < 400) }
     ensures { (result.first ≡ first) × InBook result.first farthest day result.weeks }
 {
-    if day < farthest {
-        return Way {
-            first: first,
-            weeks: (day + 7 - first) / 7,
-        };
-    }
     Way {
-        first: first,
-        weeks: (farthest + 7 - first) / 7,
+        first,
+        weeks: (day.min(farthest) + 7 - first) / 7,
     }
 }
 
@@ -67,12 +61,13 @@ pub fn pass_gaps(versions: &[u32], from: usize, week: usize, weeks: usize) -> Pl
 {
     let mut at = from;
     let mut left = weeks;
+    // no `for`: four weeks a turn, and fewer are left over
     while 4 <= left {
         if !are_gaps(versions, at, week) {
-            return Place { at: at, left: left };
+            return Place { at, left };
         }
         at -= 4 * week;
         left -= 4;
     }
-    Place { at: at, left: left }
+    Place { at, left }
 }

@@ -1,8 +1,7 @@
 // The conversions for the chargers' host (02, W9).
 ghost use Rattle.std.specs.Prelude.{◌≡◌};
-ghost use Rattle.base.specs.Refusals.{code_of};
+ghost use Rattle.base.specs.Refusals.{code_of, number_code};
 ghost use Rattle.dial.specs.Dial.{pack_answer, pack_after, unpack_answer};
-ghost use Rattle.host.specs.Conversions.{unpack_code};
 
 #[unsafe(no_mangle)]
 pub extern "C" fn sawmauve_pack(reading: u32, bytes: &mut [u8]) -> u32
@@ -14,7 +13,7 @@ pub extern "C" fn sawmauve_pack(reading: u32, bytes: &mut [u8]) -> u32
 
 #[unsafe(no_mangle)]
 pub extern "C" fn sawmauve_unpack(bytes: &[u8]) -> u32
-    ensures { result ≡ unpack_code (unpack_answer bytes.now) }
+    ensures { result ≡ number_code (unpack_answer bytes.now) }
 {
     host::chargers::sawmauve_unpack(bytes)
 }

@@ -1,9 +1,10 @@
 // A file written and read.
 ghost use Rattle.std.specs.Prelude.{◌≡◌, length};
+ghost use Rattle.base.specs.Refusals.{code_of, length_code};
 ghost use Rattle.book.specs.Lent.{lent_book};
 ghost use Rattle.publishing.specs.Publishing.{publish_answer, publish_after};
 ghost use Rattle.file.specs.Reader.{read_file, tables_part};
-ghost use Rattle.host.specs.Codes.{head_of, publish_code, read_code, read_answer, read_after};
+ghost use Rattle.host.specs.Codes.{head_of, read_answer, read_after};
 
 #[unsafe(no_mangle)]
 pub extern "C" fn sawmauve_publish(
@@ -29,7 +30,7 @@ pub extern "C" fn sawmauve_publish(
     ensures { let head = head_of year month day days interval limit tolerance in
         let book = lent_book values.now versions.now statuses.now holidays.now readings.now read_versions.now
         agreed.now agreed_versions.now counts.now widths.now in
-        (result ≡ publish_code (publish_answer head book out.old))
+        (result ≡ length_code (publish_answer head book out.old))
         × (out.new ≡ publish_after head book out.old) }
 {
     host::files::sawmauve_publish(
@@ -56,7 +57,7 @@ pub extern "C" fn sawmauve_publish(
 
 #[unsafe(no_mangle)]
 pub extern "C" fn sawmauve_check(bytes: &[u8]) -> u32
-    ensures { result ≡ read_code (read_file bytes.now) }
+    ensures { result ≡ code_of (read_file bytes.now) }
 {
     host::files::sawmauve_check(bytes)
 }

@@ -1,8 +1,9 @@
 // A file to the market (02, W8).
 ghost use Rattle.std.specs.Prelude.{◌≡◌};
+ghost use Rattle.base.specs.Refusals.{length_code};
 ghost use Rattle.market.specs.Fields.{lent_texts};
 ghost use Rattle.market.specs.Export.{export_answer, export_after};
-ghost use Rattle.host.specs.Market.{codes_of, exported_code};
+ghost use Rattle.host.specs.Market.{codes_of};
 
 #[unsafe(no_mangle)]
 pub extern "C" fn sawmauve_nem12(
@@ -28,7 +29,7 @@ pub extern "C" fn sawmauve_nem12(
     ensures { let given = lent_texts identifier.now from.now to.now configuration.now register.now suffix.now
         stream.now serial.now next_read.now reason.now created.now in
         let codes = codes_of two three five eighteen nineteen in
-        (result ≡ exported_code (export_answer file.now given codes out.old))
+        (result ≡ length_code (export_answer file.now given codes out.old))
         × (out.new ≡ export_after file.now given codes out.old) }
 {
     host::nem12::sawmauve_nem12(

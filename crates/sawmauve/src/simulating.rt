@@ -1,8 +1,9 @@
 // A simulated berth (02, W12).
 ghost use Rattle.std.specs.Prelude.{◌≡◌};
+ghost use Rattle.base.specs.Refusals.{code_of};
 ghost use Rattle.book.specs.Lent.{lent_book};
 ghost use Rattle.host.specs.Codes.{head_of};
-ghost use Rattle.questions.specs.Simulating.{host_answer, simulated_code, host_lists, host_bytes, host_report};
+ghost use Rattle.questions.specs.Simulating.{host_answer, host_lists, host_bytes, host_report};
 
 #[unsafe(no_mangle)]
 pub extern "C" fn sawmauve_simulate(
@@ -33,7 +34,7 @@ pub extern "C" fn sawmauve_simulate(
         agreed.old agreed_versions.old counts.old widths.old in
         let given = out.old in
         let told = report.old in
-        (result ≡ simulated_code (host_answer head seed loss book given told))
+        (result ≡ code_of (host_answer head seed loss book given told))
         × (lent_book values.new versions.new statuses.new holidays.new readings.new read_versions.new
         agreed.new agreed_versions.new counts.new widths.new
         ≡ host_lists head seed loss book given told)

@@ -1,11 +1,13 @@
 -- A table of a whole number of days: the code's tests of its length.
-use mathlib.Core.Bool.{true, false}
-use mathlib.Core.Path.{◌≡◌, sym}
+use mathlib.Core.Bool.{true, false, ◌&&◌}
+use mathlib.Core.Logic.{⊎_elim}
+use mathlib.Core.Path.{◌≡◌, sym, ◌∙◌}
 use Prim.Native.Nat.{ℕ, ◌+◌, ◌*◌, ◌/◌, ◌%◌, ◌≤◌, ◌<◌}
 use native.Mathlib.Nat.{add-zero, mul-one, mul_assoc, mul-mod_right, mul-le-mul_left, div-add-mod, le-div_iff_mul-le, div-lt_iff_lt-mul}
 use native.Mathlib.Omega.{arith}
-use borrow.Author.Tests.{eq-eqb, ne_eqb, eqb-true}
-use lib.Dec.{eqb}
+use borrow.Author.Tests.{eq-eqb, ne_eqb, eqb-true, eqb-false, leb-true, leb-false}
+use lib.Dec.{eqb, leb}
+use Rattle.base.proofs.Logic.{either}
 use Rattle.base.proofs.Sums.{any_none, any_some, any_place}
 use Rattle.strips.specs.Strips.{whole_days}
 
@@ -41,3 +43,14 @@ module _ (n t : ℕ) where
       let (days, l, m, q) = any_place (λ days. eqb t (6 * n * days)) 1 400 e in
       let s : t ≡ 6 * n * days = eqb-true t (6 * n * days) q in
       omega (arith, mul_assoc 6 n days)
+
+-- the tests of the code, one after the other
+pub tests : (n t : ℕ) → 0 < n → whole_days n t ≡ (eqb (t % (6 * n)) 0 && (leb (6 * n) t && leb t (400 * (6 * n))))
+tests n t z =
+    ⊎_elim
+    (λ e. ⊎_elim
+    (λ f. ⊎_elim
+    (λ g. whole_days_lem n t (omega arith) (eqb-true _ _ e) (leb-true _ _ f) (leb-true _ _ g) ∙ sym (rw (e, f, g)))
+    (λ g. over_400_days n t (leb-false _ _ g) ∙ sym (rw (e, f, g))) (either (leb t (400 * (6 * n)))))
+    (λ f. under_a_day n t (leb-false _ _ f) ∙ sym (rw (e, f))) (either (leb (6 * n) t)))
+    (λ e. part_of_a_day n t (eqb-false _ _ e) ∙ sym (rw e)) (either (eqb (t % (6 * n)) 0))

@@ -5,27 +5,38 @@ use Prim.Native.Nat.{ℕ, ◌+◌, ◌-◌, ◌*◌, ◌/◌, ◌%◌, ◌<◌}
 use native.Mathlib.Omega.{arith}
 use lib.Dec.{lit<}
 use lib.ListN.{length, get_or}
-use Rattle.strips.specs.declared.Way.{Way}
-use Rattle.strips.specs.declared.Way.TheVariants.{ToStrips, FromStrips}
 use Rattle.strips.specs.Strips.{slots_of, in_table, in_strips, stored_at, strips_of, value_at, day_earlier, difference_at, difference_in}
 use Rattle.strips.specs.Strips.{restored_value, restored_at, table_of}
-use Rattle.strips.specs.Inner.Laying.{record_of, stored_in, restored_in, slot_in, laid_of, Sized}
+use Rattle.strips.specs.Inner.Laying.{record_of, stored_in, restored_in, Sized}
 use Rattle.strips.proofs.Numbers.{number_cong, number_record, record_at}
 use Rattle.strips.proofs.Places.{strip_place, place_strip, filled_to, length_filled, filled_none, filled_before, filled_all}
 use Rattle.strips.proofs.Places.{filled_next}
 use Rattle.strips.proofs.Days.{earlier_cong, restored_next, restored_lt}
 
 -- strips d with the first i slots of a table
-abbrev strips_to : ℕ → List ℕ → List ℕ → ℕ → List ℕ
+abbrev pub strips_to : ℕ → List ℕ → List ℕ → ℕ → List ℕ
 strips_to n table d i =
     filled_to (λ p. p % slots_of table) (λ p. stored_at n table (p % slots_of table) (p / slots_of table)) d i
 
 -- a table d with the first i slots of strips
-abbrev table_to : ℕ → List ℕ → List ℕ → ℕ → List ℕ
+abbrev pub table_to : ℕ → List ℕ → List ℕ → ℕ → List ℕ
 table_to n strips d i = filled_to (λ p. p / 6) (λ p. restored_at n strips (p / 6) (p % 6)) d i
 
+-- nothing is written yet
+pub strips_none : (n : ℕ) (table d : List ℕ) → d ≡ strips_to n table d 0
+strips_none n table d = filled_none _ _ d
+
+pub table_none : (n : ℕ) (strips d : List ℕ) → d ≡ table_to n strips d 0
+table_none n strips d = filled_none _ _ d
+
+pub length_strips : (n : ℕ) (table d : List ℕ) (i : ℕ) → length (strips_to n table d i) ≡ length d
+length_strips n table d i = length_filled _ _ d i
+
+pub length_table : (n : ℕ) (strips d : List ℕ) (i : ℕ) → length (table_to n strips d i) ≡ length d
+length_table n strips d i = length_filled _ _ d i
+
 module _ (n : ℕ) (given d : List ℕ) (sized : Sized n given d) where
-  strips_next : (i : ℕ) → i < slots_of given → stored_in n given (strips_to n given d i) i ≡ strips_to n given d (i + 1)
+  pub strips_next : (i : ℕ) → i < slots_of given → stored_in n given (strips_to n given d i) i ≡ strips_to n given d (i + 1)
   unfolding stored_in
   strips_next i l =
       let count : ℕ = slots_of given in
@@ -48,7 +59,7 @@ module _ (n : ℕ) (given d : List ℕ) (sized : Sized n given d) where
                 ∙ ap (λ (s : ℕ). stored_at n given s (p / slots_of given)) (sym e),
           )
 
-  strips_all : (i : ℕ) → i ≡ slots_of given → strips_to n given d i ≡ strips_of n given
+  pub strips_all : (i : ℕ) → i ≡ slots_of given → strips_to n given d i ≡ strips_of n given
   unfolding strips_of
   strips_all i e =
       filled_all (λ p. p % slots_of given) (λ p. stored_at n given (p % slots_of given) (p / slots_of given)) d i
@@ -71,7 +82,7 @@ module _ (n : ℕ) (given d : List ℕ) (sized : Sized n given d) where
           filled_before (λ p. p / 6) (λ p. restored_at n given (p / 6) (p % 6)) d i (6 * j + k) (omega arith) (omega arith)
           ∙ ap₂ (restored_at n given) place byte
 
-  table_next : (i : ℕ) → i < slots_of given → restored_in n given (table_to n given d i) i ≡ table_to n given d (i + 1)
+  pub table_next : (i : ℕ) → i < slots_of given → restored_in n given (table_to n given d i) i ≡ table_to n given d (i + 1)
   unfolding restored_in
   table_next i l =
       let value : (day_earlier n (value_at (table_to n given d i)) i + difference_in given i) % 4_294_967_296 ≡ restored_value n given i =
@@ -85,31 +96,8 @@ module _ (n : ℕ) (given d : List ℕ) (sized : Sized n given d) where
         record_at (restored_value n given i) (in_strips given i) (p % 6) b ∙ ap (λ (s : ℕ). restored_at n given s (p % 6)) (sym e),
       )))
 
-  table_all : (i : ℕ) → i ≡ slots_of given → table_to n given d i ≡ table_of n given
+  pub table_all : (i : ℕ) → i ≡ slots_of given → table_to n given d i ≡ table_of n given
   unfolding table_of
   table_all i e =
       filled_all (λ p. p / 6) (λ p. restored_at n given (p / 6) (p % 6)) d i (λ p m. omega arith)
       ∙ (rw sized.room)
-
--- ---- Either way
-
-abbrev pub laid_to : Way → ℕ → List ℕ → List ℕ → ℕ → List ℕ
-laid_to ToStrips n given d i = strips_to n given d i
-laid_to FromStrips n given d i = table_to n given d i
-
-pub laid_none : (way : Way) (n : ℕ) (given d : List ℕ) → d ≡ laid_to way n given d 0
-laid_none ToStrips n given d = filled_none _ _ d
-laid_none FromStrips n given d = filled_none _ _ d
-
-pub length_laid : (way : Way) (n : ℕ) (given d : List ℕ) (i : ℕ) → length (laid_to way n given d i) ≡ length d
-length_laid ToStrips n given d i = length_filled _ _ d i
-length_laid FromStrips n given d i = length_filled _ _ d i
-
-module _ (n : ℕ) (given d : List ℕ) (sized : Sized n given d) where
-  pub laid_next : (way : Way) (i : ℕ) → i < slots_of given → slot_in way n given (laid_to way n given d i) i ≡ laid_to way n given d (i + 1)
-  laid_next ToStrips i l = strips_next n given d sized i l
-  laid_next FromStrips i l = table_next n given d sized i l
-
-  pub laid_all : (way : Way) (i : ℕ) → i ≡ slots_of given → laid_to way n given d i ≡ laid_of way n given
-  laid_all ToStrips i e = strips_all n given d sized i e
-  laid_all FromStrips i e = table_all n given d sized i e

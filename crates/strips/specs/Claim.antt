@@ -1,7 +1,6 @@
 -- "Any table of a whole number of days goes there and back, starting from either side." (02, W13)
-use Rattle.std.specs.Prelude.{true, List, ◌≡◌, ℕ, ◌<◌, length, get_or}
+use Rattle.std.specs.Prelude.{Ok, true, List, ◌≡◌, ℕ, ◌<◌, length, get_or}
 use Rattle.rules.specs.Opening.{interval_ok}
-use Rattle.base.specs.declared.Performed.TheVariants.{Done}
 use Rattle.strips.specs.Strips.{per_day, whole_days, laid_answer, to_strips_after, from_strips_after}
 
 -- what a list of bytes holds: nothing else is asked of a table or of strips
@@ -14,8 +13,8 @@ Call = ℕ → List ℕ → List ℕ → List ℕ
 
 -- both calls are accepted, and the second leaves what the first was given
 pub record Returned (first second : Call) (interval : ℕ) (given out back : List ℕ) : Type 0 where
-  pub accepted : laid_answer interval (length given) (length out) ≡ Done
-  pub accepted_back : laid_answer interval (length (first interval given out)) (length back) ≡ Done
+  pub accepted : laid_answer interval (length given) (length out) ≡ Ok tt
+  pub accepted_back : laid_answer interval (length (first interval given out)) (length back) ≡ Ok tt
   pub restored : second interval (first interval given out) back ≡ given
 
 -- of a whole number of days, into outputs as long

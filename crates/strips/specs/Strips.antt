@@ -1,10 +1,13 @@
 -- A slot table as six strips of differences, and the inverse (02, W13).
+use Rattle.std.specs.Prelude.{Result, Ok, Err}
 use Rattle.std.specs.Prelude.{Bool, cond, not, List, [], ◌∷◌, ℕ, suc, ◌+◌, ◌-◌, ◌*◌, ◌/◌, ◌%◌, ◌^◌, ltb, eqb, length, get_or}
 use Rattle.rules.specs.Numbers.{day_minutes, most_days}
+use Rattle.base.specs.declared.Refusal.{Refusal}
+use Rattle.base.specs.declared.Refusal.TheVariants.{OutsideBounds, WrongTable}
+use Rattle.base.specs.Refusals.{Rule, tested}
+use Rattle.base.specs.Refusals.Rule.{rule}
 use Rattle.base.specs.Lists.{every, any, sum, up_to}
 use Rattle.rules.specs.Opening.{interval_ok}
-use Rattle.base.specs.declared.Performed.{Performed}
-use Rattle.base.specs.declared.Performed.TheVariants.{Done, Refused}
 
 -- n: slots a day
 abbrev pub per_day : ℕ → ℕ
@@ -79,14 +82,17 @@ unfoldable pub lengths_ok : ℕ → ℕ → ℕ → Bool
 lengths_ok n table out = every (whole_days n table ∷ eqb out table ∷ [])
 
 -- what either call answers, by the lengths of what it is given and of its output: "22 .., after 1"
-unfoldable pub laid_answer : ℕ → ℕ → ℕ → Performed
-laid_answer interval table out =
-    cond (not (interval_ok interval)) (Refused 1) (cond (not (lengths_ok (per_day interval) table out)) (Refused 22) Done)
+abbrev pub laid_rules : ℕ → ℕ → ℕ → List Rule
+laid_rules interval table out =
+    rule OutsideBounds (not (interval_ok interval)) ∷ rule WrongTable (not (lengths_ok (per_day interval) table out)) ∷ []
+
+unfoldable pub laid_answer : ℕ → ℕ → ℕ → Result (Unit {0}) Refusal
+laid_answer interval table out = tested (laid_rules interval table out)
 
 -- a refusal changes no byte
-abbrev pub laid_in : Performed → List ℕ → List ℕ → List ℕ
-laid_in Done laid out = laid
-laid_in (Refused n) laid out = out
+abbrev pub laid_in : Result (Unit {0}) Refusal → List ℕ → List ℕ → List ℕ
+laid_in (Ok _) laid out = laid
+laid_in (Err r) laid out = out
 
 -- what either call leaves in its output, given what it lays there
 unfoldable pub laid_after : ℕ → List ℕ → List ℕ → List ℕ → List ℕ

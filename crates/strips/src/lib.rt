@@ -4,27 +4,20 @@
 mod records;
 
 ghost use Rattle.std.specs.Prelude.{◌≡◌, ◌*◌, ◌<◌, ◌≤◌, length};
-ghost use Rattle.strips.specs.Strips.{per_day, lengths_ok, laid_answer, laid_after, to_strips_after, from_strips_after};
-ghost use Rattle.strips.specs.Inner.Laying.{Sized, Slot, stored_in, restored_in, slot_in, laid_of};
+ghost use Rattle.base.specs.Refusals.{answered};
+ghost use Rattle.strips.specs.Strips.{per_day, lengths_ok, laid_rules, laid_answer, to_strips_after, from_strips_after};
+ghost use Rattle.strips.specs.Inner.Laying.{Slot, stored_in, restored_in};
 
-use base::Performed;
+use base::Refusal;
 
 // The table is 6 × n × a number of days from 1 to 400 long, and the output as long as it.
+#[tactic(auto, using(crate::proofs::Lengths::tests), unfolding(crate::specs::Strips::lengths_ok))]
 fn fit(n: usize, table: usize, out: usize) -> bool
     requires { (0 < n) × (n ≤ 288) }
     ensures { result ≡ lengths_ok n table out }
 {
     let day = 6 * n;
-    if table % day != 0 {
-        return false;
-    }
-    if table < day {
-        return false;
-    }
-    if 400 * day < table {
-        return false;
-    }
-    out == table
+    table % day == 0 && day <= table && table <= 400 * day && out == table
 }
 
 // Writes what is stored of slot `i` into the strips.
@@ -59,62 +52,40 @@ fn restore_slot(n: usize, strips: &[u8], out: &mut [u8], i: usize)
     );
 }
 
-// What a call is given and what it lays in its output: a table and its strips, or strips and their table.
-#[derive(Clone, Copy)]
-enum Way {
-    ToStrips,
-    FromStrips,
-}
-
-fn write_slot(way: Way, n: usize, given: &[u8], out: &mut [u8], i: usize)
-    requires { Slot n given.now out.old i }
-    ensures { out.new ≡ slot_in way n given.now out.old i }
-{
-    match way {
-        Way::ToStrips => lay_slot(n, given, out, i),
-        Way::FromStrips => restore_slot(n, given, out, i),
-    }
-}
-
-fn write(way: Way, n: usize, given: &[u8], out: &mut [u8])
-    requires { Sized n given.now out.old }
-    ensures { out.new ≡ laid_of way n given.now }
-{
-    let count = given.len() / 6;
-    let mut i = 0;
-    while i < count {
-        write_slot(way, n, given, out, i);
-        i += 1;
-    }
-}
-
-fn convert(way: Way, interval: u32, given: &[u8], out: &mut [u8]) -> Performed
-    ensures { (result ≡ laid_answer interval (length given.now) (length out.old))
-        × (out.new ≡ laid_after interval given.now (laid_of way (per_day interval) given.now) out.old) }
+// n, where the call isn't refused.
+fn slots_a_day(interval: u32, given: usize, out: usize) -> Result<usize, Refusal>
+    ensures { result ≡ answered (laid_rules interval given out) (per_day interval) }
 {
     if !rules::opening::is_interval(interval) {
-        return Performed::Refused(1);
+        return Err(Refusal::OutsideBounds);
     }
     let n = (1440 / interval) as usize;
-    if !fit(n, given.len(), out.len()) {
-        return Performed::Refused(22);
+    if !fit(n, given, out) {
+        return Err(Refusal::WrongTable);
     }
-    write(way, n, given, out);
-    Performed::Done
+    Ok(n)
 }
 
 // The strips of a table.
-pub fn to_strips(interval: u32, table: &[u8], out: &mut [u8]) -> Performed
+pub fn to_strips(interval: u32, table: &[u8], out: &mut [u8]) -> Result<(), Refusal>
     ensures { (result ≡ laid_answer interval (length table.now) (length out.old))
         × (out.new ≡ to_strips_after interval table.now out.old) }
 {
-    convert(Way::ToStrips, interval, table, out)
+    let n = slots_a_day(interval, table.len(), out.len())?;
+    for i in 0..table.len() / 6 {
+        lay_slot(n, table, out, i);
+    }
+    Ok(())
 }
 
 // The table of its strips.
-pub fn from_strips(interval: u32, strips: &[u8], out: &mut [u8]) -> Performed
+pub fn from_strips(interval: u32, strips: &[u8], out: &mut [u8]) -> Result<(), Refusal>
     ensures { (result ≡ laid_answer interval (length strips.now) (length out.old))
         × (out.new ≡ from_strips_after interval strips.now out.old) }
 {
-    convert(Way::FromStrips, interval, strips, out)
+    let n = slots_a_day(interval, strips.len(), out.len())?;
+    for i in 0..strips.len() / 6 {
+        restore_slot(n, strips, out, i);
+    }
+    Ok(())
 }

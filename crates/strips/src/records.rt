@@ -3,21 +3,15 @@ ghost use Rattle.std.specs.Prelude.{◌≡◌, ◌+◌, ◌*◌, ◌<◌, ◌≤
 ghost use Rattle.strips.specs.Strips.{number, value_at, day_earlier};
 ghost use Rattle.strips.specs.Inner.Laying.{spaced, strewn, record_of};
 
-fn wide(x: u8) -> u64
-    ensures { (result ≡ x) × (result < 256) }
-{
-    x as u64
-}
-
 // The value of the record at `at`.
 pub fn value(bytes: &[u8], at: usize, step: usize) -> u64
     requires { at + 3 * step < length bytes.now }
     ensures { (result ≡ number (spaced bytes.now at step)) × (result < 4_294_967_296) }
 {
-    let first = wide(bytes[at]);
-    let second = wide(bytes[at + step]);
-    let third = wide(bytes[at + 2 * step]);
-    let fourth = wide(bytes[at + 3 * step]);
+    let first = bytes[at] as u64;
+    let second = bytes[at + step] as u64;
+    let third = bytes[at + 2 * step] as u64;
+    let fourth = bytes[at + 3 * step] as u64;
     first + 256 * second + 65_536 * third + 16_777_216 * fourth
 }
 

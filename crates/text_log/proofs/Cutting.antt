@@ -1,80 +1,86 @@
 -- Lines found one after another.
-use mathlib.Core.List.{List, [], ◌∷◌, ◌++◌, map, append-nil}
-use mathlib.Core.Path.{◌≡◌, refl, ap, ◌∙◌}
-use Prim.Native.Nat.{ℕ, ◌+◌, ◌-◌, ◌≤◌, ◌<◌}
-use native.Mathlib.Numerals.{add-one}
+use mathlib.Core.Bool.{Bool, true, false, not, cond}
+use mathlib.Core.List.{List, [], ◌∷◌, map}
+use mathlib.Core.Path.{◌≡◌, refl, ap}
+use Prim.Native.Nat.{ℕ, suc, ◌+◌, ◌-◌, ◌<◌}
 use native.Mathlib.Omega.{arith}
-use borrow.Author.Tests.{eq-eqb, ne_eqb}
-use lib.ListN.{length, get_or, take, drop, length-drop}
-use lib.Seq.{drop-cons, drop-length, length-take-le}
+use borrow.Author.Tests.{ltb-true, ltb-false}
+use lib.Dec.{eqb, ltb}
+use lib.ListN.{length, take, drop, length-drop}
+use lib.Seq.{drop-drop, drop-length, take_all}
 use Rattle.text_log.specs.declared.line.LogLine.{LogLine}
 use Rattle.text_log.specs.declared.lines.Cut.{Cut}
 use Rattle.text_log.specs.Line.{entry_of}
 use Rattle.text_log.specs.Log.{with_byte, lines, item_of, items}
 use Rattle.text_log.specs.Inner.Lines.{LineAt, ItemAt, FoundAt}
-use Rattle.text_log.proofs.Splitting.{part_more}
+use Rattle.std.specs.Prelude.{Some, None}
+use Rattle.std.proofs.lemmas.List.{drop_all}
+use Rattle.std.specs.List.{position, position_or_len}
+use Rattle.text_log.proofs.Reading.{chosen_none, chosen_some}
 
--- some bytes in front of the first line
-unfoldable pub in_front : List ℕ → List (List ℕ) → List (List ℕ)
-in_front [] rest = rest
-in_front (b ∷ bs) rest = with_byte b (in_front bs rest)
+-- where the first LF stands, or the length
+abbrev first_end : List ℕ → ℕ
+first_end bs = position_or_len (λ b. eqb b 10) bs
 
-in_front_more : (bs : List ℕ) (b : ℕ) (rest : List (List ℕ)) → in_front (bs ++ (b ∷ [])) rest ≡ in_front bs (with_byte b rest)
-unfolding in_front
-in_front_more [] b rest = refl
-in_front_more (x ∷ bs) b rest = ap (with_byte x) (in_front_more bs b rest)
+-- the first line ends there
+first_line : (bs : List ℕ) → 0 < length bs → lines bs ≡ take (first_end bs) bs ∷ lines (drop (first_end bs + 1) bs)
+unfolding lines with_byte
+first_line [] l = absurd (omega arith)
+first_line (b ∷ []) l = go (eqb b 10)
+  where
+    go : (t : Bool) → cond t ([] ∷ []) ((b ∷ []) ∷ [])
+        ≡ take (cond (not t) (1 + 0) 0) (b ∷ []) ∷ lines (drop (cond (not t) (1 + 0) 0 + 1) (b ∷ []))
+    go true = refl
+    go false = refl
+first_line (b ∷ x ∷ bs) l = go (eqb b 10) (first_line (x ∷ bs) (omega arith))
+  where
+    rest : ℕ
+    rest = first_end (x ∷ bs)
 
-in_front_of : (bs line : List ℕ) (rest : List (List ℕ)) → in_front bs (line ∷ rest) ≡ (bs ++ line) ∷ rest
-unfolding in_front with_byte
-in_front_of [] line rest = refl
-in_front_of (b ∷ bs) line rest = rw (in_front_of bs line rest)
+    go : (t : Bool) → lines (x ∷ bs) ≡ take rest (x ∷ bs) ∷ lines (drop (rest + 1) (x ∷ bs))
+        → cond t ([] ∷ lines (x ∷ bs)) (with_byte b (lines (x ∷ bs)))
+        ≡ take (cond (not t) (1 + rest) 0) (b ∷ x ∷ bs) ∷ lines (drop (cond (not t) (1 + rest) 0 + 1) (b ∷ x ∷ bs))
+    go true e = refl
+    go false e = let z : 1 + rest ≡ suc rest = omega arith in let y : 1 + rest + 1 ≡ suc (rest + 1) = omega arith in rw (y, z, e)
 
-in_front_of_none : (bs : List ℕ) → 0 < length bs → in_front bs [] ≡ bs ∷ []
-unfolding in_front with_byte
-in_front_of_none [] l = absurd (omega arith)
-in_front_of_none (b ∷ []) l = refl
-in_front_of_none (b ∷ x ∷ bs) l = rw (in_front_of_none (x ∷ bs) (omega arith))
+module _ (bytes : List ℕ) (at : ℕ) (from : at < length bytes) where
+  left : 0 < length (drop at bytes)
+  left = rw length-drop (omega arith)
 
--- no LF stands from a place up to another
-pub record Begun (bytes : List ℕ) (at i : ℕ) : Type 0 where
-  pub from : at ≤ i
-  pub inside : i ≤ length bytes
-  pub read : lines (drop at bytes) ≡ in_front (take (i - at) (drop at bytes)) (lines (drop i bytes))
+  -- the bytes from there on, as a slice has them
+  abbrev pub line_on : List ℕ
+  line_on = take (length bytes - at) (drop at bytes)
 
-pub line_begins : (bytes : List ℕ) (at : ℕ) → at ≤ length bytes → Begun bytes at at
-unfolding in_front
-line_begins bytes at l = let z : at - at ≡ 0 = omega arith in record { from = omega arith; inside = l; read = rw z }
+  all_on : line_on ≡ drop at bytes
+  all_on = take_all _ _ (rw length-drop (omega arith))
 
-module _ {bytes : List ℕ} {at i : ℕ} (b : Begun bytes at i) where
-  pub line_goes_on : i < length bytes → (get_or bytes i 0 ≡ 10 → ⊥) → Begun bytes at (i + 1)
-  unfolding lines
-  line_goes_on l n = record {
-    from = omega arith;
-    inside = omega arith;
-    read = rw (part_more 10 bytes at i b.from l, in_front_more, add-one) (rw (drop-cons bytes i 0 l, ne_eqb _ _ n) at b.read);
-  }
-
-  pub line_ends : i < length bytes → get_or bytes i 0 ≡ 10 → LineAt bytes at (record { end = i; next = i + 1 })
-  unfolding lines
-  line_ends l lf = record {
-    begun = b.from;
-    ended = b.inside;
-    further = omega arith;
-    inside = omega arith;
-    first = rw add-one (rw (drop-cons bytes i 0 l, eq-eqb _ _ lf, in_front_of, append-nil) at b.read);
-  }
-
-  pub bytes_end : at < length bytes → length bytes ≤ i → LineAt bytes at (record { end = i; next = i })
-  unfolding lines
-  bytes_end from over =
-      let none : drop i bytes ≡ [] = let e : i ≡ length bytes = omega arith in rw e (drop-length bytes) in
-      let long : length (take (i - at) (drop at bytes)) ≡ i - at = length-take-le _ _ (rw length-drop (omega arith)) in
+  pub line_ends : (n : ℕ) → position (λ b. eqb b 10) line_on ≡ Some n → LineAt bytes at (record { end = at + n; next = at + n + 1 })
+  line_ends n e =
+      let is = chosen_some (ltb (first_end (drop at bytes)) (length (drop at bytes))) _ _ (rw all_on at e) in
+      let inside : n < length bytes - at = rw (is.1, ← length-drop) (ltb-true _ _ is.0) in
+      let part : at + n - at ≡ n = omega arith in
+      let after : at + n + 1 ≡ at + (n + 1) = omega arith in
       record {
-        begun = b.from;
-        ended = b.inside;
+        begun = omega arith;
+        ended = omega arith;
         further = omega arith;
-        inside = b.inside;
-        first = rw none (rw none at b.read ∙ in_front_of_none _ (omega arith));
+        inside = omega arith;
+        first = rw (part, after, ← drop-drop, is.1) (first_line (drop at bytes) left);
+      }
+
+  pub bytes_end : position (λ b. eqb b 10) line_on ≡ None → LineAt bytes at (record { end = length bytes; next = length bytes })
+  unfolding lines
+  bytes_end e =
+      let end = first_end (drop at bytes) in
+      let over = ltb-false _ _ (chosen_none (ltb end (length (drop at bytes))) _ (rw all_on at e)) in
+      let line = take_all end (drop at bytes) over in
+      let rest : drop (end + 1) (drop at bytes) ≡ [] = drop_all (end + 1) (drop at bytes) (omega (arith, over)) in
+      record {
+        begun = omega arith;
+        ended = omega arith;
+        further = omega arith;
+        inside = omega arith;
+        first = rw (all_on, drop-length) (rw (line, rest) at (first_line (drop at bytes) left));
       }
 
 -- ---- What a line is

@@ -1,8 +1,7 @@
 pub mod Reading
 pub mod Splitting
-pub mod Cutting
 pub mod Fields
 pub mod Tables
 pub mod Calls
-pub mod Keyword
+pub mod Cutting
 pub mod OnePass

@@ -1,14 +1,14 @@
 -- A delivery's line in one pass: digits, a word of digits before a separator, four such words after the keyword.
 use mathlib.Core.Bool.{Bool, true, false, not, ◌&&◌, false≢true}
 use mathlib.Core.List.{List, [], ◌∷◌, ◌++◌, append_assoc, append-nil}
-use mathlib.Core.Path.{◌≡◌, refl, sym, subst, ◌∙◌}
+use mathlib.Core.Path.{◌≡◌, refl, sym, ◌∙◌}
 use Prim.Native.Nat.{ℕ, zero, suc, ◌+◌, ◌-◌, ◌*◌, ◌^◌, ◌≤◌, ◌<◌}
 use native.Mathlib.Nat.{pow-suc, zero-add}
 use native.Mathlib.Omega.{arith}
 use borrow.Author.Tests.{eq-eqb, ne_eqb, le-leb, le-ltb, leb-true}
 use lib.Dec.{eqb, leb}
 use lib.ListN.{length, get_or, take, drop, length-append, length-drop, take-append-drop}
-use lib.Seq.{split_at, get_or-drop, drop-drop, length-take-le}
+use lib.Seq.{take-suc, split_at, get_or-drop, drop-drop, length-take-le}
 use Rattle.base.proofs.Logic.{and_parts}
 use Rattle.book.specs.Arguments.Call.{delivery}
 use Rattle.book.specs.declared.calls.Call.TheVariants as coded
@@ -22,7 +22,6 @@ use Rattle.text_log.specs.Log.{with_byte, lines, item_in, item_of, items}
 use Rattle.text_log.specs.Log.Item.{call}
 use Rattle.text_log.specs.Inner.Lines.{FoundAt}
 use Rattle.text_log.specs.Inner.Deliveries.{keyword, DigitsAt, FieldAt, NumbersAt, DeliveryAt}
-use Rattle.text_log.proofs.Splitting.{part_more}
 
 -- ---- Digits
 
@@ -38,6 +37,15 @@ unfolding value_after
 value_more n [] b = refl
 value_more n (a ∷ w) b = value_more (10 * n + (a - 48)) w b
 
+-- one place more of a part
+part_more : (bytes : List ℕ) (at i : ℕ) → at ≤ i → i < length bytes
+    → take ((i + 1) - at) (drop at bytes) ≡ take (i - at) (drop at bytes) ++ (get_or bytes i 0 ∷ [])
+part_more bytes at i m l =
+    let next : (i + 1) - at ≡ suc (i - at) = omega arith in
+    let inside : i - at < length (drop at bytes) = rw length-drop (omega arith) in
+    let place : at + (i - at) ≡ i = omega arith in
+    rw next (take-suc (drop at bytes) (i - at) 0 inside ∙ rw (get_or-drop, place))
+
 module _ {bytes : List ℕ} {from : ℕ} where
   digits_begin : from ≤ length bytes → DigitsAt bytes from 0 from
   unfolding are_digits value_after
@@ -45,13 +53,12 @@ module _ {bytes : List ℕ} {from : ℕ} where
       let z : from - from ≡ 0 = omega arith in
       record { begun = omega arith; near = omega arith; inside = l; digits = rw z; valued = rw z; low = omega arith }
 
-  digits_next : {value i : ℕ} → DigitsAt bytes from value i → i < from + 9 → i < length bytes → 48 ≤ get_or bytes i 0 → get_or bytes i 0 ≤
-      57
-      → value ≤ 99_999_999
+  digits_next : {value i : ℕ} → DigitsAt bytes from value i → i < from + 9 → i < length bytes → 48 ≤ get_or bytes i 0
+      → get_or bytes i 0 ≤ 57 → value ≤ 99_999_999
       → DigitsAt bytes from (10 * value + (get_or bytes i 0 - 48)) (i + 1)
   digits_next {value} {i} d n l p q low =
       let digit : is_digit (get_or bytes i 0) ≡ true = rw (le-leb _ _ p, le-leb _ _ q) in
-      let part = part_more 32 bytes from i d.begun l in
+      let part = part_more bytes from i d.begun l in
       record {
         begun = omega (arith, d.begun);
         near = omega arith;
@@ -117,10 +124,6 @@ module _ {bytes : List ℕ} {from : ℕ} (room : from + 9 ≤ length bytes) wher
         digits = digits_next f.digits l (omega arith) p q (few_eight f l);
         low = rw longer (omega (arith, f.low, p, q, pow-suc 10 (i - from)));
       }
-
--- the value is told by the bytes
-pub few_to : {bytes : List ℕ} {from value i : ℕ} → Few bytes from value i → Few bytes from (value_of (take (i - from) (drop from bytes))) i
-few_to {bytes} {from} {value} {i} f = subst (λ v. Few bytes from v i) f.digits.valued f
 
 -- ---- Bytes without a separator
 

@@ -1,97 +1,41 @@
 -- Words found one after another.
-use mathlib.Core.Bool.{Bool, true, false, cond, ◌&&◌}
+use mathlib.Core.Bool.{Bool, true, false, not, cond}
 use mathlib.Core.List.{List, [], ◌∷◌, ◌++◌, append_assoc, append-nil}
-use mathlib.Core.Path.{◌≡◌, refl, ap, ◌∙◌}
-use Prim.Native.Nat.{ℕ, suc, ◌+◌, ◌-◌, ◌≤◌, ◌<◌}
-use native.Mathlib.Numerals.{add-one}
+use mathlib.Core.Path.{◌≡◌, refl, ◌∙◌}
+use Prim.Native.Nat.{ℕ, suc, ◌+◌, ◌≤◌}
 use native.Mathlib.Omega.{arith}
-use borrow.Author.Tests.{eq-eqb, ne_eqb, lt-ltb, le-ltb}
+use borrow.Author.Tests.{ltb-false}
 use lib.Dec.{eqb, ltb}
-use lib.ListN.{length, get_or, take, drop, length-drop}
-use lib.Seq.{take-suc, drop-cons, drop-length, get_or-drop}
-use Rattle.text_log.specs.Words.{split, same}
-use Rattle.text_log.specs.Inner.Parsing.{pieces_after, pieces_from}
+use lib.ListN.{length, take, drop}
+use Rattle.std.specs.Prelude.{Some, None, unwrap_or}
+use Rattle.std.specs.List.{position, position_or_len}
+use Rattle.std.proofs.lemmas.List.Sums.{prefix_len-le-length}
+use Rattle.text_log.specs.Words.{split}
+use Rattle.text_log.specs.Inner.Parsing.{pieces_left}
 
--- ---- The end of a piece
-
-module _ (separator : ℕ) (bytes : List ℕ) (at i : ℕ) (m : at ≤ i) where
-  pub part_more : i < length bytes → take ((i + 1) - at) (drop at bytes) ≡ take (i - at) (drop at bytes) ++ (get_or bytes i 0 ∷ [])
-  part_more l =
-      let next : (i + 1) - at ≡ suc (i - at) = omega arith in
-      let inside : i - at < length (drop at bytes) = rw length-drop (omega arith) in
-      let place : at + (i - at) ≡ i = omega arith in
-      rw next (take-suc (drop at bytes) (i - at) 0 inside ∙ rw (get_or-drop, place))
-
-  pub piece_goes_on : i < length bytes → (get_or bytes i 0 ≡ separator → ⊥) → (begun more : List ℕ)
-      → split separator (begun ++ take (i - at) (drop at bytes)) (drop i bytes ++ more)
-      ≡ split separator (begun ++ take ((i + 1) - at) (drop at bytes)) (drop (i + 1) bytes ++ more)
-  unfolding split
-  piece_goes_on l n begun more =
-      rw (
-        part_more l,
-        drop-cons bytes i 0 l,
-        add-one,
-        ne_eqb _ _ n,
-        append_assoc begun (take (i - at) (drop at bytes)) (get_or bytes i 0 ∷ []),
-      )
-
-  pub piece_ends : i < length bytes → get_or bytes i 0 ≡ separator → (begun more : List ℕ)
-      → split separator (begun ++ take (i - at) (drop at bytes)) (drop i bytes ++ more)
-      ≡ pieces_from separator bytes i (begun ++ take (i - at) (drop at bytes)) more
-  unfolding split pieces_from
-  piece_ends l e begun more = rw (lt-ltb _ _ l, drop-cons bytes i 0 l, add-one, eq-eqb _ _ e)
-
-  pub bytes_end : i ≡ length bytes → (begun more : List ℕ)
-      → split separator (begun ++ take (i - at) (drop at bytes)) (drop i bytes ++ more)
-      ≡ pieces_from separator bytes i (begun ++ take (i - at) (drop at bytes)) more
-  unfolding pieces_from
-  bytes_end e begun more =
-      let z : drop i bytes ≡ [] = rw e (drop-length bytes) in
-      let no : length bytes ≤ i = omega arith in
-      rw (z, le-ltb _ _ no)
-
-pub piece_begins : (separator : ℕ) (bytes : List ℕ) (at : ℕ) (begun more : List ℕ)
-    → split separator begun (drop at bytes ++ more) ≡ split separator (begun ++ take (at - at) (drop at bytes)) (drop at bytes ++ more)
-piece_begins separator bytes at begun more = let z : at - at ≡ 0 = omega arith in rw (z, append-nil)
-
--- with no bytes before and after
-pub pieces : (separator : ℕ) (bytes : List ℕ) (at end : ℕ)
-    → ((begun more : List ℕ) → split separator begun (drop at bytes ++ more)
-    ≡ pieces_from separator bytes end (begun ++ take (end - at) (drop at bytes)) more)
-    → split separator [] (drop at bytes) ≡ take (end - at) (drop at bytes) ∷ pieces_after separator bytes end
-unfolding pieces_from pieces_after split
-pieces separator bytes at end e = rw (append-nil, append-nil) at (e [] [] ∙ either (ltb end (length bytes)))
+-- what stands in front of the first separator is the first piece
+pub cut_first : (s : ℕ) (begun bytes : List ℕ)
+    → split s begun bytes
+    ≡ (begun ++ take (position_or_len (λ b. eqb b s) bytes) bytes) ∷ pieces_left s (drop (position_or_len (λ b. eqb b s) bytes) bytes)
+unfolding split pieces_left
+cut_first s begun [] = rw append-nil
+cut_first s begun (b ∷ bs) = go (eqb b s) (cut_first s (begun ++ (b ∷ [])) bs)
   where
-    either : (t : Bool)
-        → cond t (take (end - at) (drop at bytes) ∷ split separator [] (drop (end + 1) bytes ++ [])) (take (end - at) (drop at bytes) ∷ [])
-        ≡ take (end - at) (drop at bytes) ∷ cond t (split separator [] (drop (end + 1) bytes ++ [])) []
-    either true = refl
-    either false = refl
+    rest : ℕ
+    rest = position_or_len (λ b. eqb b s) bs
 
--- ---- Equal words
+    go : (t : Bool)
+        → split s (begun ++ (b ∷ [])) bs ≡ ((begun ++ (b ∷ [])) ++ take rest bs) ∷ pieces_left s (drop rest bs)
+        → cond t (begun ∷ split s [] bs) (split s (begun ++ (b ∷ [])) bs)
+        ≡ (begun ++ take (cond (not t) (1 + rest) 0) (b ∷ bs)) ∷ pieces_left s (drop (cond (not t) (1 + rest) 0) (b ∷ bs))
+    go true e = rw append-nil
+    go false e = let z : 1 + rest ≡ suc rest = omega arith in rw z (e ∙ rw (append_assoc begun (b ∷ []) (take rest bs)))
 
-pub same_length : (a b : List ℕ) → (length a ≡ length b → ⊥) → same a b ≡ false
-unfolding same
-same_length [] [] n = absurd (n refl)
-same_length [] (c ∷ cs) n = refl
-same_length (b ∷ bs) [] n = refl
-same_length (b ∷ bs) (c ∷ cs) n = rw (same_length bs cs (λ e. n (ap suc e))) (never (eqb b c))
+-- the place of what is found, or the end
+pub place_or_end : (t : ℕ → Bool) (xs : List ℕ) → unwrap_or (position t xs) (length xs) ≡ position_or_len t xs
+place_or_end t xs = go (ltb (position_or_len t xs) (length xs)) refl (prefix_len-le-length (λ x. not (t x)) xs)
   where
-    never : (t : Bool) → t && false ≡ false
-    never true = refl
-    never false = refl
-
-module _ (a b : List ℕ) (i : ℕ) (l : i < length a) (m : i < length b) where
-  pub same_next : get_or a i 0 ≡ get_or b i 0 → same (drop i a) (drop i b) ≡ same (drop (i + 1) a) (drop (i + 1) b)
-  unfolding same
-  same_next e = rw (drop-cons a i 0 l, drop-cons b i 0 m, add-one, eq-eqb _ _ e)
-
-  pub same_not : (get_or a i 0 ≡ get_or b i 0 → ⊥) → same (drop i a) (drop i b) ≡ false
-  unfolding same
-  same_not n = rw (drop-cons a i 0 l, drop-cons b i 0 m, ne_eqb _ _ n)
-
-pub same_ends : (a b : List ℕ) (i : ℕ) → i ≡ length a → length a ≡ length b → same (drop i a) (drop i b) ≡ true
-unfolding same
-same_ends a b i e s =
-    let x : drop i a ≡ [] = rw e (drop-length a) in
-    let y : drop i b ≡ [] = rw (e, s) (drop-length b) in rw (x, y)
+    go : (b : Bool) → ltb (position_or_len t xs) (length xs) ≡ b → position_or_len t xs ≤ length xs
+        → unwrap_or (cond b (Some (position_or_len t xs)) None) (length xs) ≡ position_or_len t xs
+    go true e l = refl
+    go false e l = omega (arith, ltb-false _ _ e)

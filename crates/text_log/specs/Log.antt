@@ -1,8 +1,8 @@
 -- What the bytes of a log are: its lines, and one of a log with its head, no opening, a line that is no call, a line that is refused.
-use Rattle.std.specs.Prelude.{cond, List, [], ◌∷◌, map, ℕ, suc, eqb, take}
+use Rattle.base.specs.declared.Refusal.TheVariants.{OutsideBounds}
+use Rattle.base.specs.declared.Refusal.{Refusal}
+use Rattle.std.specs.Prelude.{cond, List, [], ◌∷◌, map, ℕ, suc, eqb, take, Result, Ok, Err}
 use Rattle.rules.specs.declared.Head.{Head}
-use Rattle.rules.specs.declared.limits.Loaded.{Loaded}
-use Rattle.rules.specs.declared.limits.Loaded.TheVariants as loaded
 use Rattle.rules.specs.Limits.{load_answer}
 use Rattle.rules.specs.Opening.{head_ok}
 use Rattle.book.specs.Arguments.{Call, call_meant}
@@ -62,7 +62,7 @@ pub data Reading : Type 0 where
   log : Head → Reading
   no_opening : Reading
   not_a_call : ℕ → Reading
-  refused : ℕ → ℕ → Reading
+  refused : ℕ → Refusal → Reading
 
 -- after the opening: no second one, and no table; n is the number of the first of these lines
 unfoldable pub read_open : Head → ℕ → List Item → Reading
@@ -91,14 +91,14 @@ or_built_in [] = 40000 ∷ 70000 ∷ []
 or_built_in (w ∷ ws) = w ∷ ws
 
 -- line n with a table that loads, or is refused with 13
-unfoldable pub with_table : ℕ → Loaded → Reading → Reading
-with_table n (loaded.Limit w) rest = rest
-with_table n (loaded.Refused k) rest = refused n k
+unfoldable pub with_table : ℕ → Result ℕ Refusal → Reading → Reading
+with_table n (Ok w) rest = rest
+with_table n (Err k) rest = refused n k
 
 -- line n with an opening: 13 or 1 where its kind is no place in the table, 1 where its head is outside the bounds
-unfoldable pub with_opening : ℕ → Opening → Loaded → List Item → Reading
-with_opening n o (loaded.Limit w) xs = cond (head_ok (head_with o w)) (read_open (head_with o w) (suc n) xs) (refused n 1)
-with_opening n o (loaded.Refused k) xs = refused n k
+unfoldable pub with_opening : ℕ → Opening → Result ℕ Refusal → List Item → Reading
+with_opening n o (Ok w) xs = cond (head_ok (head_with o w)) (read_open (head_with o w) (suc n) xs) (refused n OutsideBounds)
+with_opening n o (Err k) xs = refused n k
 
 -- before the opening: the table so far, which is empty in front of the first, and the number of the first of these lines
 unfoldable pub read_closed : List ℕ → ℕ → List Item → Reading

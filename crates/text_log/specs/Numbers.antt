@@ -1,10 +1,8 @@
 -- Numbers and dates of a log.
 use Rattle.std.specs.Prelude.{Bool, true, not, cond, ◌&&◌, List, [], ◌∷◌, ℕ, ◌+◌, ◌-◌, ◌*◌, leb, eqb, length, get_or, take, drop}
+use Rattle.std.specs.Prelude.{Option, Some, None}
 use Rattle.base.specs.Lists.{every}
-use Rattle.text_log.specs.declared.number.Number.{Number}
-use Rattle.text_log.specs.declared.number.Number.TheVariants as number
 use Rattle.text_log.specs.declared.number.Date.{Date}
-use Rattle.text_log.specs.declared.number.Date.TheVariants as date
 
 -- `0` to `9`
 abbrev pub is_digit : ℕ → Bool
@@ -26,8 +24,8 @@ value_of word = value_after 0 word
 unfoldable pub is_number : List ℕ → Bool
 is_number word = every (not (eqb (length word) 0) ∷ are_digits word ∷ leb (value_of word) 4294967295 ∷ [])
 
-unfoldable pub number_of : List ℕ → Number
-number_of word = cond (is_number word) (number.Is (value_of word)) number.Not
+unfoldable pub number_of : List ℕ → Option ℕ
+number_of word = cond (is_number word) (Some (value_of word)) None
 
 -- year, month and day of a date
 abbrev pub year_part : List ℕ → List ℕ
@@ -51,6 +49,9 @@ is_date_word word =
     ∷ is_number (day_part word)
     ∷ [])
 
-unfoldable pub date_of_word : List ℕ → Date
-date_of_word word = cond (is_date_word word) (date.Is (value_of (year_part word)) (value_of (month_part word)) (value_of (day_part word)))
-    date.Not
+-- year, month and day
+abbrev pub date_in : List ℕ → Date
+date_in word = record { year = value_of (year_part word); month = value_of (month_part word); day = value_of (day_part word) }
+
+unfoldable pub date_of_word : List ℕ → Option Date
+date_of_word word = cond (is_date_word word) (Some (date_in word)) None

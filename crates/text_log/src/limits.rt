@@ -1,15 +1,13 @@
 // The table of a line `limits` (02, W5).
-ghost use Rattle.std.specs.Prelude.{cond, [], map, ◌≡◌, ◌≤◌, length};
-ghost use Rattle.text_log.specs.Numbers.{value_of};
-ghost use Rattle.text_log.specs.Line.{are_limits, limits_of};
+ghost use Rattle.std.specs.Prelude.{[], ◌≡◌};
+ghost use Rattle.text_log.specs.Line.{limits_of};
 ghost use Rattle.text_log.specs.Log.{table_of};
 ghost use Rattle.rules.specs.Limits.{load_answer};
-ghost use Rattle.text_log.specs.Inner.Parsing.{pieces_after};
+ghost use Rattle.text_log.specs.Inner.Parsing.{words_left, limits_in};
 
-use crate::number::Number;
-use crate::{number, pieces};
+use crate::{number, words};
+use base::Refusal;
 use rules::limits as demand;
-use rules::limits::Loaded;
 
 // The first `count` values are a table; a count of 0 is none.
 #[derive(Clone, Copy)]
@@ -27,38 +25,30 @@ pub fn none() -> Limits
     }
 }
 
-// The words after the one that ends at `end`, where they are 1 to 24 numbers.
-pub fn limits_after(line: &[u8], end: usize) -> Limits
-    requires { end ≤ length line.now }
-    ensures { let fields = pieces_after 32 line.now end in
-        result ≡ cond (are_limits fields) (limits_of (map value_of fields)) (limits_of []) }
+// The words left, where they are 1 to 24 numbers.
+pub fn limits_in(mut rest: &[u8]) -> Option<Limits>
+    ensures { result ≡ limits_in (words_left rest.now) }
 {
-    let mut values = [0u32; 24];
-    let mut count: usize = 0;
-    let mut at = end;
-    while at < line.len() {
+    let mut values = [0; 24];
+    let mut count = 0;
+    'words: while let Some((word, after)) = words::next_word(rest) {
         if count == 24 {
-            return none();
+            return None;
         }
-        let from = at + 1;
-        at = pieces::end_of(line, from, b' ');
-        let Number::Is(value) = number::number_of(&line[from..at]) else {
-            return none();
-        };
-        values[count] = value;
+        values[count] = number::number_of(word)?;
         count += 1;
+        rest = after;
     }
-    Limits { values, count }
+    if count == 0 {
+        return None;
+    }
+    Some(Limits { values, count })
 }
 
 // What a place of a table holds. A table has room for 24 limits.
-pub fn load_from(limits: Limits, kind: u32) -> Loaded
+pub fn load_from(limits: Limits, kind: u32) -> Result<u32, Refusal>
     ensures { result ≡ load_answer (table_of limits) kind }
 {
-    let values = limits.values;
-    let count = limits.count;
-    if 24 < count {
-        return demand::load(&values, kind);
-    }
-    demand::load(&values[..count], kind)
+    let count = limits.count.min(24);
+    demand::load(&limits.values[..count], kind)
 }

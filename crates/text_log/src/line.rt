@@ -1,10 +1,10 @@
 // One line of a log: passed over, a table of limits, a call, or neither.
-ghost use Rattle.std.specs.Prelude.{◌≡◌, ◌≤◌, length};
+ghost use Rattle.std.specs.Prelude.{◌≡◌};
 ghost use Rattle.text_log.specs.Words.{words as words_of};
 ghost use Rattle.text_log.specs.Line.{open_of, delivery_of, holiday_of, sharp_of, register_of, agreed_of, call_of};
-ghost use Rattle.text_log.specs.Line.{bare as bare_of, limits_entry, words_entry, entry_of};
+ghost use Rattle.text_log.specs.Line.{without_cr, bare as bare_of, limits_entry, words_entry, entry_of};
 ghost use Rattle.text_log.specs.Log.{head_with};
-ghost use Rattle.text_log.specs.Inner.Parsing.{pieces_after, cut_at};
+ghost use Rattle.text_log.specs.Inner.Parsing.{words_left};
 
 use crate::limits::Limits;
 use crate::number::Date;
@@ -41,175 +41,162 @@ pub struct Entry {
     pub limits: Limits,
 }
 
-// The fields after a keyword that ends at `end`, in each of these.
-fn open_after(line: &[u8], end: usize) -> LogLine
-    requires { end ≤ length line.now }
-    ensures { result ≡ open_of (pieces_after 32 line.now end) }
+// The words left behind a keyword, in each of these.
+fn open_after(rest: &[u8]) -> LogLine
+    ensures { result ≡ open_of (words_left rest.now) }
 {
-    if line.len() <= end {
-        return LogLine::NoCall;
-    }
-    let from = end + 1;
-    let date = pieces::end_of(line, from, b' ');
-    let Date::Is(year, month, day) = number::date_of(&line[from..date]) else {
+    let Some((word, rest)) = words::next_word(rest) else {
         return LogLine::NoCall;
     };
-    let fields = words::values_after(line, date, 4);
-    if !fields.good {
+    let Some(Date { year, month, day }) = number::date_of(word) else {
         return LogLine::NoCall;
-    }
+    };
+    let Some(fields) = words::values_in::<4>(rest) else {
+        return LogLine::NoCall;
+    };
+    let [days, interval, kind, tolerance] = fields;
     LogLine::Open(Opening {
         year,
         month,
         day,
-        days: fields.values[0],
-        interval: fields.values[1],
-        kind: fields.values[2],
-        tolerance: fields.values[3],
+        days,
+        interval,
+        kind,
+        tolerance,
     })
 }
 
-fn delivery_after(line: &[u8], end: usize) -> LogLine
-    requires { end ≤ length line.now }
-    ensures { result ≡ delivery_of (pieces_after 32 line.now end) }
+fn delivery_after(rest: &[u8]) -> LogLine
+    ensures { result ≡ delivery_of (words_left rest.now) }
 {
-    let fields = words::values_after(line, end, 4);
-    if !fields.good {
+    let Some(fields) = words::values_in::<4>(rest) else {
         return LogLine::NoCall;
-    }
+    };
+    let [slot, version, value, status] = fields;
     LogLine::Fill(Call::Delivery {
-        slot: fields.values[0],
-        version: fields.values[1],
-        value: fields.values[2],
-        status: fields.values[3],
+        slot,
+        version,
+        value,
+        status,
     })
 }
 
-fn holiday_after(line: &[u8], end: usize) -> LogLine
-    requires { end ≤ length line.now }
-    ensures { result ≡ holiday_of (pieces_after 32 line.now end) }
+fn holiday_after(rest: &[u8]) -> LogLine
+    ensures { result ≡ holiday_of (words_left rest.now) }
 {
-    let fields = words::values_after(line, end, 1);
-    if !fields.good {
+    let Some(fields) = words::values_in::<1>(rest) else {
         return LogLine::NoCall;
-    }
-    LogLine::Fill(Call::Holiday(fields.values[0]))
+    };
+    let [day] = fields;
+    LogLine::Fill(Call::Holiday(day))
 }
 
 // A register read without a width.
-fn sharp_after(line: &[u8], end: usize) -> LogLine
-    requires { end ≤ length line.now }
-    ensures { result ≡ sharp_of (pieces_after 32 line.now end) }
+fn sharp_after(rest: &[u8]) -> LogLine
+    ensures { result ≡ sharp_of (words_left rest.now) }
 {
-    let fields = words::values_after(line, end, 3);
-    if !fields.good {
+    let Some(fields) = words::values_in::<3>(rest) else {
         return LogLine::NoCall;
-    }
+    };
+    let [boundary, version, reading] = fields;
     LogLine::Fill(Call::Register {
-        boundary: fields.values[0],
-        version: fields.values[1],
-        reading: fields.values[2],
+        boundary,
+        version,
+        reading,
         width: 0,
     })
 }
 
-fn register_after(line: &[u8], end: usize) -> LogLine
-    requires { end ≤ length line.now }
-    ensures { result ≡ register_of (pieces_after 32 line.now end) }
+fn register_after(rest: &[u8]) -> LogLine
+    ensures { result ≡ register_of (words_left rest.now) }
 {
-    let fields = words::values_after(line, end, 4);
-    if !fields.good {
-        return sharp_after(line, end);
-    }
+    let Some(fields) = words::values_in::<4>(rest) else {
+        return sharp_after(rest);
+    };
+    let [boundary, version, reading, width] = fields;
     LogLine::Fill(Call::Register {
-        boundary: fields.values[0],
-        version: fields.values[1],
-        reading: fields.values[2],
-        width: fields.values[3],
+        boundary,
+        version,
+        reading,
+        width,
     })
 }
 
-fn agreed_after(line: &[u8], end: usize) -> LogLine
-    requires { end ≤ length line.now }
-    ensures { result ≡ agreed_of (pieces_after 32 line.now end) }
+fn agreed_after(rest: &[u8]) -> LogLine
+    ensures { result ≡ agreed_of (words_left rest.now) }
 {
-    let fields = words::values_after(line, end, 3);
-    if !fields.good {
+    let Some(fields) = words::values_in::<3>(rest) else {
         return LogLine::NoCall;
-    }
+    };
+    let [slot, version, value] = fields;
     LogLine::Fill(Call::Agreed {
-        slot: fields.values[0],
-        version: fields.values[1],
-        value: fields.values[2],
+        slot,
+        version,
+        value,
     })
 }
 
 fn call_of(line: &[u8]) -> LogLine
     ensures { result ≡ call_of (words_of line.now) }
 {
-    let end = pieces::end_of(line, 0, b' ');
-    let word = &line[..end];
-    if words::is_same(word, b"open") {
-        return open_after(line, end);
+    let (word, rest) = pieces::cut(line, b' ');
+    if word == b"open".as_slice() {
+        return open_after(rest);
     }
-    if words::is_same(word, b"delivery") {
-        return delivery_after(line, end);
+    if word == b"delivery".as_slice() {
+        return delivery_after(rest);
     }
-    if words::is_same(word, b"holiday") {
-        return holiday_after(line, end);
+    if word == b"holiday".as_slice() {
+        return holiday_after(rest);
     }
-    if words::is_same(word, b"register") {
-        return register_after(line, end);
+    if word == b"register".as_slice() {
+        return register_after(rest);
     }
-    if words::is_same(word, b"agreed") {
-        return agreed_after(line, end);
+    if word == b"agreed".as_slice() {
+        return agreed_after(rest);
     }
     LogLine::NoCall
 }
 
-// The length of a line without its CR.
-fn without_cr(bytes: &[u8]) -> usize
-    ensures { cut_at bytes.now result }
+// A line without its CR.
+fn without_cr(bytes: &[u8]) -> &[u8]
+    ensures { result.now ≡ without_cr bytes.now }
 {
-    if bytes.len() == 0 {
-        return 0;
+    match bytes {
+        [line @ .., b'\r'] => line,
+        _ => bytes,
     }
-    let last = bytes.len() - 1;
-    if bytes[last] == b'\r' {
-        return last;
-    }
-    bytes.len()
 }
 
 // A line with no table.
 pub fn bare(line: LogLine) -> Entry
     ensures { result ≡ bare_of line }
 {
-    let limits = limits::none();
-    Entry { line, limits }
+    Entry {
+        line,
+        limits: limits::none(),
+    }
 }
 
-// The fields after `limits`, which ends at `end`.
-fn limits_entry(line: &[u8], end: usize) -> Entry
-    requires { end ≤ length line.now }
-    ensures { result ≡ limits_entry (pieces_after 32 line.now end) }
+// The words left behind `limits`.
+fn limits_entry(rest: &[u8]) -> Entry
+    ensures { result ≡ limits_entry (words_left rest.now) }
 {
-    let limits = limits::limits_after(line, end);
-    if limits.count == 0 {
-        return bare(LogLine::NoCall);
-    }
-    Entry {
-        line: LogLine::Table,
-        limits,
+    match limits::limits_in(rest) {
+        Some(limits) => Entry {
+            line: LogLine::Table,
+            limits,
+        },
+        None => bare(LogLine::NoCall),
     }
 }
 
 fn words_entry(line: &[u8]) -> Entry
     ensures { result ≡ words_entry (words_of line.now) }
 {
-    let end = pieces::end_of(line, 0, b' ');
-    if words::is_same(&line[..end], b"limits") {
-        return limits_entry(line, end);
+    let (word, rest) = pieces::cut(line, b' ');
+    if word == b"limits".as_slice() {
+        return limits_entry(rest);
     }
     bare(call_of(line))
 }
@@ -218,17 +205,17 @@ fn words_entry(line: &[u8]) -> Entry
 pub fn entry_of(bytes: &[u8]) -> Entry
     ensures { result ≡ entry_of bytes.now }
 {
-    let n = without_cr(bytes);
-    if n == 0 {
+    let line = without_cr(bytes);
+    if line.is_empty() {
         return bare(LogLine::Passed);
     }
-    if bytes[0] == b'#' {
+    if line[0] == b'#' {
         return bare(LogLine::Passed);
     }
-    if 255 < n {
+    if 255 < line.len() {
         return bare(LogLine::NoCall);
     }
-    words_entry(&bytes[..n])
+    words_entry(line)
 }
 
 // What the bytes of a line are, without the table of one.
@@ -242,13 +229,22 @@ pub fn line_of(bytes: &[u8]) -> LogLine
 pub fn head_with(opening: Opening, limit: u32) -> Head
     ensures { result ≡ head_with opening limit }
 {
+    let Opening {
+        year,
+        month,
+        day,
+        days,
+        interval,
+        tolerance,
+        ..
+    } = opening;
     Head {
-        year: opening.year,
-        month: opening.month,
-        day: opening.day,
-        days: opening.days,
-        interval: opening.interval,
+        year,
+        month,
+        day,
+        days,
+        interval,
         limit,
-        tolerance: opening.tolerance,
+        tolerance,
     }
 }

@@ -2,8 +2,9 @@
 ghost use Rattle.std.specs.Prelude.{◌<◌, length};
 ghost use Rattle.text_log.specs.Inner.Lines.{LineAt, FoundAt};
 
+use crate::deliveries::Delivery;
 use crate::line::LogLine;
-use crate::{deliveries, line};
+use crate::{deliveries, line, pieces};
 use book::calls::Call;
 
 // The end of a line, where its LF stands or the bytes end, and the place where the next line begins.
@@ -18,17 +19,16 @@ pub fn line_at(bytes: &[u8], at: usize) -> Cut
     requires { at < length bytes.now }
     ensures { LineAt bytes.now at result }
 {
-    let mut i = at;
-    while i < bytes.len() {
-        if bytes[i] == b'\n' {
-            return Cut {
-                end: i,
-                next: i + 1,
-            };
-        }
-        i += 1;
+    match pieces::place_of(&bytes[at..], b'\n') {
+        Some(n) => Cut {
+            end: at + n,
+            next: at + n + 1,
+        },
+        None => Cut {
+            end: bytes.len(),
+            next: bytes.len(),
+        },
     }
-    Cut { end: i, next: i }
 }
 
 // What a line is, and the place where the next line begins.
@@ -57,17 +57,23 @@ pub fn line_from(bytes: &[u8], at: usize) -> Found
     requires { at < length bytes.now }
     ensures { FoundAt bytes.now at result.line result.next }
 {
-    let delivery = deliveries::delivery_at(bytes, at);
-    if delivery.found {
-        return Found {
-            line: LogLine::Fill(Call::Delivery {
-                slot: delivery.slot,
-                version: delivery.version,
-                value: delivery.value,
-                status: delivery.status,
-            }),
-            next: delivery.next,
-        };
+    let Some(delivery) = deliveries::delivery_at(bytes, at) else {
+        return read_from(bytes, at);
+    };
+    let Delivery {
+        slot,
+        version,
+        value,
+        status,
+        next,
+    } = delivery;
+    Found {
+        line: LogLine::Fill(Call::Delivery {
+            slot,
+            version,
+            value,
+            status,
+        }),
+        next,
     }
-    read_from(bytes, at)
 }

@@ -2,65 +2,47 @@
 ghost use Rattle.std.specs.Prelude.{◌≡◌};
 ghost use Rattle.text_log.specs.Numbers.{number_of, date_of_word};
 
-// What a word is as a number.
+// A date as it is written, whether there is such a day or not.
 #[derive(Clone, Copy)]
-pub enum Number {
-    Is(u32),
-    Not,
+pub struct Date {
+    pub year: u32,
+    pub month: u32,
+    pub day: u32,
 }
 
-// What a word is as a date: year, month and day.
-#[derive(Clone, Copy)]
-pub enum Date {
-    Is(u32, u32, u32),
-    Not,
-}
-
-pub fn number_of(word: &[u8]) -> Number
+pub fn number_of(word: &[u8]) -> Option<u32>
     ensures { result ≡ number_of word.now }
 {
-    if word.len() == 0 {
-        return Number::Not;
+    if word.is_empty() {
+        return None;
     }
     let mut value: u64 = 0;
-    let mut i = 0;
-    while i < word.len() {
-        let byte = word[i];
-        if byte < b'0' {
-            return Number::Not;
+    for byte in word {
+        if !byte.is_ascii_digit() {
+            return None;
         }
-        if b'9' < byte {
-            return Number::Not;
-        }
-        value = 10 * value + (byte - b'0') as u64;
+        value = 10 * value + u64::from(*byte - b'0');
         if 4294967295 < value {
-            return Number::Not;
+            return None;
         }
-        i += 1;
     }
-    Number::Is(value as u32)
+    Some(value as u32)
 }
 
-pub fn date_of(word: &[u8]) -> Date
+pub fn date_of(word: &[u8]) -> Option<Date>
     ensures { result ≡ date_of_word word.now }
 {
     if word.len() != 10 {
-        return Date::Not;
+        return None;
     }
     if word[4] != b'-' {
-        return Date::Not;
+        return None;
     }
     if word[7] != b'-' {
-        return Date::Not;
+        return None;
     }
-    let Number::Is(year) = number_of(&word[..4]) else {
-        return Date::Not;
-    };
-    let Number::Is(month) = number_of(&word[5..7]) else {
-        return Date::Not;
-    };
-    let Number::Is(day) = number_of(&word[8..10]) else {
-        return Date::Not;
-    };
-    Date::Is(year, month, day)
+    let year = number_of(&word[..4])?;
+    let month = number_of(&word[5..7])?;
+    let day = number_of(&word[8..10])?;
+    Some(Date { year, month, day })
 }

@@ -1,23 +1,21 @@
 // Pieces between separators: the words of a line, and the lines of a log.
-ghost use Rattle.std.specs.Prelude.{List, ◌++◌, ◌≡◌, ℕ, ◌-◌, ◌≤◌, length, take, drop};
+ghost use Rattle.std.specs.Prelude.{[], ◌∷◌, ◌++◌, ◌≡◌, ◌==◌};
+ghost use Rattle.std.specs.List.{position};
 ghost use Rattle.text_log.specs.Words.{split};
-ghost use Rattle.text_log.specs.Inner.Parsing.{pieces_from};
+ghost use Rattle.text_log.specs.Inner.Parsing.{pieces_left};
 
-// The end of the piece that begins at `at`, whatever bytes stand before and after.
-pub fn end_of(bytes: &[u8], at: usize, separator: u8) -> usize
-    requires { at ≤ length bytes.now }
-    ensures { let text = bytes.now in
-        (at ≤ result)
-        × (result ≤ length text)
-        × ((begun more : List ℕ) → split separator begun (drop at text ++ more)
-        ≡ pieces_from separator text result (begun ++ take (result - at) (drop at text)) more) }
+// Where a byte stands first.
+pub fn place_of(bytes: &[u8], byte: u8) -> Option<usize>
+    ensures { result ≡ position (λ b. b == byte) bytes.now }
 {
-    let mut i = at;
-    while i < bytes.len() {
-        if bytes[i] == separator {
-            return i;
-        }
-        i += 1;
-    }
-    i
+    bytes.iter().position(|b| *b == byte)
+}
+
+// The first piece, and the bytes from the separator behind it on.
+pub fn cut(bytes: &[u8], separator: u8) -> (&[u8], &[u8])
+    ensures whole { bytes.now ≡ result.0.now ++ result.1.now }
+    ensures pieces { split separator [] bytes.now ≡ result.0.now ∷ pieces_left separator result.1.now }
+{
+    let end = place_of(bytes, separator).unwrap_or(bytes.len());
+    bytes.split_at(end)
 }

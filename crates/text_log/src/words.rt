@@ -1,65 +1,27 @@
 // Words of a line.
-ghost use Rattle.std.specs.Prelude.{true, map, ◌≡◌, ◌-◌, ◌≤◌, length, take};
-ghost use Rattle.text_log.specs.Numbers.{value_of};
-ghost use Rattle.text_log.specs.Words.{same as same·, are_numbers};
-ghost use Rattle.text_log.specs.Inner.Parsing.{pieces_after};
+ghost use Rattle.std.specs.Prelude.{◌∷◌, [], ◌≡◌, ◌<◌, length, MatchOption};
+ghost use Rattle.text_log.specs.Inner.Parsing.{words_left, numbers_in};
 
-use crate::number::Number;
 use crate::{number, pieces};
 
-// The values of some words, where each of them is a number.
-#[derive(Clone, Copy)]
-pub struct Values {
-    pub good: bool,
-    pub values: [u32; 4],
+// The next word, where `rest` is what stands behind the last one, and what stands behind it.
+pub fn next_word(rest: &[u8]) -> Option<(&[u8], &[u8])>
+    ensures { MatchOption result (words_left rest.now ≡ [])
+        (λ p. (words_left rest.now ≡ p.0.now ∷ words_left p.1.now) × (length p.1.now < length rest.now)) }
+{
+    let (_, after) = rest.split_first()?;
+    Some(pieces::cut(after, b' '))
 }
 
-pub fn is_same(word: &[u8], other: &[u8]) -> bool
-    ensures { result ≡ same· word.now other.now }
+// The values of the words left, where they are `N` numbers.
+pub fn values_in<const N: usize>(mut rest: &[u8]) -> Option<[u32; N]>
+    ensures { result ≡ numbers_in N (words_left rest.now) }
 {
-    if word.len() != other.len() {
-        return false;
+    let mut values = [0; N];
+    for value in &mut values {
+        let (word, after) = next_word(rest)?;
+        *value = number::number_of(word)?;
+        rest = after;
     }
-    let mut i = 0;
-    while i < word.len() {
-        if word[i] != other[i] {
-            return false;
-        }
-        i += 1;
-    }
-    true
-}
-
-// The values of the words after the one that ends at `end`: `count` numbers.
-pub fn values_after(line: &[u8], end: usize, count: usize) -> Values
-    requires { (end ≤ length line.now) × (count ≤ 4) }
-    ensures { let fields = pieces_after 32 line.now end in
-        (result.good ≡ are_numbers count fields)
-        × (result.good ≡ true → take count result.values ≡ map value_of fields) }
-{
-    let mut values = [0u32; 4];
-    let mut at = end;
-    let mut i = 0;
-    while i < count {
-        if line.len() <= at {
-            return Values {
-                good: false,
-                values,
-            };
-        }
-        let from = at + 1;
-        at = pieces::end_of(line, from, b' ');
-        let Number::Is(value) = number::number_of(&line[from..at]) else {
-            return Values {
-                good: false,
-                values,
-            };
-        };
-        values[i] = value;
-        i += 1;
-    }
-    Values {
-        good: at == line.len(),
-        values,
-    }
+    if rest.is_empty() { Some(values) } else { None }
 }

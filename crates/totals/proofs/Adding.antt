@@ -1,14 +1,14 @@
 -- The totals day by day, and that they fit.
 use mathlib.Core.Bool.{true, cond, and-false}
-use mathlib.Core.List.{List}
+use mathlib.Core.List.{List, ◌∷◌}
 use mathlib.Core.Logic.{⊎_elim}
-use mathlib.Core.Path.{◌≡◌, sym, ap, ◌∙◌}
+use mathlib.Core.Path.{◌≡◌, refl, sym, ap, ◌∙◌}
 use Prim.Native.Nat.{ℕ, zero, suc, ◌+◌, ◌-◌, ◌*◌, ◌/◌, ◌^◌, ◌≤◌, ◌<◌}
 use native.Mathlib.Nat.{add-zero, add-suc, add_assoc, zero-add, zero-mul, suc-mul, add-mul, mul_comm, mul-le-mul, mul-le-mul_right}
 use native.Mathlib.Omega.{arith}
 use borrow.Author.Tests.{le-leb, lt-leb, lt-ltb, le-ltb, leb-true, leb-false, ltb-true, ltb-false}
 use lib.Dec.{leb, ltb}
-use lib.ListN.{length, get_or}
+use lib.ListN.{length, get_or, replicate}
 use Rattle.base.specs.Lists.{sum, up_to}
 use Rattle.base.proofs.Lists.{length_up_to, up_to_cong, get_d_up_to}
 use Rattle.base.proofs.Logic.{either, and_parts}
@@ -45,6 +45,11 @@ day_within n d days l = rw (← suc-mul d n, mul_comm n days) (mul-le-mul_right 
 -- a day's energy
 abbrev energy_of : List ℕ → ℕ → ℕ → ℕ
 energy_of bs n d = sum (λ i. (slot_at bs i).value) (d * n) n
+
+zeros : (k a : ℕ) → replicate {A = ℕ} k 0 ≡ up_to (λ _. 0) a k
+unfolding up_to
+zeros zero a = refl
+zeros (suc k) a = ap (λ (xs : List ℕ). 0 ∷ xs) (zeros k (suc a))
 
 -- one stay
 module _ (bs : List ℕ) (n first : ℕ) where
@@ -99,10 +104,10 @@ module _ (bs : List ℕ) (n first : ℕ) where
 
 -- all stays
 module _ (bs : List ℕ) (n : ℕ) (pairs : List ℕ) where
-  pub before_none : (totals : List ℕ) → length totals ≡ pair_count pairs → up_to (λ _. 0) 0 (length totals) ≡ totals_before bs n pairs 0
+  pub before_none : (totals : List ℕ) → length totals ≡ pair_count pairs → replicate {A = ℕ} (length totals) 0 ≡ totals_before bs n pairs 0
   unfolding totals_before
   before_none totals e =
-      rw e (same_up_to _ _ (pair_count pairs)
+      rw (e, zeros (pair_count pairs) 0) (same_up_to _ _ (pair_count pairs)
       (λ k l. sym (stay_none bs n (first_of pairs k) (least (end_of pairs k) 0) (omega (arith, least_le (end_of pairs k) 0)))))
 
   pub before_length : (d : ℕ) → length (totals_before bs n pairs d) ≡ pair_count pairs

@@ -1,3 +1,4 @@
+pub mod Paired
 pub mod Replaced
 pub mod Adding
 pub mod Answers

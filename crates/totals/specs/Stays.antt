@@ -1,12 +1,12 @@
 -- The totals of stays in a file (02, W11).
+use Rattle.std.specs.Prelude.{Result, Ok, Err}
 use Rattle.std.specs.Prelude.{Bool, true, false, ◌&&◌, List, [], ◌∷◌, ℕ, ◌+◌, ◌-◌, ◌*◌, ◌/◌, ◌%◌, leb, ltb, eqb, length, get_or}
 use Rattle.rules.specs.Numbers.{day_minutes}
+use Rattle.base.specs.declared.Refusal.{Refusal}
+use Rattle.base.specs.declared.Refusal.TheVariants.{WrongPairs, WrongStay}
 use Rattle.base.specs.Lists.{sum, every, up_to, all}
-use Rattle.file.specs.declared.Verdict.{Verdict}
-use Rattle.file.specs.declared.Verdict.TheVariants as verdict
+use Rattle.file.specs.declared.Figures.{Figures}
 use Rattle.file.specs.Reader.{slot_at, figures, read_file}
-use Rattle.base.specs.declared.Performed.{Performed}
-use Rattle.base.specs.declared.Performed.TheVariants.{Done, Refused}
 
 -- ---- One stay
 
@@ -48,19 +48,19 @@ abbrev pub pairs_ok : ℕ → List ℕ → Bool
 pairs_ok days pairs = all (λ k. pair_ok days (first_of pairs k) (end_of pairs k)) 0 (pair_count pairs)
 
 -- each case of the answer, in the order 8, 9, 18, 19
-abbrev pub stays_by : Verdict → Bool → Bool → Performed
-stays_by (verdict.Refused number) lists pairs = Refused number
-stays_by (verdict.Accepted g) false pairs = Refused 18
-stays_by (verdict.Accepted g) true false = Refused 19
-stays_by (verdict.Accepted g) true true = Done
+abbrev pub stays_by : Result Figures Refusal → Bool → Bool → Result (Unit {0}) Refusal
+stays_by (Err r) lists pairs = Err r
+stays_by (Ok g) false pairs = Err WrongPairs
+stays_by (Ok g) true false = Err WrongStay
+stays_by (Ok g) true true = Ok tt
 
-unfoldable pub stays_answer : List ℕ → List ℕ → List ℕ → Performed
+unfoldable pub stays_answer : List ℕ → List ℕ → List ℕ → Result (Unit {0}) Refusal
 stays_answer bs pairs totals = stays_by (read_file bs) (every (list_tests pairs (length totals))) (pairs_ok (figures bs).days pairs)
 
 -- a refusal changes no total
-abbrev pub totals_after : Performed → List ℕ → List ℕ → List ℕ
-totals_after Done found totals = found
-totals_after (Refused number) found totals = totals
+abbrev pub totals_after : Result (Unit {0}) Refusal → List ℕ → List ℕ → List ℕ
+totals_after (Ok _) found totals = found
+totals_after (Err r) found totals = totals
 
 unfoldable pub stays_after : List ℕ → List ℕ → List ℕ → List ℕ
 stays_after bs pairs totals = totals_after (stays_answer bs pairs totals) (totals_of bs pairs) totals

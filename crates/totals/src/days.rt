@@ -20,11 +20,9 @@ fn sum_of(file: &[u8], a: usize, k: usize) -> u64
     requires { (6 * (a + k) ≤ length file.now) × (k ≤ 288) }
     ensures { (result ≡ sum (λ i. (slot_at file.now i).value) a k) × (result ≤ 2 ^ 32 * k) }
 {
-    let mut energy: u64 = 0;
-    let mut i = 0;
-    while i < k {
+    let mut energy = 0;
+    for i in 0..k {
         energy += value_at(file, a + i);
-        i += 1;
     }
     energy
 }
@@ -33,10 +31,7 @@ fn sum_of(file: &[u8], a: usize, k: usize) -> u64
 fn share(first: u32, end: u32, day: u32, energy: u64) -> u64
     ensures { (result ≡ cond (holds first end day) energy 0) × (result ≤ energy) }
 {
-    if day < first {
-        return 0;
-    }
-    if day < end { energy } else { 0 }
+    if first <= day && day < end { energy } else { 0 }
 }
 
 // Adds a day's energy to the totals of the stays that hold the day.
@@ -44,20 +39,8 @@ fn add_day(pairs: &[u32], totals: &mut [u64], day: u32, energy: u64)
     requires { Room pairs.now totals.old energy }
     ensures { totals.new ≡ with_day pairs.now totals.old day energy }
 {
-    let mut k = 0;
-    while k < totals.len() {
+    for k in 0..totals.len() {
         totals[k] += share(pairs[2 * k], pairs[2 * k + 1], day, energy);
-        k += 1;
-    }
-}
-
-fn clear(totals: &mut [u64])
-    ensures { totals.new ≡ up_to (λ _. 0) 0 (length totals.old) }
-{
-    let mut k = 0;
-    while k < totals.len() {
-        totals[k] = 0;
-        k += 1;
     }
 }
 
@@ -66,11 +49,9 @@ pub fn total_days(file: &[u8], n: usize, days: u32, pairs: &[u32], totals: &mut 
     requires { Tabled file.now n days × (length totals.old ≡ pair_count pairs.now) }
     ensures { totals.new ≡ totals_before file.now n pairs.now days }
 {
-    clear(totals);
-    let mut day: u32 = 0;
-    while day < days {
+    totals.fill(0);
+    for day in 0..days {
         let energy = sum_of(file, day as usize * n, n);
         add_day(pairs, totals, day, energy);
-        day += 1;
     }
 }

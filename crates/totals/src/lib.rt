@@ -4,39 +4,35 @@
 mod days;
 mod pairs;
 
-ghost use Rattle.std.specs.Prelude.{◌≡◌};
-ghost use Rattle.file.specs.declared.Verdict.TheVariants.{Accepted};
+ghost use Rattle.std.specs.Prelude.{◌≡◌, Ok};
 ghost use Rattle.file.specs.Reader.{read_file};
 ghost use Rattle.totals.specs.Stays.{stays_answer, stays_after};
 
-use base::Performed;
-use file::{Figures, Verdict};
+use base::Refusal;
+use file::Figures;
 
 // The totals of stays in an accepted file.
-fn stays_in(file: &[u8], g: Figures, pairs: &[u32], totals: &mut [u64]) -> Performed
-    requires { read_file file.now ≡ Accepted g }
+fn stays_in(file: &[u8], g: Figures, pairs: &[u32], totals: &mut [u64]) -> Result<(), Refusal>
+    requires { read_file file.now ≡ Ok g }
     ensures { (result ≡ stays_answer file.now pairs.now totals.old)
         × (totals.new ≡ stays_after file.now pairs.now totals.old) }
 {
     if !pairs::lists_fit(pairs, totals.len()) {
-        return Performed::Refused(18);
+        return Err(Refusal::WrongPairs);
     }
-    let days = g.days;
-    if !pairs::pairs_fit(pairs, days) {
-        return Performed::Refused(19);
+    if !pairs::pairs_fit(pairs, g.days) {
+        return Err(Refusal::WrongStay);
     }
     let n = 1440 / g.interval as usize;
-    days::total_days(file, n, days, pairs, totals);
-    Performed::Done
+    days::total_days(file, n, g.days, pairs, totals);
+    Ok(())
 }
 
 // Totals the stays: `pairs` holds a first day and the day after the last for each, and `totals` takes the sums of their slots.
-pub fn stays(file: &[u8], pairs: &[u32], totals: &mut [u64]) -> Performed
+pub fn stays(file: &[u8], pairs: &[u32], totals: &mut [u64]) -> Result<(), Refusal>
     ensures { (result ≡ stays_answer file.now pairs.now totals.old)
         × (totals.new ≡ stays_after file.now pairs.now totals.old) }
 {
-    match file::read(file) {
-        Verdict::Accepted(g) => stays_in(file, g, pairs, totals),
-        Verdict::Refused(number) => Performed::Refused(number),
-    }
+    let g = file::read(file)?;
+    stays_in(file, g, pairs, totals)
 }

@@ -8,35 +8,25 @@ pub fn lists_fit(pairs: &[u32], totals: usize) -> bool
     ensures { result ≡ every (list_tests pairs.now totals) }
 {
     let count = pairs.len() / 2;
-    if 64 < count {
-        return false;
-    }
-    if pairs.len() % 2 != 0 {
-        return false;
-    }
-    totals == count
+    count <= 64 && pairs.len() % 2 == 0 && totals == count
 }
 
 fn pair_ok(first: u32, end: u32, days: u32) -> bool
     ensures { result ≡ pair_ok days first end }
 {
-    if end <= first {
-        return false;
-    }
-    end <= days
+    first < end && end <= days
 }
 
 // Each first number is below its second, and none exceeds D.
+#[tactic(auto, using(base::proofs::Sums::all_done))]
 pub fn pairs_fit(pairs: &[u32], days: u32) -> bool
     ensures { result ≡ pairs_ok days pairs.now }
 {
-    let count = pairs.len() / 2;
-    let mut k = 0;
-    while k < count {
-        if !pair_ok(pairs[2 * k], pairs[2 * k + 1], days) {
+    let (whole, _) = pairs.as_chunks::<2>();
+    for pair in whole {
+        if !pair_ok(pair[0], pair[1], days) {
             return false;
         }
-        k += 1;
     }
     true
 }

@@ -1,17 +1,17 @@
 -- `simulate`: a refusal changes nothing; else the run is that of the specification.
+use mathlib.Core.Path.{refl}
+use Rattle.std.proofs.lemmas.Result.{err_from_is_err_and}
 use Rattle.berth.proofs.Answers.{each, refused, passes, ran}
 use Rattle.berth.proofs.simulate.Goals as goal
 
-pub returns-then-broken-ne0 : goal.returns-then-broken-ne0
-returns-then-broken-ne0 c = each (refused _ _ _ _ _ _ c.refusal-broken.ensures c.if-broken-ne0.true)
+pub returns-in_err-refusal-clause-told : goal.returns-in_err-refusal-clause-told
+returns-in_err-refusal-clause-told c =
+    let (r, is, same) = err_from_is_err_and c.from_residual.result c.from_residual.ensures.1 in
+    rw (is, same) (each (refused _ _ _ _ _ _ (rw c.as_book.ensures at c.in_err-refusal.ensures) refl))
 
 pub run-requires : goal.run-requires
-run-requires c =
-    passes _ c.args.seed c.args.loss _ c.args.out.now _ c.refusal-broken.ensures c.if-broken-ne0.false
+run-requires c = passes _ c.args.seed c.args.loss _ c.args.out.now _ (rw c.as_book.ensures at c.in_ok-refusal.ensures) refl
 
-pub shape_of-read_versions : goal.shape_of-read_versions
-shape_of-read_versions c = c.read_versions-1.given
-
-pub returns : goal.returns
-returns c =
-    each (ran _ _ _ _ _ _ c.refusal-broken.ensures c.if-broken-ne0.false c.run.ensures)
+pub returns-clause-told : goal.returns-clause-told
+returns-clause-told c =
+    each (ran _ _ _ _ _ _ (rw c.as_book.ensures at c.in_ok-refusal.ensures) refl c.run.ensures.told)

@@ -2,8 +2,9 @@
 use Rattle.std.specs.Prelude.{cond, List, ℕ, zero, suc}
 use Rattle.rules.specs.declared.Head.{Head}
 use Rattle.rules.specs.Opening.{Slots}
-use Rattle.rules.specs.Lent.{lent_slots}
 use Rattle.book.specs.Filling.{deliver_after, counts_after}
+use Rattle.book.specs.declared.lent.SlotsMut.{SlotsMut}
+use Rattle.book.specs.Written.{written_slots}
 use Rattle.berth.specs.declared.generator.Berth.{Berth}
 use Rattle.berth.specs.Steps.{berth_after}
 
@@ -11,8 +12,8 @@ pub record Sent : Type 0 where
   pub slots : Slots
   pub counts : List ℕ
 
-abbrev pub lent_sent : List ℕ → List ℕ → List ℕ → List ℕ → Sent
-lent_sent values versions statuses counts = record { slots = lent_slots values versions statuses; counts = counts }
+abbrev pub written_sent : SlotsMut → List ℕ → Sent
+written_sent s counts = record { slots = written_slots s; counts = counts }
 
 -- after slot i, of which the berth has just made its step
 unfoldable pub sent_one : Head → Sent → ℕ → Berth → Sent

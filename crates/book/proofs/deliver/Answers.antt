@@ -1,4 +1,5 @@
 -- `deliver`: the first broken rule is given; else the answer, the cells and the counts are those of `file_delivery`.
+use Rattle.base.specs.declared.Refusal.TheVariants.{WrongLength}
 use mathlib.Core.Bool.{true, ◌&&◌}
 use mathlib.Core.Path.{◌≡◌, refl, ◌∙◌}
 use Prim.Native.Nat.{ℕ, ◌<◌, ◌≤◌}
@@ -8,13 +9,13 @@ use borrow.Author.Tests.{le-leb, lt-leb, lt-ltb, le-ltb, eq-eqb, ne_eqb}
 use Rattle.base.specs.Refusals.{unless}
 use Rattle.base.proofs.Logic.{and_parts}
 use Rattle.rules.specs.Opening.{head_ok, slot_count, Slots}
-use Rattle.rules.specs.Lent.{lent_slots}
 use Rattle.book.specs.Answers.{Answer}
 use Rattle.book.specs.Answers.Answer.{refused}
 use Rattle.book.specs.Arguments.{argument_rules}
 use Rattle.book.specs.Arguments.Call.{delivery}
 use Rattle.book.specs.Cells.{slots_fit, counts_fit}
 use Rattle.book.specs.Filling.{input_rules, against_delivery, deliver_answer, deliver_after, counts_after}
+use Rattle.book.specs.Written.{written_slots}
 use Rattle.book.specs.Inner.Lent.{Deliverable}
 use Rattle.book.proofs.Fits.{long}
 use Rattle.book.proofs.Tested.{passes, fails, refused_2, past_both}
@@ -23,7 +24,7 @@ use Rattle.book.proofs.deliver.Goals.{After-delivery_fits, Else-not-delivery_fit
 use Rattle.book.proofs.deliver.Goals.{Else-version-eq0, Start, Then-not-delivery_fits}
 
 abbrev lent : Start → Slots
-lent c = lent_slots c.args.values.now c.args.versions.now c.args.statuses.now
+lent c = written_slots c.args.slots.now
 
 -- the answer, and what is left of it past the first k rules
 abbrev whole : Start → Answer
@@ -47,7 +48,7 @@ fits_told : (c : After-delivery_fits)
 unfolding slots_fit counts_fit
 fits_told c = c.delivery_fits.ensures
 
-lists_broken : (c : Then-not-delivery_fits) → whole (goal.at.Then-not-delivery_fits c).Start ≡ refused 2
+lists_broken : (c : Then-not-delivery_fits) → whole (goal.at.Then-not-delivery_fits c).Start ≡ refused WrongLength
 unfolding deliver_answer
 lists_broken c = refused_2 _ _ _ _ (head_passed (goal.at.Then-not-delivery_fits c).Else-not-head_ok)
     (fails (fits_told (goal.at.Then-not-delivery_fits c).After-delivery_fits) c.if-not-delivery_fits.true)
@@ -97,43 +98,44 @@ deliverable c =
       inside = under (goal.at.Else-slot_count-at c).Else-slot_count-at;
     }
 
-pub returns-then-not-head_ok : goal.returns-then-not-head_ok
+pub returns-then-not-head_ok-clause-told : goal.returns-then-not-head_ok-clause-told
 unfolding deliver_answer deliver_after counts_after
-returns-then-not-head_ok c = rw (fails c.head_ok.ensures c.if-not-head_ok.true) (refl, refl, refl)
+returns-then-not-head_ok-clause-told c = rw (fails c.head_ok.ensures c.if-not-head_ok.true) (refl, refl, refl)
 
 pub delivery_fits-requires : goal.delivery_fits-requires
 delivery_fits-requires c = head_passed (goal.at.delivery_fits-requires c).Else-not-head_ok
 
-pub returns-then-not-delivery_fits : goal.returns-then-not-delivery_fits
+pub returns-then-not-delivery_fits-clause-told : goal.returns-then-not-delivery_fits-clause-told
 unfolding deliver_after counts_after
-returns-then-not-delivery_fits c = rw (lists_broken (goal.at.returns-then-not-delivery_fits c).Then-not-delivery_fits) (refl, refl, refl)
+returns-then-not-delivery_fits-clause-told c =
+    rw (lists_broken (goal.at.returns-then-not-delivery_fits-clause-told c).Then-not-delivery_fits) (refl, refl, refl)
 
 pub slot_count-requires : goal.slot_count-requires
 slot_count-requires c = head_passed (goal.at.slot_count-requires c).Else-not-head_ok
 
-pub returns-then-slot_count-at : goal.returns-then-slot_count-at
+pub returns-then-slot_count-at-clause-told : goal.returns-then-slot_count-at-clause-told
 unfolding deliver_after counts_after argument_rules
-returns-then-slot_count-at c =
+returns-then-slot_count-at-clause-told c =
     let over : slot_count c.args.head ≤ c.args.slot =
     omega (arith, c.slot_count.ensures, c.if-slot_count-at.true) in
-    rw (past_2 (goal.at.returns-then-slot_count-at c).Else-not-delivery_fits, le-leb _ _ over) (refl, refl, refl)
+    rw (past_2 (goal.at.returns-then-slot_count-at-clause-told c).Else-not-delivery_fits, le-leb _ _ over) (refl, refl, refl)
 
-pub returns-then-version-eq0 : goal.returns-then-version-eq0
+pub returns-then-version-eq0-clause-told : goal.returns-then-version-eq0-clause-told
 unfolding deliver_after counts_after argument_rules
-returns-then-version-eq0 c = rw (past_3 (goal.at.returns-then-version-eq0 c).Else-slot_count-at, eq-eqb _ _ c.if-version-eq0.true)
-    (refl, refl, refl)
+returns-then-version-eq0-clause-told c =
+    rw (past_3 (goal.at.returns-then-version-eq0-clause-told c).Else-slot_count-at, eq-eqb _ _ c.if-version-eq0.true) (refl, refl, refl)
 
-pub returns-then-status-gt7 : goal.returns-then-status-gt7
+pub returns-then-status-gt7-clause-told : goal.returns-then-status-gt7-clause-told
 unfolding deliver_after counts_after argument_rules
-returns-then-status-gt7 c =
+returns-then-status-gt7-clause-told c =
     let over : 7 < c.args.status = omega (arith, c.if-status-gt7.true) in
-    rw (past_4 (goal.at.returns-then-status-gt7 c).Else-version-eq0, lt-ltb _ _ over) (refl, refl, refl)
+    rw (past_4 (goal.at.returns-then-status-gt7-clause-told c).Else-version-eq0, lt-ltb _ _ over) (refl, refl, refl)
 
 pub file_delivery-requires : goal.file_delivery-requires
 file_delivery-requires c = deliverable (goal.at.file_delivery-requires c).Else-slot_count-at
 
-pub returns : goal.returns
+pub returns-clause-told : goal.returns-clause-told
 unfolding deliver_after counts_after
-returns c =
-    let e = c.file_delivery.ensures in
-    rw (past_5 (goal.at.returns c).Else-status-gt7) e
+returns-clause-told c =
+    let e = c.file_delivery.ensures.told in
+    rw (past_5 (goal.at.returns-clause-told c).Else-status-gt7) e

@@ -1,4 +1,5 @@
 -- `holiday`: the first broken rule is given; else the answer is that of `against_day`, and a stored holiday writes 1.
+use Rattle.base.specs.declared.Refusal.TheVariants.{WrongLength}
 use mathlib.Core.Bool.{true}
 use mathlib.Core.List.{List}
 use mathlib.Core.Path.{◌≡◌, refl, sym, ◌∙◌}
@@ -39,7 +40,7 @@ fits_told : (c : After-days_fit) → c.days_fit.result ≡ days_fit c.args.head 
 unfolding days_fit
 fits_told c = c.days_fit.ensures
 
-lists_broken : (c : Then-not-days_fit) → whole (goal.at.Then-not-days_fit c).Start ≡ refused 2
+lists_broken : (c : Then-not-days_fit) → whole (goal.at.Then-not-days_fit c).Start ≡ refused WrongLength
 unfolding holiday_answer
 lists_broken c = refused_2 _ _ _ _ (head_passed (goal.at.Then-not-days_fit c).Else-not-head_ok)
     (fails (fits_told (goal.at.Then-not-days_fit c).After-days_fit) c.if-not-days_fit.true)

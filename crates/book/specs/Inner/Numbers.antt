@@ -1,4 +1,5 @@
 -- An agreed call and a register read in the lists of their places: the rules from their own arguments, then the cell.
+use Rattle.base.specs.declared.Refusal.TheVariants.{NoPlace, VersionZero, ReadingOver, AgreedOver, WidthOver}
 use Rattle.std.specs.Prelude.{[], ◌∷◌, ℕ, leb, ltb, eqb, length, get_or}
 use Rattle.base.specs.Numbers.{eight_digits}
 use Rattle.base.specs.Refusals.{unless}
@@ -13,7 +14,8 @@ use Rattle.book.specs.Contents.{dial_read, read_at}
 
 unfoldable pub number_answer : Agreed → ℕ → ℕ → ℕ → Answer
 number_answer a place version number =
-    unless refused (rule 3 (leb (length a.values) place) ∷ rule 4 (eqb version 0) ∷ rule 12 (ltb eight_digits number) ∷ [])
+    unless refused
+    (rule NoPlace (leb (length a.values) place) ∷ rule VersionZero (eqb version 0) ∷ rule AgreedOver (ltb eight_digits number) ∷ [])
     (against_agreed (get_or a.versions place 0) (get_or a.values place 0) version number)
 
 unfoldable pub number_after : Agreed → ℕ → ℕ → ℕ → Agreed
@@ -26,10 +28,10 @@ number_after a place version number = record {
 unfoldable pub read_answer : Reads → ℕ → ℕ → ℕ → ℕ → Answer
 read_answer r boundary version reading width =
     unless refused
-    (rule 3 (leb (length r.readings) boundary)
-    ∷ rule 4 (eqb version 0)
-    ∷ rule 6 (ltb eight_digits reading)
-    ∷ rule 17 (ltb most_width width)
+    (rule NoPlace (leb (length r.readings) boundary)
+    ∷ rule VersionZero (eqb version 0)
+    ∷ rule ReadingOver (ltb eight_digits reading)
+    ∷ rule WidthOver (ltb most_width width)
     ∷ [])
     (against_boundary (get_or r.read_versions boundary 0) (read_at r boundary) version (dial_read reading width))
 

@@ -1,29 +1,24 @@
 -- `year_at`. What is left to place is placed from the present year on.
-use mathlib.Core.Path.{◌≡◌, sym, ◌∙◌}
-use Prim.Native.Nat.{◌-◌, ◌≤◌, ◌<◌}
+use mathlib.Core.Path.{sym, ◌∙◌}
+use Prim.Native.Nat.{◌≤◌, ◌<◌}
 use native.Mathlib.Omega.{arith}
-use Rattle.calendar.specs.Calendar.{year_length, place}
-use Rattle.calendar.proofs.Places.{place_here, place_next}
+use Rattle.calendar.specs.Calendar.{year_length}
+use Rattle.calendar.proofs.Places.{place_here, place_next, place_end}
 use Rattle.calendar.proofs.year_at.Goals as goal
 
 pub returns-then-left-length : goal.returns-then-left-length
 returns-then-left-length c =
     let l = c.loop-at in
     let h : l.left < year_length l.at = omega arith in
-    sym (l.invariant.known ∙ place_here year_length _ _ _ h)
+    sym (l.invariant ∙ place_here year_length _ _ _ h)
 
 pub loop-at-preserved : goal.loop-at-preserved
 loop-at-preserved c =
     let l = c.loop-at in
     let h : year_length l.at ≤ l.left = omega arith in
-    record {
-      inside = omega arith;
-      known = l.invariant.known ∙ rw c.year_length-length.ensures (place_next year_length 2099 l.at l.left (omega arith) h);
-    }
+    l.invariant ∙ rw c.year_length-length.ensures (place_next year_length 2099 l.at l.left (omega arith) h)
 
 pub returns : goal.returns
-unfolding place
 returns c =
     let l = c.loop-at in
-    let e : 2099 - l.at ≡ 0 = omega arith in
-    sym (l.invariant.known ∙ rw e)
+    sym (l.invariant ∙ place_end year_length 2099 l.at l.left (omega arith))

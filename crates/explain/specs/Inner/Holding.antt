@@ -1,5 +1,5 @@
 -- What is found of the span that a slot lies in, and of its scaling before the slot.
-use Rattle.std.specs.Prelude.{true, cond, not, ◌&&◌, List, ℕ, ◌-◌, ◌*◌, ◌≤◌, ◌<◌, eqb}
+use Rattle.std.specs.Prelude.{cond, not, ◌&&◌, List, ℕ, ◌-◌, ◌*◌, ◌≤◌, ◌<◌, eqb, Option, Some, None}
 use Rattle.rules.specs.declared.Head.{Head}
 use Rattle.rules.specs.declared.Quality.{Quality}
 use Rattle.rules.specs.declared.spans.Scaling.{Scaling}
@@ -10,7 +10,6 @@ use Rattle.rules.specs.Inner.Summaries.{compared_with}
 use Rattle.rules.specs.Inner.Stretches.{unscaled_to}
 use Rattle.explain.specs.declared.Spanned.{Spanned}
 use Rattle.explain.specs.declared.Shares.{Shares}
-use Rattle.explain.specs.Explain.{no_shares}
 
 -- nothing is scaled
 abbrev pub unscaled : Scaling
@@ -33,7 +32,6 @@ unfoldable pub spanned_with : Head → List ℕ → List ℕ → ℕ → ℕ →
 spanned_with h readings widths first last m =
     let found = compared_with h readings widths first last m in
     record {
-      inside = true;
       first = first;
       last = last;
       lowest = found.range.lowest;
@@ -51,8 +49,8 @@ pub record Between (h : Head) (i first last : ℕ) : Type 0 where
   pub within : last ≤ h.days
 
 -- the shares of a slot of this quality
-unfoldable pub shares_with : Quality → Scaling → ℕ → Shares
+unfoldable pub shares_with : Quality → Scaling → ℕ → Option Shares
 shares_with q by reached =
     cond (is_s q && not (eqb by.whole 0))
-    (record { scaled = true; t = by.t; whole = by.whole; passed = by.passed; reached = reached })
-    no_shares
+    (Some (record { t = by.t; whole = by.whole; passed = by.passed; reached = reached }))
+    None

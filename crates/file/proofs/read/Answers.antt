@@ -58,12 +58,11 @@ slot_count-requires c = (is_ready (goal.at.slot_count-requires c).Else-not-trail
 pub totals-found-requires : goal.totals-found-requires
 totals-found-requires c = omega (arith, c.slot_count.ensures, (is_ready (goal.at.totals-found-requires c).Else-not-trailer_ok).long)
 
+pub invariant_of-framed : goal.invariant_of-framed
+invariant_of-framed c = record { ready = is_ready (goal.at.invariant_of-framed c).Else-not-trailer_ok }
+
 pub tables_ok-requires : goal.tables_ok-requires
-tables_ok-requires c = (
-  is_ready (goal.at.tables_ok-requires c).Else-not-trailer_ok,
-  counted
-      (goal.at.tables_ok-requires c).After-totals-found,
-)
+tables_ok-requires c = counted (goal.at.tables_ok-requires c).After-totals-found
 
 pub returns-then-not-tables_ok : goal.returns-then-not-tables_ok
 returns-then-not-tables_ok c =

@@ -7,8 +7,6 @@ use Rattle.rules.specs.declared.Quality.TheVariants.{A, S, F, N}
 use Rattle.rules.specs.Numbers.{most_days}
 use Rattle.file.specs.declared.Figures.{Figures}
 use Rattle.file.specs.declared.counting.Counted.{Counted}
-use Rattle.file.specs.declared.slots.Kind.{Kind}
-use Rattle.file.specs.declared.slots.Kind.TheVariants.{Substituted, None, Scaled, Unscaled}
 use Rattle.file.specs.declared.slots.SlotRecord.{SlotRecord}
 use Rattle.file.specs.declared.slots.Tally.{Tally}
 use Rattle.file.specs.Layout.{slot_width, span_table_bytes, trailer_width}
@@ -22,34 +20,23 @@ is_plain r = is_form A 0 r
 abbrev pub is_kindless : SlotRecord → Bool
 is_kindless r = is_plain r || is_form F 5 r
 
--- a record is of a kind
-abbrev pub is_kind : Kind → SlotRecord → Bool
-is_kind Substituted r = of_quality S r
-is_kind None r = of_quality N r
-is_kind Scaled r = scaled r
-is_kind Unscaled r = unscaled r
-
--- slot i is of a kind
-abbrev pub kind_at : List ℕ → Kind → ℕ → Bool
-kind_at bs kind i = is_kind kind (slot_at bs i)
-
 -- the kinds found and the sum with one slot more
 abbrev pub tallied_with : Tally → SlotRecord → Tally
 tallied_with t r = record {
-  none = t.none || is_kind None r;
-  scaled = t.scaled || is_kind Scaled r;
-  unscaled = t.unscaled || is_kind Unscaled r;
-  substituted = t.substituted || is_kind Substituted r;
+  none = t.none || of_quality N r;
+  scaled = t.scaled || scaled r;
+  unscaled = t.unscaled || unscaled r;
+  substituted = t.substituted || of_quality S r;
   sum = t.sum + r.value;
 }
 
 -- which kinds of slots the k from a have, and their sum
 unfoldable pub tallied_in : List ℕ → ℕ → ℕ → Tally
 tallied_in bs a k = record {
-  none = any (kind_at bs None) a k;
-  scaled = any (kind_at bs Scaled) a k;
-  unscaled = any (kind_at bs Unscaled) a k;
-  substituted = any (kind_at bs Substituted) a k;
+  none = any (λ i. of_quality N (slot_at bs i)) a k;
+  scaled = any (λ i. scaled (slot_at bs i)) a k;
+  unscaled = any (λ i. unscaled (slot_at bs i)) a k;
+  substituted = any (λ i. of_quality S (slot_at bs i)) a k;
   sum = sum (λ i. (slot_at bs i).value) a k;
 }
 

@@ -24,28 +24,23 @@ more n k m xs ys within fits =
 pub loop-n-init : goal.loop-n-init
 loop-n-init g c = record { inside = search rules; long = search rules; taken = Consumes-nil _ }
 
-pub returns-in-Ok-eq0-clause-bytes : goal.returns-in-Ok-eq0-clause-bytes
-returns-in-Ok-eq0-clause-bytes g c =
+pub returns-then-more-eq0-clause-bytes : goal.returns-then-more-eq0-clause-bytes
+returns-then-more-eq0-clause-bytes g c =
     let xs = c.loop-n.buf in
     let n = c.loop-n.n in
     let within = c.loop-n.invariant.inside in
-    let none : take n xs ++ take c.in-Ok-eq0.field-0 c.read.new.buf ≡ take n (put_mid n (length xs - n) xs c.read.new.buf) =
-    ap (λ m. take n xs ++ take m c.read.new.buf) c.in-Ok-eq0.field-0-test ∙ append-nil (take n xs) ∙ sym (front n _ xs _ within) in
-    let taken = Consumes-trans _ _ _ _ _ c.loop-n.invariant.taken c.in-Ok-eq0.ensures.bytes.0 in
-    (subst (Consumes _ _) none taken, λ h. c.in-Ok-eq0.ensures.bytes.1 c.in-Ok-eq0.field-0-test (search rules))
+    let none : take n xs ++ take c.in_ok-more.more c.read.new.buf ≡ take n (put_mid n (length xs - n) xs c.read.new.buf) =
+    ap (λ m. take n xs ++ take m c.read.new.buf) c.if-more-eq0.true ∙ append-nil (take n xs) ∙ sym (front n _ xs _ within) in
+    let taken = Consumes-trans _ _ _ _ _ c.loop-n.invariant.taken c.in_ok-more.ensures.bytes.0 in
+    (subst (Consumes _ _) none taken, λ h. c.in_ok-more.ensures.bytes.1 c.if-more-eq0.true (search rules))
 
 pub loop-n-preserved : goal.loop-n-preserved
 loop-n-preserved g c =
     let within = c.loop-n.invariant.inside in
-    let taken = Consumes-trans _ _ _ _ _ c.loop-n.invariant.taken c.in-Ok.ensures.bytes.0 in
+    let taken = Consumes-trans _ _ _ _ _ c.loop-n.invariant.taken c.in_ok-more.ensures.bytes.0 in
     record {
       inside = search rules;
       long = search rules;
-      taken = subst (Consumes _ _) (more c.loop-n.n _ c.in-Ok.more c.loop-n.buf c.read.new.buf within c.in-Ok.ensures.bound.0) taken;
+      taken =
+          subst (Consumes _ _) (more c.loop-n.n _ c.in_ok-more.more c.loop-n.buf c.read.new.buf within c.in_ok-more.ensures.bound.0) taken;
     }
-
-pub returns-clause-most : goal.returns-clause-most
-returns-clause-most g c = c.loop-n.invariant.inside
-
-pub returns-clause-bytes : goal.returns-clause-bytes
-returns-clause-bytes g c = (c.loop-n.invariant.taken, search rules)

@@ -10,26 +10,26 @@ use Rattle.line.specs.Line.{answer_text, line}
 use Rattle.line.proofs.Lengths.{too_long_room, figures_room, refusal_room, at_start}
 use Rattle.line.proofs.line.Goals as goal
 
-pub returns-then-bytes-gt65536 : goal.returns-then-bytes-gt65536
+pub returns-then-bytes-gt-MOST_BYTES : goal.returns-then-bytes-gt-MOST_BYTES
 unfolding line
-returns-then-bytes-gt65536 c =
-    let long : 65_536 < length c.args.bytes.now = omega (arith, c.if-bytes-gt65536.true) in
+returns-then-bytes-gt-MOST_BYTES c =
+    let long : 65_536 < length c.args.bytes.now = omega (arith, c.if-bytes-gt-MOST_BYTES.true) in
     rw (lt-leb _ _ long) (at_start c.put_text.ensures too_long_room (search rules))
 
 pub put_figures-requires : goal.put_figures-requires
 put_figures-requires c =
-    first_lt c.args.bytes.now _ (sym c.read.ensures ∙ c.in-Accepted.is)
+    first_lt c.args.bytes.now _ (sym c.read.ensures ∙ c.in-Ok.is)
 
-pub returns-in-Accepted : goal.returns-in-Accepted
+pub returns-in-Ok : goal.returns-in-Ok
 unfolding line answer_text
-returns-in-Accepted c =
-    let short : length c.args.bytes.now ≤ 65_536 = omega (arith, c.if-bytes-gt65536.false) in
-    let is = sym c.read.ensures ∙ c.in-Accepted.is in
+returns-in-Ok c =
+    let short : length c.args.bytes.now ≤ 65_536 = omega (arith, c.if-bytes-gt-MOST_BYTES.false) in
+    let is = sym c.read.ensures ∙ c.in-Ok.is in
     rw (le-leb _ _ short, is) (at_start c.put_figures.ensures (figures_room _) (search rules))
 
-pub returns-in-Refused : goal.returns-in-Refused
+pub returns-in-Err : goal.returns-in-Err
 unfolding line answer_text
-returns-in-Refused c =
-    let short : length c.args.bytes.now ≤ 65_536 = omega (arith, c.if-bytes-gt65536.false) in
-    let is = sym c.read.ensures ∙ c.in-Refused.is in
+returns-in-Err c =
+    let short : length c.args.bytes.now ≤ 65_536 = omega (arith, c.if-bytes-gt-MOST_BYTES.false) in
+    let is = sym c.read.ensures ∙ c.in-Err.is in
     rw (le-leb _ _ short, is) (at_start c.put_refusal.ensures (refusal_room _) (search rules))

@@ -1,10 +1,9 @@
 -- `line::put_refusal` meets its contract.
-use Rattle.line.proofs.Putting.{then}
+use mathlib.Core.Path.{ap}
+use Rattle.line.specs.Line.{field}
+use Rattle.line.proofs.Putting.{then, same}
 use Rattle.line.proofs.put_refusal.Goals as goal
 
 pub returns : goal.returns
 returns c =
-    let put-text = c.put_text-word in
-    let put-field = c.put_field-end in
-    let put-text2 = c.put_text in
-    then (then put-text.ensures put-field.ensures) put-text2.ensures
+    then (then c.put_text-word.ensures (same (ap field c.number.ensures) c.put_field-end.ensures)) c.put_text.ensures

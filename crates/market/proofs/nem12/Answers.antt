@@ -1,15 +1,15 @@
--- `nem12` meets its contract.
+-- `nem12`: the reader's refusal, or the export of an accepted file.
 use mathlib.Core.Path.{sym, ◌∙◌}
-use Rattle.market.specs.Fields.{texts}
+use Rattle.std.proofs.lemmas.Result.{err_from_is_err_and}
+use Rattle.market.specs.Fields.{lent}
 use Rattle.market.proofs.Answers.{refused_by_reader}
 use Rattle.market.proofs.nem12.Goals as goal
 
-pub export_of-requires : goal.export_of-requires
-export_of-requires c = sym c.read.ensures ∙ c.in-Accepted.is
-
-pub returns-in-Refused : goal.returns-in-Refused
-returns-in-Refused c =
+pub returns-in_err-g : goal.returns-in_err-g
+returns-in_err-g c =
     let a = c.args in
-    refused_by_reader a.file.now _ (sym c.read.ensures ∙ c.in-Refused.is)
-    (texts a.identifier.now a.from.now a.to.now a.configuration.now a.register.now a.suffix.now a.stream.now
-    a.serial.now a.next_read.now a.reason.now a.created.now) a.codes a.out.now
+    let p = err_from_is_err_and c.from_residual.result c.from_residual.ensures.1 in
+    rw (p.1, p.2) (refused_by_reader a.file.now _ (sym c.read.ensures ∙ c.in_err-g.was) (lent a.texts.now) a.codes a.out.now)
+
+pub export_of-requires : goal.export_of-requires
+export_of-requires c = sym c.read.ensures ∙ c.in_ok-g.was

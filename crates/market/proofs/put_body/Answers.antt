@@ -5,7 +5,7 @@ use Prim.Native.Nat.{◌/◌}
 use native.Mathlib.Omega.{arith}
 use Rattle.file.specs.declared.Figures.{Figures}
 use Rattle.file.specs.Reader.{slot_at}
-use Rattle.market.specs.Fields.{mark_of}
+use Rattle.market.specs.Fields.{lent, mark_of}
 use Rattle.market.specs.Records.{record100, record200, days_of}
 use Rattle.market.specs.Export.{content_of, body_of}
 use Rattle.line.proofs.Putting.{then, same}
@@ -24,10 +24,10 @@ pub returns : goal.returns
 unfolding content_of body_of
 returns c =
     let a = c.args in
-    let figured = ap (λ (f : Figures). record100 a.created.now a.from.now a.to.now
-    ++ (record200 a.identifier.now a.configuration.now a.register.now a.suffix.now a.stream.now a.serial.now
-    f.interval a.next_read.now
-    ++ days_of a.reason.now a.created.now f.first (λ i. (slot_at a.file.now i).value)
+    let t = lent a.texts.now in
+    let figured = ap (λ (f : Figures). record100 t.created t.from t.to
+    ++ (record200 t.identifier t.configuration t.register t.suffix t.stream t.serial f.interval t.next_read
+    ++ days_of t.reason t.created f.first (λ i. (slot_at a.file.now i).value)
     (λ i. mark_of a.codes (slot_at a.file.now i)) (1440 / f.interval) f.days)) (sym (figures_are a.file.now a.g
     c.requires.0)) in
     same figured (then c.put_100-head.ensures

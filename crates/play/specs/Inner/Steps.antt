@@ -1,8 +1,8 @@
 -- A line before the opening, a place that is reached in a log, and what was found there.
-use Rattle.std.specs.Prelude.{Bool, true, false, cond, List, [], ◌∷◌, ◌≡◌, ℕ, suc, ◌+◌, ◌≤◌, length, drop}
+use Rattle.base.specs.declared.Refusal.{Refusal}
+use Rattle.base.specs.declared.Refusal.TheVariants.{OutsideBounds}
+use Rattle.std.specs.Prelude.{cond, List, [], ◌∷◌, ◌≡◌, ℕ, suc, ◌+◌, ◌≤◌, length, drop, Option, Some, None, Result, Ok, Err}
 use Rattle.rules.specs.declared.Head.{Head}
-use Rattle.rules.specs.declared.limits.Loaded.{Loaded}
-use Rattle.rules.specs.declared.limits.Loaded.TheVariants as loaded
 use Rattle.rules.specs.Limits.{load_answer}
 use Rattle.rules.specs.Opening.{head_ok}
 use Rattle.text_log.specs.declared.line.LogLine.{LogLine}
@@ -11,40 +11,34 @@ use Rattle.text_log.specs.declared.line.Opening.{Opening}
 use Rattle.text_log.specs.Log.{lines, Item, items, read_log, read_open, head_with, or_built_in}
 use Rattle.text_log.specs.Log.Item.{passed, table, opening, call, neither}
 use Rattle.text_log.specs.Inner.Lines.{FoundAt}
-use Rattle.play.specs.declared.Checked.TheVariants as coded
-use Rattle.play.specs.declared.reading.OpeningFound.{OpeningFound}
-use Rattle.play.specs.declared.reading.OpeningFound.TheVariants as opened
+use Rattle.play.specs.declared.NotALog.{NotALog}
+use Rattle.play.specs.declared.NotALog.TheVariants as no_log
+use Rattle.play.specs.declared.reading.Opened.{Opened}
 use Rattle.play.specs.declared.reading.TestedLine.{TestedLine}
-use Rattle.play.specs.declared.reading.Step.{Step}
-use Rattle.play.specs.declared.reading.Step.TheVariants.{On, Opened, NotACall, Refused}
+use Rattle.play.specs.declared.reading.Wrong.{Wrong}
+use Rattle.play.specs.declared.reading.Wrong.TheVariants.{NotACall, Refused}
 use Rattle.play.specs.Playing.{checked, log_calls}
 
--- what a table, and an opening, that loads or does not, comes to
-unfoldable pub table_step : Loaded → Step
-table_step (loaded.Limit w) = On
-table_step (loaded.Refused k) = Refused k
+-- what a table, and an opening, that loads or does not, comes to: the opening's head, nothing yet, or what is wrong
+unfoldable pub table_step : Result ℕ Refusal → Result (Option Head) Wrong
+table_step (Ok w) = Ok None
+table_step (Err k) = Err (Refused k)
 
-unfoldable pub head_step : Head → Step
-head_step h = cond (head_ok h) (Opened h) (Refused 1)
+unfoldable pub head_step : Head → Result (Option Head) Wrong
+head_step h = cond (head_ok h) (Ok (Some h)) (Err (Refused OutsideBounds))
 
-unfoldable pub opening_step : Opening → Loaded → Step
-opening_step o (loaded.Limit w) = head_step (head_with o w)
-opening_step o (loaded.Refused k) = Refused k
+unfoldable pub opening_step : Opening → Result ℕ Refusal → Result (Option Head) Wrong
+opening_step o (Ok w) = head_step (head_with o w)
+opening_step o (Err k) = Err (Refused k)
 
 -- a line before the opening, after the table so far
-unfoldable pub step_of : List ℕ → Item → Step
-step_of t passed = On
+unfoldable pub step_of : List ℕ → Item → Result (Option Head) Wrong
+step_of t passed = Ok None
 step_of [] (table u) = table_step (load_answer u 1)
-step_of (w ∷ ws) (table u) = NotACall
+step_of (w ∷ ws) (table u) = Err NotACall
 step_of t (opening o) = opening_step o (load_answer (or_built_in t) o.kind)
-step_of t (call c) = NotACall
-step_of t neither = NotACall
-
-abbrev pub goes_on : Step → Bool
-goes_on On = true
-goes_on (Opened h) = false
-goes_on NotACall = false
-goes_on (Refused k) = false
+step_of t (call c) = Err NotACall
+step_of t neither = Err NotACall
 
 -- the table after that line
 unfoldable pub table_after : List ℕ → Item → List ℕ
@@ -54,34 +48,35 @@ table_after t (opening o) = t
 table_after t (call c) = t
 table_after t neither = t
 
--- what was found at line n, with the place after it
-unfoldable pub opening_at : Step → ℕ → ℕ → OpeningFound
-opening_at On at n = opened.Without coded.NoOpening
-opening_at (Opened h) at n = opened.Opened h at n
-opening_at NotACall at n = opened.Without (coded.NotACall n)
-opening_at (Refused k) at n = opened.Without (coded.Refused n k)
+-- what is wrong in line n
+abbrev pub in_line : Wrong → ℕ → NotALog
+in_line NotACall n = no_log.NotACall n
+in_line (Refused k) n = no_log.Refused n k
 
--- a line that can stand after the opening, and how many calls it is
-abbrev pub is_outside : LogLine → Bool
-is_outside line.Passed = false
-is_outside line.Table = true
-is_outside (line.Open o) = true
-is_outside (line.Fill c) = false
-is_outside line.NoCall = true
+-- how many calls a line is that can stand after the opening
+abbrev pub calls_at : LogLine → Option ℕ
+calls_at line.Passed = Some 0
+calls_at line.Table = None
+calls_at (line.Open o) = None
+calls_at (line.Fill c) = Some 1
+calls_at line.NoCall = None
 
-abbrev pub calls_at : LogLine → ℕ
-calls_at line.Passed = 0
-calls_at line.Table = 0
-calls_at (line.Open o) = 0
-calls_at (line.Fill c) = 1
-calls_at line.NoCall = 0
-
--- the line at a place is such a line or not, and so many calls
-pub record TestedAt (bytes : List ℕ) (at : ℕ) (r : TestedLine) : Type 0 where
+-- the line at a place is such a line, and so many calls
+pub record PassingAt (bytes : List ℕ) (at : ℕ) (r : TestedLine) : Type 0 where
   pub line : LogLine
   pub found : FoundAt bytes at line r.next
-  pub outside : r.outside ≡ is_outside line
-  pub calls : r.calls ≡ calls_at line
+  pub calls : calls_at line ≡ Some r.calls
+
+-- or it is not
+pub record OutsideAt (bytes : List ℕ) (at : ℕ) : Type 0 where
+  pub line : LogLine
+  pub next : ℕ
+  pub found : FoundAt bytes at line next
+  pub outside : calls_at line ≡ None
+
+abbrev pub TestedAt : List ℕ → ℕ → Option TestedLine → Type 0
+TestedAt bytes at (Some r) = PassingAt bytes at r
+TestedAt bytes at None = OutsideAt bytes at
 
 -- the lines in front of a place are so many, with so many calls
 pub record Reached (bytes : List ℕ) (at n calls : ℕ) : Type 0 where
@@ -92,7 +87,7 @@ pub record Reached (bytes : List ℕ) (at n calls : ℕ) : Type 0 where
   pub call_count : length (log_calls bytes) ≡ calls + length (log_calls (drop at bytes))
 
 -- the opening was found in the line before the place, or the log is none
-abbrev pub OpeningMeant : List ℕ → OpeningFound → Type 0
-OpeningMeant bytes (opened.Opened h at n) =
-    Reached bytes at n 0 × (read_log bytes ≡ read_open h (suc n) (items (drop at bytes)))
-OpeningMeant bytes (opened.Without c) = c ≡ checked bytes
+abbrev pub OpeningMeant : List ℕ → Result Opened NotALog → Type 0
+OpeningMeant bytes (Ok r) =
+    Reached bytes r.at r.lines 0 × (read_log bytes ≡ read_open r.head (suc r.lines) (items (drop r.at bytes)))
+OpeningMeant bytes (Err why) = Err why ≡ checked bytes

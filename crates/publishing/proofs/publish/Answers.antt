@@ -3,15 +3,14 @@ use mathlib.Core.Bool.{true}
 use mathlib.Core.Path.{◌≡◌, sym, ◌∙◌}
 use Rattle.rules.specs.Opening.{head_ok}
 use Rattle.book.specs.Cells.{Book, book_fits}
-use Rattle.book.specs.Lent.{lent_book}
+use Rattle.book.specs.Lent.{book_in}
 use Rattle.publishing.proofs.Publishing.{refused_1, refused_2}
 use Rattle.publishing.proofs.publish.Goals as goal
 use Rattle.publishing.proofs.publish.Goals.{Else-not-head_ok, Else-not-lists_fit, Start}
 
 abbrev lent : Start → Book
 lent c =
-    lent_book c.args.values.now c.args.versions.now c.args.statuses.now c.args.holidays.now c.args.readings.now c.args.read_versions.now
-    c.args.agreed.now c.args.agreed_versions.now c.args.counts.now c.args.widths.now
+    book_in c.args.book.now
 
 head_passed : (c : Else-not-head_ok) → head_ok c.args.head ≡ true
 head_passed c = sym c.head_ok.ensures ∙ c.if-not-head_ok.false

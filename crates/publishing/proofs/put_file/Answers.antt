@@ -7,7 +7,7 @@ use native.Mathlib.Omega.{arith}
 use lib.ListN.{length}
 use Rattle.rules.specs.Opening.{slot_count}
 use Rattle.rules.specs.Spans.{outcome_at, outcomes, spans}
-use Rattle.rules.specs.Lent.{slots, agreed_lists, cells}
+use Rattle.rules.specs.Lent.{cells_in}
 use Rattle.rules.proofs.Bounds.{bounded, count_high}
 use Rattle.rules.proofs.Neighbours.{spans_few}
 use Rattle.publishing.specs.Publishing.{file_length}
@@ -32,16 +32,14 @@ pub overflow_cast-g : goal.overflow_cast-g
 overflow_cast-g c =
     let a = c.args in
     let w = bounded a.head c.requires.0.whole.lent.fitted.head in
-    let b = cells (slots a.values.now a.versions.now a.statuses.now) a.holidays.now a.readings.now
-    a.read_versions.now (agreed_lists a.agreed.now a.agreed_versions.now) a.widths.now in
+    let b = cells_in a.cells.now in
     omega (arith, c.requires.1, spans_few a.head b, w.days_high)
 
 pub overflow_add-g : goal.overflow_add-g
 overflow_add-g c =
     let a = c.args in
     let w = bounded a.head c.requires.0.whole.lent.fitted.head in
-    let b = cells (slots a.values.now a.versions.now a.statuses.now) a.holidays.now a.readings.now
-    a.read_versions.now (agreed_lists a.agreed.now a.agreed_versions.now) a.widths.now in
+    let b = cells_in a.cells.now in
     omega (
       arith,
       filled_low a.head b c.put_tables-found.result c.put_tables-found.ensures.0 w,
@@ -51,16 +49,14 @@ pub overflow_mul-spans : goal.overflow_mul-spans
 overflow_mul-spans c =
     let a = c.args in
     let w = bounded a.head c.requires.0.whole.lent.fitted.head in
-    let b = cells (slots a.values.now a.versions.now a.statuses.now) a.holidays.now a.readings.now
-    a.read_versions.now (agreed_lists a.agreed.now a.agreed_versions.now) a.widths.now in
+    let b = cells_in a.cells.now in
     omega (arith, c.requires.1, spans_few a.head b, w.days_high)
 
 pub overflow_add-table : goal.overflow_add-table
 overflow_add-table c =
     let a = c.args in
     let w = bounded a.head c.requires.0.whole.lent.fitted.head in
-    let b = cells (slots a.values.now a.versions.now a.statuses.now) a.holidays.now a.readings.now
-    a.read_versions.now (agreed_lists a.agreed.now a.agreed_versions.now) a.widths.now in
+    let b = cells_in a.cells.now in
     omega (
       arith,
       c.requires.1,
@@ -79,8 +75,7 @@ unfolding file_length outcomes
 returns c =
     let a = c.args in
     let w = bounded a.head c.requires.0.whole.lent.fitted.head in
-    let b = cells (slots a.values.now a.versions.now a.statuses.now) a.holidays.now a.readings.now
-    a.read_versions.now (agreed_lists a.agreed.now a.agreed_versions.now) a.widths.now in
+    let b = cells_in a.cells.now in
     let f = figures_found a.head b c.put_tables-found.result c.put_tables-found.ensures.0
     c.first_day.result a.spans c.first_day.ensures c.requires.1 in
     let l : file_length a.head b ≤ length a.out.now =

@@ -1,7 +1,9 @@
 -- What the functions that publish know between two slots.
-use Rattle.std.specs.Prelude.{Bool, true, ◌≡◌, List, [], ◌∷◌, ℕ, zero, suc, ◌+◌, ◌-◌, ◌*◌, ◌≤◌, ◌<◌, ltb, length}
+use Rattle.base.specs.declared.Refusal.TheVariants.{ShortBuffer}
+use Rattle.base.specs.declared.Refusal.{Refusal}
+use Rattle.std.specs.Prelude.{Bool, true, ◌≡◌, List, [], ◌∷◌, ℕ, zero, suc, ◌+◌, ◌-◌, ◌*◌, ◌≤◌, ◌<◌, ltb, length, Result}
 use Rattle.base.specs.Lists.{up_to}
-use Rattle.base.specs.Refusals.{unless}
+use Rattle.base.specs.Refusals.{answered}
 use Rattle.base.specs.Refusals.Rule.{rule}
 use Rattle.rules.specs.declared.Head.{Head}
 use Rattle.rules.specs.declared.Outcome.{Outcome}
@@ -14,13 +16,11 @@ use Rattle.rules.specs.Inner.Stretches.{stretch_at}
 use Rattle.rules.specs.Inner.Walks.{walk_at, direct_at, direct_of, DirectFrom, DirectTo}
 use Rattle.rules.specs.Inner.Passes.{pass_at, begun_before}
 use Rattle.book.specs.Cells.{Book, cells_fit, cells_ok}
-use Rattle.publishing.specs.declared.Published.{Published}
 use Rattle.publishing.specs.declared.tables.Totals.{Totals}
 use Rattle.publishing.specs.declared.tables.Progress.{Progress}
 use Rattle.publishing.specs.declared.tables.DirectPut.{DirectPut}
 use Rattle.file.specs.Layout.{one, total, table, slot_row, span_row}
 use Rattle.publishing.specs.Publishing.{published, file_length, publish_answer, bytes_after, publish_after}
-use Rattle.publishing.specs.declared.Published.TheVariants.{Length, Refused}
 use Rattle.file.specs.Inner.Writing.{written}
 
 -- the counts of each quality and the sum of a list of outcomes
@@ -87,14 +87,14 @@ pub record Sound (h : Head) (b : Cells) : Type 0 where
   pub cells : cells_ok h b ≡ true
 
 -- what publishing them answers, and leaves of a buffer d
-abbrev pub put_answer : Head → Cells → List ℕ → Published
-put_answer h b d = unless Refused (rule 7 (ltb (length d) (file_length h b)) ∷ []) (Length (file_length h b))
+abbrev pub put_answer : Head → Cells → List ℕ → Result ℕ Refusal
+put_answer h b d = answered (rule ShortBuffer (ltb (length d) (file_length h b)) ∷ []) (file_length h b)
 
-abbrev pub Put : Head → Cells → List ℕ → Published → List ℕ → Type 0
+abbrev pub Put : Head → Cells → List ℕ → Result ℕ Refusal → List ℕ → Type 0
 Put h b d p e = (p ≡ put_answer h b d) × (e ≡ bytes_after (put_answer h b d) (published h b) d)
 
 -- the same of publishing any lists
-abbrev pub Left : Head → Book → List ℕ → Published → List ℕ → Type 0
+abbrev pub Left : Head → Book → List ℕ → Result ℕ Refusal → List ℕ → Type 0
 Left h b d p e = (p ≡ publish_answer h b d) × (e ≡ publish_after h b d)
 
 -- such cells, and room for the file

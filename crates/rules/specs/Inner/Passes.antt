@@ -1,10 +1,8 @@
 -- What a pass over the slots knows before a slot.
-use Rattle.std.specs.Prelude.{List, [], ◌∷◌, ◌++◌, ℕ, zero, suc}
+use Rattle.std.specs.Prelude.{List, [], ◌∷◌, ◌++◌, ℕ, zero, suc, Option, Some, None}
 use Rattle.rules.specs.declared.Head.{Head}
-use Rattle.rules.specs.declared.Span as declared
+use Rattle.rules.specs.declared.Span.{Span}
 use Rattle.rules.specs.declared.pass.Pass.{Pass}
-use Rattle.rules.specs.declared.stretch.Begins.{Begins}
-use Rattle.rules.specs.declared.stretch.Begins.TheVariants.{Span, Nothing}
 use Rattle.rules.specs.Opening.{Cells}
 use Rattle.rules.specs.Inner.Walks.{walk_at}
 use Rattle.rules.specs.Inner.Stretches.{carried_at, begins_at}
@@ -14,10 +12,10 @@ unfoldable pub pass_at : Head → Cells → ℕ → Pass
 pass_at h b i = record { walk = walk_at h b.slots b.agreed.versions i; stretch = carried_at h b i }
 
 -- the spans that begin before slot i
-abbrev pub list_of : Begins → List declared.Span
-list_of Nothing = []
-list_of (Span s) = s ∷ []
+abbrev pub list_of : Option Span → List Span
+list_of None = []
+list_of (Some s) = s ∷ []
 
-unfoldable pub begun_before : Head → Cells → ℕ → List declared.Span
+unfoldable pub begun_before : Head → Cells → ℕ → List Span
 begun_before h b zero = []
 begun_before h b (suc i) = begun_before h b i ++ list_of (begins_at h b i)

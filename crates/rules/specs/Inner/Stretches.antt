@@ -1,28 +1,25 @@
 -- What the pass over the slots knows of the span that a slot lies in, or of the stretch outside spans.
 use Rattle.std.specs.Prelude.{Bool, true, cond, not, ◌&&◌, List, [], ◌∷◌, ◌≡◌, ℕ, zero, suc, ◌+◌, ◌-◌, ◌*◌, ◌/◌, ◌%◌, ◌≤◌, ◌<◌, eqb}
+use Rattle.std.specs.Prelude.{Option as Coded, Some, None}
 use Rattle.std.proofs.Math.Option.{Option, none, some}
 use Rattle.base.specs.Lists.{sum}
 use Rattle.rules.specs.declared.Head.{Head}
-use Rattle.rules.specs.declared.Span as declared
-use Rattle.rules.specs.declared.readings.Next as coded
-use Rattle.rules.specs.declared.readings.Next.TheVariants as next
+use Rattle.rules.specs.declared.Span.{Span}
 use Rattle.rules.specs.declared.Outcome.{Outcome}
 use Rattle.rules.specs.declared.Quality.TheVariants.{S}
 use Rattle.rules.specs.declared.spans.Summary.{Summary}
 use Rattle.rules.specs.declared.spans.Scaling.{Scaling}
 use Rattle.rules.specs.declared.walk.Walk.{Walk}
 use Rattle.rules.specs.declared.stretch.Stretch.{Stretch}
-use Rattle.rules.specs.declared.stretch.Begins.{Begins}
-use Rattle.rules.specs.declared.stretch.Begins.TheVariants.{Span, Nothing}
 use Rattle.rules.specs.Opening.{Slots, Cells, slots_per_day, slot_count}
 use Rattle.rules.specs.Spans.{is_s, is_read, span_of, last_read, next_read, T, all_zero, E, P, state_of, span_from}
 use Rattle.rules.specs.Inner.Walks.{walk_at}
 use Rattle.rules.specs.Inner.Summaries.{scaling_of, scaled_by, Scales}
 
 -- what the search for a boundary answers
-abbrev pub next_meant : coded.Next → Option ℕ
-next_meant (next.At d) = some d
-next_meant next.Nowhere = none
+abbrev pub next_meant : Coded ℕ → Option ℕ
+next_meant (Some d) = some d
+next_meant None = none
 
 -- how many of the first k boundaries have a reading
 unfoldable pub read_count : List ℕ → ℕ → ℕ
@@ -94,16 +91,16 @@ pub record Scalable (o : Outcome) (shape : ℕ) (here : Stretch) : Type 0 where
   pub scales : is_s o.quality ≡ true → (here.by.whole ≡ 0 → ⊥) → Scales shape here.by
 
 -- the span that begins at slot i
-abbrev pub first_of : List declared.Span → Begins
-first_of [] = Nothing
-first_of (s ∷ ss) = Span s
+abbrev pub first_of : List Span → Coded Span
+first_of [] = None
+first_of (s ∷ ss) = Some s
 
-unfoldable pub begins_at : Head → Cells → ℕ → Begins
-begins_at h b i = cond (eqb (i % slots_per_day h) 0) (first_of (span_from h b (i / slots_per_day h))) Nothing
+unfoldable pub begins_at : Head → Cells → ℕ → Coded Span
+begins_at h b i = cond (eqb (i % slots_per_day h) 0) (first_of (span_from h b (i / slots_per_day h))) None
 
 -- the same at boundary d, with the next boundary in hand
-unfoldable pub begins_with : Head → Cells → ℕ → ℕ → Begins
-begins_with h b d last = cond (is_read b.read_versions d) (Span (span_of h b d last)) Nothing
+unfoldable pub begins_with : Head → Cells → ℕ → ℕ → Coded Span
+begins_with h b d last = cond (is_read b.read_versions d) (Some (span_of h b d last)) None
 
 unfoldable pub stretch_from : Head → Cells → ℕ → ℕ → ℕ → Stretch
 stretch_from h b d last i =

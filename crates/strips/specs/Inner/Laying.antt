@@ -1,9 +1,6 @@
 -- What the functions that write a table or its strips know between two slots.
 use Rattle.std.specs.Prelude.{◌≡◌, List, [], ◌∷◌, ℕ, ◌+◌, ◌*◌, ◌%◌, ◌<◌, length, get_or, set}
-use Rattle.strips.specs.declared.Way.{Way}
-use Rattle.strips.specs.declared.Way.TheVariants.{ToStrips, FromStrips}
 use Rattle.strips.specs.Strips.{slots_of, byte_of, in_table, in_strips, value_at, day_earlier, difference_at, difference_in}
-use Rattle.strips.specs.Strips.{strips_of, table_of}
 
 -- byte k of the record at place at, whose bytes stand step apart
 abbrev pub spaced : List ℕ → ℕ → ℕ → ℕ → ℕ
@@ -28,15 +25,6 @@ unfoldable pub restored_in : ℕ → List ℕ → List ℕ → ℕ → List ℕ
 restored_in n strips d i =
     strewn d (6 * i) 1
     (record_of ((day_earlier n (value_at d) i + difference_in strips i) % 4_294_967_296) (in_strips strips i 4) (in_strips strips i 5))
-
--- by the way: what is written of slot i, and what is laid in all
-abbrev pub slot_in : Way → ℕ → List ℕ → List ℕ → ℕ → List ℕ
-slot_in ToStrips n given d i = stored_in n given d i
-slot_in FromStrips n given d i = restored_in n given d i
-
-abbrev pub laid_of : Way → ℕ → List ℕ → List ℕ
-laid_of ToStrips n given = strips_of n given
-laid_of FromStrips n given = table_of n given
 
 -- whole records, and an output of the same length
 pub record Sized (n : ℕ) (given out : List ℕ) : Type 0 where

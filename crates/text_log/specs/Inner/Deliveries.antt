@@ -1,5 +1,5 @@
 -- A delivery's line found in one pass.
-use Rattle.std.specs.Prelude.{true, List, [], ◌∷◌, ◌++◌, ◌≡◌, ℕ, ◌+◌, ◌*◌, ◌-◌, ◌≤◌, ◌<◌, length, take, drop}
+use Rattle.std.specs.Prelude.{true, List, [], ◌∷◌, ◌++◌, ◌≡◌, ℕ, ◌+◌, ◌-◌, ◌≤◌, length, take, drop}
 use Rattle.book.specs.Arguments.Call.{delivery}
 use Rattle.text_log.specs.declared.deliveries.Delivery.{Delivery}
 use Rattle.text_log.specs.Numbers.{are_digits, value_of}
@@ -10,14 +10,6 @@ use Rattle.text_log.specs.Inner.Lines.{ItemAt}
 -- the keyword with its space
 abbrev pub keyword : List ℕ
 keyword = delivery_word ++ (32 ∷ [])
-
--- four bytes, and the number that they are with the lowest first
-pub record Joined (a b c d r : ℕ) : Type 0 where
-  pub first : a < 256
-  pub second : b < 256
-  pub third : c < 256
-  pub fourth : d < 256
-  pub number : r ≡ a + 256 * b + 65_536 * c + 16_777_216 * d
 
 -- nine digits at most stand from place `from` up to place `end`, with this value
 pub record DigitsAt (bytes : List ℕ) (from value end : ℕ) : Type 0 where
@@ -54,19 +46,7 @@ pub record NumbersAt (bytes : List ℕ) (from : ℕ) (r : Delivery) : Type 0 whe
 abbrev pub DeliveryAt : List ℕ → ℕ → Delivery → Type 0
 DeliveryAt bytes at r = ItemAt bytes at (call (delivery r.slot r.version r.value r.status)) r.next
 
--- the same of digits, words and lines whose values are not told
-abbrev pub DigitsTo : List ℕ → ℕ → ℕ → Type 0
-DigitsTo bytes from end = DigitsAt bytes from (value_of (take (end - from) (drop from bytes))) end
-
-pub record FieldTo (bytes : List ℕ) (from separator next : ℕ) : Type 0 where
-  pub value : ℕ
-  pub field : FieldAt bytes from separator value next
-
-pub record NumbersTo (bytes : List ℕ) (from next : ℕ) : Type 0 where
-  pub delivery : Delivery
-  pub numbers : NumbersAt bytes from delivery
-  pub ends : delivery.next ≡ next
-
+-- the same of a line whose numbers are not told
 pub record DeliveryTo (bytes : List ℕ) (at next : ℕ) : Type 0 where
   pub delivery : Delivery
   pub line : DeliveryAt bytes at delivery

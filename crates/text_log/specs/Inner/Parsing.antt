@@ -1,17 +1,22 @@
--- The pieces that are left behind a place, and the place of a line's end.
-use Rattle.std.specs.Prelude.{cond, List, [], ◌∷◌, ◌++◌, ◌≡◌, ℕ, ◌+◌, ◌≤◌, ltb, length, take, drop}
-use Rattle.text_log.specs.Words.{split}
-use Rattle.text_log.specs.Line.{without_cr}
+-- The words that are left of a line.
+use Rattle.std.specs.Prelude.{cond, List, [], ◌∷◌, map, ℕ, Option, Some, None}
+use Rattle.text_log.specs.declared.limits.Limits.{Limits}
+use Rattle.text_log.specs.Numbers.{value_of}
+use Rattle.text_log.specs.Words.{split, are_numbers}
+use Rattle.text_log.specs.Line.{are_limits, limits_of}
 
--- those after the piece that ends at a place: a separator stands there, or the bytes end
-unfoldable pub pieces_after : ℕ → List ℕ → ℕ → List (List ℕ)
-pieces_after separator bytes end = cond (ltb end (length bytes)) (split separator [] (drop (end + 1) bytes)) []
+-- the pieces behind one whose separator begins these bytes; without a byte it was the last
+unfoldable pub pieces_left : ℕ → List ℕ → List (List ℕ)
+pieces_left separator [] = []
+pieces_left separator (b ∷ rest) = split separator [] rest
 
--- the pieces from the one that ends at a place, where more bytes follow
-unfoldable pub pieces_from : ℕ → List ℕ → ℕ → List ℕ → List ℕ → List (List ℕ)
-pieces_from separator bytes end piece more =
-    cond (ltb end (length bytes)) (piece ∷ split separator [] (drop (end + 1) bytes ++ more)) (split separator piece more)
+abbrev pub words_left : List ℕ → List (List ℕ)
+words_left rest = pieces_left 32 rest
 
--- the first n bytes are the line without its CR
-abbrev pub cut_at : List ℕ → ℕ → Type 0
-cut_at bytes n = (n ≤ length bytes) × (without_cr bytes ≡ take n bytes)
+-- the values of n numbers
+unfoldable pub numbers_in : ℕ → List (List ℕ) → Option (List ℕ)
+numbers_in n fields = cond (are_numbers n fields) (Some (map value_of fields)) None
+
+-- and of the 1 to 24 of a table
+unfoldable pub limits_in : List (List ℕ) → Option Limits
+limits_in fields = cond (are_limits fields) (Some (limits_of (map value_of fields))) None

@@ -29,10 +29,10 @@ offset_bounds-counts-day c = let i = day_inside (goal.at.offset_bounds-counts-da
 pub bounds-counts-day : goal.bounds-counts-day
 bounds-counts-day c = day_inside (goal.at.bounds-counts-day c).After-day_of-day
 
-pub returns-then-is_full : goal.returns-then-is_full
+pub returns-then-is_full-clause-told : goal.returns-then-is_full-clause-told
 unfolding against_delivery
-returns-then-is_full c =
-    let full : is_full c.args.head (get_or c.args.versions.now c.args.slot 0)
+returns-then-is_full-clause-told c =
+    let full : is_full c.args.head (get_or c.args.slots.now.versions.now c.args.slot 0)
     (get_or c.args.counts.now (c.args.slot / slots_per_day c.args.head) 0) ≡ true =
     rw c.day_of-day.ensures at (sym c.is_full.ensures ∙ c.if-is_full.true) in
     rw full (refl, refl, refl)
@@ -48,10 +48,10 @@ offset_bounds-counts-day-then-is_stored c = let i = day_inside (goal.at.offset_b
 pub bounds-counts-day-then-is_stored : goal.bounds-counts-day-then-is_stored
 bounds-counts-day-then-is_stored c = day_inside (goal.at.bounds-counts-day-then-is_stored c).After-day_of-day
 
-pub returns-then-is_stored : goal.returns-then-is_stored
+pub returns-then-is_stored-clause-told : goal.returns-then-is_stored-clause-told
 unfolding against_delivery
-returns-then-is_stored c =
-    let full : is_full c.args.head (get_or c.args.versions.now c.args.slot 0)
+returns-then-is_stored-clause-told c =
+    let full : is_full c.args.head (get_or c.args.slots.now.versions.now c.args.slot 0)
     (get_or c.args.counts.now (c.args.slot / slots_per_day c.args.head) 0) ≡ false =
     simp c.day_of-day.ensures at (sym c.is_full.ensures ∙ c.if-is_full.false) in
     rw (
@@ -62,10 +62,10 @@ returns-then-is_stored c =
       c.day_of-day.ensures,
     ) (refl, refl, refl)
 
-pub returns-else-is_stored : goal.returns-else-is_stored
+pub returns-else-is_stored-clause-told : goal.returns-else-is_stored-clause-told
 unfolding against_delivery
-returns-else-is_stored c =
-    let full : is_full c.args.head (get_or c.args.versions.now c.args.slot 0)
+returns-else-is_stored-clause-told c =
+    let full : is_full c.args.head (get_or c.args.slots.now.versions.now c.args.slot 0)
     (get_or c.args.counts.now (c.args.slot / slots_per_day c.args.head) 0) ≡ false =
     simp c.day_of-day.ensures at (sym c.is_full.ensures ∙ c.if-is_full.false) in
     rw (full, sym c.against_slot-found.ensures, sym c.is_stored.ensures ∙ c.if-is_stored.false) (refl, refl, refl)

@@ -1,4 +1,4 @@
--- `filing::against_boundary`: 11, else the version rule with the content compared by `is_same`.
+-- `filing::against_boundary`: 11, else the version rule with the content compared as a pair.
 use mathlib.Core.Bool.{true, false}
 use mathlib.Core.Path.{◌≡◌, sym, ◌∙◌}
 use Rattle.book.specs.Cells.{read_fault}
@@ -18,4 +18,4 @@ returns c =
     let a = c.args in
     let clean : read_fault a.old_version a.old_reading a.old_width ≡ false = sym c.read_fault.ensures
     ∙ c.if-read_fault.false in
-    rw (clean, sym c.is_same_read-same_read.ensures) c.by_version.ensures
+    rw (clean, sym c.eq-same_read.ensures) c.by_version.ensures

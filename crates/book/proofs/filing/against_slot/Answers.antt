@@ -1,4 +1,4 @@
--- `filing::against_slot`: 11, else the version rule with the content compared by `is_same`.
+-- `filing::against_slot`: 11, else the version rule with the content compared as a pair.
 use mathlib.Core.Bool.{true, false}
 use mathlib.Core.Path.{◌≡◌, sym, ◌∙◌}
 use Rattle.book.specs.Cells.{slot_fault}
@@ -18,4 +18,4 @@ returns c =
     let a = c.args in
     let clean : slot_fault a.old_version a.old_value a.old_status ≡ false = sym c.slot_fault.ensures
     ∙ c.if-slot_fault.false in
-    rw (clean, sym c.is_same-same.ensures) c.by_version.ensures
+    rw (clean, sym c.eq-same.ensures) c.by_version.ensures

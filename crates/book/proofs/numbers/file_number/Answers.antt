@@ -6,73 +6,61 @@ use native.Mathlib.Omega.{arith}
 use lib.ListN.{length}
 use borrow.Author.Tests.{le-leb, lt-leb, lt-ltb, eq-eqb, ne_eqb}
 use Rattle.book.specs.Answers.{Answer, received_meant}
-use Rattle.rules.specs.Lent.{lent_agreed}
+use Rattle.book.specs.Written.{written_agreed}
 use Rattle.book.specs.Inner.Numbers.{number_answer, number_after}
 use Rattle.book.proofs.OneNumber.{number_sound}
 use Rattle.book.proofs.numbers.file_number.Goals as goal
-use Rattle.book.proofs.numbers.file_number.Goals.{After-against_agreed-found, Else-numbers-at, Start}
+use Rattle.book.proofs.numbers.file_number.Goals.{After-against_agreed-found, Else-agreed-at, Start}
 
 abbrev whole : Start → Answer
-whole c = number_answer (lent_agreed c.args.numbers.now c.args.versions.now) c.args.place c.args.version c.args.number
+whole c = number_answer (written_agreed c.args.agreed.now) c.args.place c.args.version c.args.number
 
 -- the place lies in the list
-inside : (c : Else-numbers-at) → c.args.place < length c.args.numbers.now
-inside c = omega (arith, c.if-numbers-at.false)
+inside : (c : Else-agreed-at) → c.args.place < length c.args.agreed.now.values.now
+inside c = omega (arith, c.if-agreed-at.false)
 
 -- what `against_agreed` found is the answer
 found : (c : After-against_agreed-found) → whole (goal.at.After-against_agreed-found c).Start ≡ received_meant c.against_agreed-found.result
 found c =
     let small : c.args.number ≤ 99_999_999 = omega (arith, c.if-number-gt-EIGHT_DIGITS.false) in
-    number_sound _ _ _ _ (inside (goal.at.After-against_agreed-found c).Else-numbers-at) c.if-version-eq0.false small ∙ sym
+    number_sound _ _ _ _ (inside (goal.at.After-against_agreed-found c).Else-agreed-at) c.if-version-eq0.false small ∙ sym
     c.against_agreed-found.ensures
 
-pub returns-then-numbers-at : goal.returns-then-numbers-at
+pub returns-then-agreed-at-clause-told : goal.returns-then-agreed-at-clause-told
 unfolding number_answer number_after
-returns-then-numbers-at c =
-    let beyond : length c.args.numbers.now ≤ c.args.place =
-    omega (arith, c.if-numbers-at.true) in
+returns-then-agreed-at-clause-told c =
+    let beyond : length c.args.agreed.now.values.now ≤ c.args.place =
+    omega (arith, c.if-agreed-at.true) in
     rw (le-leb _ _ beyond) (refl, refl)
 
-pub returns-then-version-eq0 : goal.returns-then-version-eq0
+pub returns-then-version-eq0-clause-told : goal.returns-then-version-eq0-clause-told
 unfolding number_answer number_after
-returns-then-version-eq0 c = rw (lt-leb _ _ (inside (goal.at.returns-then-version-eq0 c).Else-numbers-at), eq-eqb _ _ c.if-version-eq0.true)
-    (refl, refl)
+returns-then-version-eq0-clause-told c =
+    rw (lt-leb _ _ (inside (goal.at.returns-then-version-eq0-clause-told c).Else-agreed-at), eq-eqb _ _ c.if-version-eq0.true) (refl, refl)
 
-pub returns-then-number-gt-EIGHT_DIGITS : goal.returns-then-number-gt-EIGHT_DIGITS
+pub returns-then-number-gt-EIGHT_DIGITS-clause-told : goal.returns-then-number-gt-EIGHT_DIGITS-clause-told
 unfolding number_answer number_after
-returns-then-number-gt-EIGHT_DIGITS c =
+returns-then-number-gt-EIGHT_DIGITS-clause-told c =
     let large : 99_999_999 < c.args.number = omega (arith, c.if-number-gt-EIGHT_DIGITS.true) in
     rw (
-      lt-leb _ _ (inside (goal.at.returns-then-number-gt-EIGHT_DIGITS c).Else-numbers-at),
+      lt-leb _ _ (inside (goal.at.returns-then-number-gt-EIGHT_DIGITS-clause-told c).Else-agreed-at),
       ne_eqb _ _ c.if-version-eq0.false,
       lt-ltb _ _
           large,
     ) (refl, refl)
 
-pub bounds-versions-at : goal.bounds-versions-at
-bounds-versions-at c = omega (arith, inside (goal.at.bounds-versions-at c).Else-numbers-at)
-
-pub bounds-numbers-at : goal.bounds-numbers-at
-bounds-numbers-at c = omega (arith, inside (goal.at.bounds-numbers-at c).Else-numbers-at)
-
-pub bounds-numbers-at-then-is_stored : goal.bounds-numbers-at-then-is_stored
-bounds-numbers-at-then-is_stored c = omega (arith, inside (goal.at.bounds-numbers-at-then-is_stored c).Else-numbers-at)
-
-pub bounds-versions-at-then-is_stored : goal.bounds-versions-at-then-is_stored
-bounds-versions-at-then-is_stored c = omega (arith, inside (goal.at.bounds-versions-at-then-is_stored c).Else-numbers-at)
-
-pub returns-then-is_stored : goal.returns-then-is_stored
+pub returns-then-is_stored-clause-told : goal.returns-then-is_stored-clause-told
 unfolding number_after
-returns-then-is_stored c = rw (
-  found (goal.at.returns-then-is_stored c).After-against_agreed-found,
+returns-then-is_stored-clause-told c = rw (
+  found (goal.at.returns-then-is_stored-clause-told c).After-against_agreed-found,
   sym c.is_stored.ensures ∙
       c.if-is_stored.true,
 ) (refl, refl)
 
-pub returns-else-is_stored : goal.returns-else-is_stored
+pub returns-else-is_stored-clause-told : goal.returns-else-is_stored-clause-told
 unfolding number_after
-returns-else-is_stored c = rw (
-  found (goal.at.returns-else-is_stored c).After-against_agreed-found,
+returns-else-is_stored-clause-told c = rw (
+  found (goal.at.returns-else-is_stored-clause-told c).After-against_agreed-found,
   sym c.is_stored.ensures ∙
       c.if-is_stored.false,
 ) (refl, refl)

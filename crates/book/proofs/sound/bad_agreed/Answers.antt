@@ -6,14 +6,14 @@ use lib.ListN.{length}
 use Rattle.base.specs.Lists.{any}
 use Rattle.base.proofs.Sums.{any_empty}
 use Rattle.rules.specs.Opening.{Agreed}
-use Rattle.rules.specs.Lent.{agreed_lists}
+use Rattle.rules.specs.Lent.{agreed_in}
 use Rattle.book.specs.Cells.{agreed_fault_at}
 use Rattle.book.proofs.Searches.{searched_on}
 use Rattle.book.proofs.sound.bad_agreed.Goals as goal
 use Rattle.book.proofs.sound.bad_agreed.Goals.{At-loop-i}
 
 abbrev lent : At-loop-i → Agreed
-lent c = let a = c.args in agreed_lists a.values.now a.versions.now
+lent c = agreed_in c.args.agreed.now
 
 pub loop-i-init : goal.loop-i-init
 loop-i-init c = record { inside = zero-le; known = sym (any_empty _ _) }

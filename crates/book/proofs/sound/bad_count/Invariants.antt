@@ -1,5 +1,4 @@
 -- `sound::bad_count`. No day passed has a count that differs from the number of its delivered slots.
-use Prim.Native.Nat.{◌-◌}
 use lib.ListN.{length}
 use Rattle.book.specs.Cells.{count_fault_at}
 use Rattle.book.proofs.Passed.{Passed}
@@ -7,6 +6,3 @@ use Rattle.book.proofs.sound.bad_count.Given as goal
 
 abbrev pub invariant-loop-day : goal.invariant-loop-day
 invariant-loop-day l = Passed (count_fault_at l.head l.versions l.counts) (length l.counts) l.day
-
-abbrev pub decreases-loop-day : goal.decreases-loop-day
-decreases-loop-day l = length l.counts - l.day

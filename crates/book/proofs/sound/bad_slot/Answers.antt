@@ -6,14 +6,14 @@ use lib.ListN.{length}
 use Rattle.base.specs.Lists.{any}
 use Rattle.base.proofs.Sums.{any_empty}
 use Rattle.rules.specs.Opening.{Slots}
-use Rattle.rules.specs.Lent.{slots}
+use Rattle.rules.specs.Lent.{slots_in}
 use Rattle.book.specs.Cells.{slot_fault_at}
 use Rattle.book.proofs.Searches.{searched_on}
 use Rattle.book.proofs.sound.bad_slot.Goals as goal
 use Rattle.book.proofs.sound.bad_slot.Goals.{At-loop-i}
 
 abbrev lent : At-loop-i → Slots
-lent c = let a = c.args in slots a.values.now a.versions.now a.statuses.now
+lent c = slots_in c.args.slots.now
 
 pub loop-i-init : goal.loop-i-init
 loop-i-init c = record { inside = zero-le; known = sym (any_empty _ _) }

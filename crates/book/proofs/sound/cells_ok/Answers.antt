@@ -4,7 +4,7 @@ use mathlib.Core.Path.{◌≡◌, sym, ◌∙◌}
 use Prim.Native.Nat.{suc}
 use Rattle.base.specs.Lists.{any}
 use Rattle.rules.specs.Opening.{slot_count}
-use Rattle.rules.specs.Lent.{slots, agreed_lists, cells}
+use Rattle.rules.specs.Lent.{cells_in}
 use Rattle.book.specs.Cells.{slot_fault_at, day_fault_at, read_fault_at, agreed_fault_at, reads_of, cells_ok}
 use Rattle.book.proofs.Fits.{lengths_of}
 use Rattle.book.proofs.sound.cells_ok.Goals as goal
@@ -12,8 +12,7 @@ use Rattle.book.proofs.sound.cells_ok.Goals as goal
 pub bad_slot-requires : goal.bad_slot-requires
 bad_slot-requires c =
     let a = c.args in
-    let b = cells (slots a.values.now a.versions.now a.statuses.now) a.holidays.now a.readings.now
-    a.read_versions.now (agreed_lists a.agreed.now a.agreed_versions.now) a.widths.now in
+    let b = cells_in a.cells.now in
     let l = lengths_of a.head b c.requires in
     (l.versions ∙ sym l.values, l.statuses ∙ sym l.values)
 
@@ -21,8 +20,7 @@ pub returns-then-bad_slot : goal.returns-then-bad_slot
 unfolding cells_ok
 returns-then-bad_slot c =
     let a = c.args in
-    let b = cells (slots a.values.now a.versions.now a.statuses.now) a.holidays.now a.readings.now
-    a.read_versions.now (agreed_lists a.agreed.now a.agreed_versions.now) a.widths.now in
+    let b = cells_in a.cells.now in
     let l = lengths_of a.head b c.requires in
     let s : any (slot_fault_at b.slots) 0 (slot_count a.head) ≡ true =
     rw l.values at (sym c.bad_slot.ensures ∙ c.if-bad_slot.true) in
@@ -32,8 +30,7 @@ pub returns-then-bad_day : goal.returns-then-bad_day
 unfolding cells_ok
 returns-then-bad_day c =
     let a = c.args in
-    let b = cells (slots a.values.now a.versions.now a.statuses.now) a.holidays.now a.readings.now
-    a.read_versions.now (agreed_lists a.agreed.now a.agreed_versions.now) a.widths.now in
+    let b = cells_in a.cells.now in
     let l = lengths_of a.head b c.requires in
     let s : any (slot_fault_at b.slots) 0 (slot_count a.head) ≡ false =
     rw l.values at (sym c.bad_slot.ensures ∙ c.if-bad_slot.false) in
@@ -44,8 +41,7 @@ returns-then-bad_day c =
 pub bad_read-requires : goal.bad_read-requires
 bad_read-requires c =
     let a = c.args in
-    let b = cells (slots a.values.now a.versions.now a.statuses.now) a.holidays.now a.readings.now
-    a.read_versions.now (agreed_lists a.agreed.now a.agreed_versions.now) a.widths.now in
+    let b = cells_in a.cells.now in
     let l = lengths_of a.head b c.requires in
     (l.read_versions ∙ sym l.readings, l.widths ∙ sym l.readings)
 
@@ -53,8 +49,7 @@ pub returns-then-bad_read : goal.returns-then-bad_read
 unfolding cells_ok
 returns-then-bad_read c =
     let a = c.args in
-    let b = cells (slots a.values.now a.versions.now a.statuses.now) a.holidays.now a.readings.now
-    a.read_versions.now (agreed_lists a.agreed.now a.agreed_versions.now) a.widths.now in
+    let b = cells_in a.cells.now in
     let l = lengths_of a.head b c.requires in
     let s : any (slot_fault_at b.slots) 0 (slot_count a.head) ≡ false =
     rw l.values at (sym c.bad_slot.ensures ∙ c.if-bad_slot.false) in
@@ -67,8 +62,7 @@ returns-then-bad_read c =
 pub bad_agreed-requires : goal.bad_agreed-requires
 bad_agreed-requires c =
     let a = c.args in
-    let b = cells (slots a.values.now a.versions.now a.statuses.now) a.holidays.now a.readings.now
-    a.read_versions.now (agreed_lists a.agreed.now a.agreed_versions.now) a.widths.now in
+    let b = cells_in a.cells.now in
     let l = lengths_of a.head b c.requires in
     l.agreed_versions ∙ sym l.agreed
 
@@ -76,8 +70,7 @@ pub returns : goal.returns
 unfolding cells_ok
 returns c =
     let a = c.args in
-    let b = cells (slots a.values.now a.versions.now a.statuses.now) a.holidays.now a.readings.now
-    a.read_versions.now (agreed_lists a.agreed.now a.agreed_versions.now) a.widths.now in
+    let b = cells_in a.cells.now in
     let l = lengths_of a.head b c.requires in
     let s : any (slot_fault_at b.slots) 0 (slot_count a.head) ≡ false =
     rw l.values at (sym c.bad_slot.ensures ∙ c.if-bad_slot.false) in

@@ -1,7 +1,7 @@
 -- `sound::delivered`: after k slots the number is that of the delivered slots passed.
 use mathlib.Core.List.{List}
 use mathlib.Core.Path.{◌≡◌}
-use Prim.Native.Nat.{ℕ, ◌-◌, ◌≤◌}
+use Prim.Native.Nat.{ℕ, ◌≤◌}
 use Rattle.book.proofs.Counting.{among}
 use Rattle.book.proofs.sound.delivered.Given as goal
 
@@ -12,6 +12,3 @@ pub record Held (versions : List ℕ) (first count found k : ℕ) : Type 0 where
 
 abbrev pub invariant-loop-k : goal.invariant-loop-k
 invariant-loop-k l = Held l.versions l.first l.count l.found l.k
-
-abbrev pub decreases-loop-k : goal.decreases-loop-k
-decreases-loop-k l = l.count - l.k

@@ -2,19 +2,16 @@
 use mathlib.Core.Path.{◌≡◌, ap, ◌∙◌}
 use native.Mathlib.Omega.{arith}
 use Rattle.rules.specs.Opening.{slot_count}
-use Rattle.rules.specs.Lent.{slots}
+use Rattle.rules.specs.Lent.{slots_in}
 use Rattle.rules.specs.Inner.Walks.{zero_before, line_before}
 use Rattle.rules.proofs.Outages.{zero_applies}
 use Rattle.explain.proofs.Passing.{none_before, zero_next, line_next, walk_are}
 use Rattle.explain.proofs.back.fills_before.Goals as goal
 
-pub since_good-k-requires : goal.since_good-k-requires
-since_good-k-requires c = (c.requires.0, omega (arith, c.requires.2))
-
 pub loop-k-init : goal.loop-k-init
 loop-k-init c =
     let a = c.args in
-    let s = slots a.values.now a.versions.now a.statuses.now in
+    let s = slots_in a.slots.now in
     let n = none_before a.head s a.agreed_versions.now (slot_count a.head) _ c.since_good-k.ensures.good in
     record {
       inside = c.since_good-k.ensures.low;
@@ -23,14 +20,10 @@ loop-k-init c =
       none = c.since_good-k.ensures.causes;
     }
 
-pub outage_zero-outage-requires : goal.outage_zero-outage-requires
-outage_zero-outage-requires c =
-    (omega arith, omega (arith, c.requires.2, c.requires.0.versions), rw c.requires.0.versions c.loop-k.invariant.zeroed)
-
 pub line_on-line-requires : goal.line_on-line-requires
 line_on-line-requires c =
     let a = c.args in
-    let s = slots a.values.now a.versions.now a.statuses.now in (
+    let s = slots_in a.slots.now in (
       c.requires.0,
       c.requires.1,
       omega (arith, c.requires.2),
@@ -42,7 +35,7 @@ line_on-line-requires c =
 pub loop-k-preserved : goal.loop-k-preserved
 loop-k-preserved c =
     let a = c.args in
-    let s = slots a.values.now a.versions.now a.statuses.now in
+    let s = slots_in a.slots.now in
     record {
       inside = omega arith;
       zeroed =
@@ -55,7 +48,7 @@ loop-k-preserved c =
 pub returns : goal.returns
 returns c =
     let a = c.args in
-    let s = slots a.values.now a.versions.now a.statuses.now in
+    let s = slots_in a.slots.now in
     let e : c.loop-k.k ≡ a.at = omega (arith, c.loop-k.invariant.inside, c.loop-k-test.false) in
     walk_are a.head s a.agreed_versions.now a.at _ _
     (c.loop-k.invariant.zeroed ∙ ap (zero_before s.versions s.statuses (slot_count a.head)) e)

@@ -10,7 +10,6 @@ use Rattle.file.proofs.counting.totals.Goals as goal
 pub loop-i-init : goal.loop-i-init
 loop-i-init c =
     record {
-      inside = search rules;
       low = record { actual = omega arith; substituted = omega arith; agreed = omega arith; none = omega arith; sum = omega arith };
       known = counted_empty c.args.file.now;
     }
@@ -18,7 +17,7 @@ loop-i-init c =
 pub with_slot-found-requires : goal.with_slot-found-requires
 with_slot-found-requires c =
     within_more c.loop-i.i 115_200 (met_by c.loop-i.found) c.loop-i.invariant.low
-    (omega (arith, c.loop-i-test.true, c.requires.1))
+    (omega arith)
 
 pub loop-i-preserved : goal.loop-i-preserved
 loop-i-preserved c =
@@ -26,12 +25,11 @@ loop-i-preserved c =
     let e = c.with_slot-found.ensures in
     let low : c.slot_at.result.value < 2 ^ 32 = search rules in
     record {
-      inside = omega (arith, c.loop-i-test.true);
       low = rw e (within_with c.loop-i.i (met_by c.loop-i.found) c.slot_at.result held.low low);
       known = e ∙ ap₂ counted_with held.known c.slot_at.ensures ∙ counted_on c.args.file.now c.loop-i.i;
     }
 
 pub returns : goal.returns
 returns c =
-    let done : c.loop-i.i ≡ c.args.k = omega (arith, c.loop-i-test.false, c.loop-i.invariant.inside) in
+    let done : c.loop-i.i ≡ c.args.k = omega arith in
     c.loop-i.invariant.known ∙ ap (counted_in c.args.file.now) done

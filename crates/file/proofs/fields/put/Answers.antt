@@ -14,7 +14,6 @@ use Rattle.file.proofs.fields.put.Goals as goal
 pub loop-j-init : goal.loop-j-init
 loop-j-init c =
     record {
-      inside = search rules;
       long = refl;
       pasted = paste-zero c.args.buf.now c.args.at (bytes c.args.width c.args.n);
       more = rw sub-zero;
@@ -26,7 +25,6 @@ loop-j-preserved c =
     let l = c.loop-j in
     let next = bytes_next a.width a.n l.j l.rest (search rules) l.invariant.more in
     record {
-      inside = search rules;
       long = simp length-set l.invariant.long;
       pasted =
           rw l.invariant.pasted

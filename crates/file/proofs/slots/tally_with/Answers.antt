@@ -1,5 +1,4 @@
 -- `file::slots::tally_with`: a slot of no kind adds its value alone.
-use Prim.Native.Nat.{◌+◌}
 use mathlib.Core.Path.{sym, ◌∙◌}
 use Rattle.file.proofs.Tallies.{tallied_kindless}
 use Rattle.file.proofs.slots.tally_with.Goals as goal
@@ -8,13 +7,3 @@ pub returns-then-is_kindless : goal.returns-then-is_kindless
 returns-then-is_kindless c =
     let args = c.args in
     tallied_kindless args.slot (sym c.is_kindless.ensures ∙ c.if-is_kindless.true) args.found
-
-pub returns : goal.returns
-returns c =
-    λ k. let args = c.args in record {
-      none = c.also.ensures k;
-      scaled = c.also-2.ensures k;
-      unscaled = c.also-3.ensures k;
-      substituted = c.also-4.ensures k;
-      sum = args.found.sum + args.slot.value;
-    }

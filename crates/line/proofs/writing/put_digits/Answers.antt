@@ -7,25 +7,20 @@ use lib.ListN.{length}
 use Rattle.line.specs.Line.{digits}
 use Rattle.line.proofs.Digits.{length_digits}
 use Rattle.line.specs.Inner.Writing.{capped, stored}
-use Rattle.line.proofs.Putting.{length_stored, digits_less, digits_none}
+use Rattle.line.proofs.Putting.{capped_min, length_stored, digits_less, digits_none}
 use Rattle.line.proofs.writing.put_digits.Goals as goal
 
 pub loop-j-init : goal.loop-j-init
-loop-j-init c = record { inside = search rules; known = refl }
+loop-j-init c = refl
 
 pub loop-j-preserved : goal.loop-j-preserved
 loop-j-preserved c =
-    record {
-      inside = search rules;
-      known =
-          digits_less _ c.loop-j.out _ c.args.at c.loop-j.j c.loop-j.rest (search rules)
-          c.loop-j.invariant.known c.put_byte.ensures;
-    }
+    digits_less _ c.loop-j.out _ c.args.at c.loop-j.j c.loop-j.rest (search rules) c.loop-j.invariant c.put_byte.ensures
 
 pub shape_of-out : goal.shape_of-out
 shape_of-out c =
     let l = c.loop-j in
-    sym (length_stored l.out c.args.at (digits l.j l.rest)) ∙ ap length l.invariant.known ∙ length_stored _ _ _
+    sym (length_stored l.out c.args.at (digits l.j l.rest)) ∙ ap length l.invariant ∙ length_stored _ _ _
 
 pub returns : goal.returns
 returns c =
@@ -34,7 +29,7 @@ returns c =
     let done : l.j ≡ 0 = omega arith in
     record {
       fits = search rules;
-      next = c.ahead.ensures ∙ ap (λ n. capped (a.at + n)) (sym (length_digits a.width a.n));
+      next = c.saturating_add.ensures ∙ capped_min _ ∙ ap (λ n. capped (a.at + n)) (sym (length_digits a.width a.n));
       has =
-          sym (digits_none l.out a.at l.rest) ∙ ap (λ j. stored l.out a.at (digits j l.rest)) (sym done) ∙ l.invariant.known;
+          sym (digits_none l.out a.at l.rest) ∙ ap (λ j. stored l.out a.at (digits j l.rest)) (sym done) ∙ l.invariant;
     }

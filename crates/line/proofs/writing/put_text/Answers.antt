@@ -5,27 +5,17 @@ use native.Mathlib.Omega.{arith}
 use lib.ListN.{length, take}
 use lib.Seq.{take-length}
 use Rattle.line.specs.Inner.Writing.{stored}
-use Rattle.line.proofs.Putting.{length_stored, text_none, text_more}
+use Rattle.line.proofs.Putting.{capped_min, length_stored, text_none, text_more}
 use Rattle.line.proofs.writing.put_text.Goals as goal
 
 pub loop-i-init : goal.loop-i-init
-loop-i-init c =
-    record {
-      inside = search rules;
-      known = text_none c.args.out.now c.args.at c.args.text.now;
-    }
+loop-i-init c = text_none c.args.out.now c.args.at c.args.text.now
 
 pub loop-i-preserved : goal.loop-i-preserved
-loop-i-preserved c =
-    record {
-      inside = search rules;
-      known =
-          text_more _ c.loop-i.out _ c.args.text.now c.args.at
-          c.loop-i.i (search rules) c.loop-i.invariant.known c.put_byte.ensures;
-    }
+loop-i-preserved c = text_more _ c.loop-i.out _ c.args.text.now c.args.at c.loop-i.i (search rules) c.loop-i.invariant c.put_byte.ensures
 
 pub shape_of-out : goal.shape_of-out
-shape_of-out c = ap length c.loop-i.invariant.known ∙ length_stored _ _ _
+shape_of-out c = ap length c.loop-i.invariant ∙ length_stored _ _ _
 
 pub returns : goal.returns
 returns c =
@@ -34,6 +24,6 @@ returns c =
     let done : l.i ≡ length a.text.now = omega arith in
     record {
       fits = search rules;
-      next = c.ahead.ensures;
-      has = l.invariant.known ∙ ap (λ n. stored a.out.now a.at (take n a.text.now)) done ∙ rw take-length;
+      next = c.saturating_add.ensures ∙ capped_min _;
+      has = l.invariant ∙ ap (λ n. stored a.out.now a.at (take n a.text.now)) done ∙ rw take-length;
     }

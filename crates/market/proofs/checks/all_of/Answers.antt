@@ -1,28 +1,30 @@
--- `checks::all_of` meets its contract.
+-- `checks::all_of`: all bytes are left to be tested.
 use borrow.Author.Rules.{rules}
 use mathlib.Core.Path.{sym, ◌∙◌}
 use native.Mathlib.Nat.{sub-zero}
+use native.Mathlib.Omega.{arith}
+use lib.ListN.{get_or}
 use Rattle.base.proofs.Sums.{all_more, all_fails, all_done}
 use Rattle.market.specs.Export.{all_of}
 use Rattle.market.proofs.checks.all_of.Goals as goal
 
-pub loop-i-init : goal.loop-i-init
+pub loop-byte-init : goal.loop-byte-init
 unfolding all_of
-loop-i-init c = record { inside = search rules; known = rw sub-zero }
+loop-byte-init g c k told = rw sub-zero
 
-pub returns-then-not-is_in : goal.returns-then-not-is_in
-returns-then-not-is_in c =
-    sym (c.loop-i.invariant.known
-    ∙ all_fails _ c.loop-i.i _ (search rules) (sym c.is_in.ensures ∙ c.if-not-is_in.true))
+pub returns-then-not-test : goal.returns-then-not-test
+returns-then-not-test g c k told =
+    sym (c.loop-byte.invariant k told
+    ∙ all_fails _ c.loop-byte.byte-index _ (search rules)
+    (sym (told (get_or c.args.text.now c.loop-byte.byte-index 0) _
+    (omega (arith, (c.type_inv.text c.loop-byte.byte-index).fits)) c.test.ensures) ∙ c.if-not-test.true))
 
-pub loop-i-preserved : goal.loop-i-preserved
-loop-i-preserved c =
-    record {
-      inside = search rules;
-      known =
-          c.loop-i.invariant.known
-          ∙ all_more _ c.loop-i.i _ (search rules) (sym c.is_in.ensures ∙ c.if-not-is_in.false);
-    }
+pub loop-byte-preserved : goal.loop-byte-preserved
+loop-byte-preserved g c k told =
+    c.loop-byte.invariant k told
+    ∙ all_more _ c.loop-byte.byte-index _ (search rules)
+    (sym (told (get_or c.args.text.now c.loop-byte.byte-index 0) _
+    (omega (arith, (c.type_inv.text c.loop-byte.byte-index).fits)) c.test.ensures) ∙ c.if-not-test.false)
 
 pub returns : goal.returns
-returns c = sym (c.loop-i.invariant.known ∙ all_done _ c.loop-i.i _ (search rules))
+returns g c k told = sym (c.loop-byte.invariant k told ∙ all_done _ c.loop-byte.byte-index _ (search rules))

@@ -10,7 +10,7 @@ use Rattle.market.proofs.Joining.{joined_none, joined_next_0, day_within}
 use Rattle.market.proofs.days.put_days.Goals as goal
 
 pub loop-d-init : goal.loop-d-init
-loop-d-init c = record { inside = search rules; added = joined_none _ _ _ _ (search rules) (search rules) }
+loop-d-init c = joined_none _ _ _ _ (search rules) (search rules)
 
 pub overflow_add-day : goal.overflow_add-day
 overflow_add-day c = omega (arith, c.requires.1)
@@ -32,16 +32,13 @@ put_day-next-requires c = (
 
 pub loop-d-preserved : goal.loop-d-preserved
 loop-d-preserved c =
-    record {
-      inside = search rules;
-      added = joined_next_0 _ c.loop-d.d c.loop-d.invariant.added c.put_day-next.ensures;
-    }
+    joined_next_0 _ c.loop-d.d c.loop-d.invariant c.put_day-next.ensures
 
 pub shape_of-out : goal.shape_of-out
-shape_of-out c = ap length c.loop-d.invariant.added.has ∙ length_stored _ _ _
+shape_of-out c = ap length c.loop-d.invariant.has ∙ length_stored _ _ _
 
 pub returns : goal.returns
 unfolding days_of
 returns c =
     let done : c.loop-d.d ≡ c.args.days = omega arith in
-    rw done at c.loop-d.invariant.added
+    rw done at c.loop-d.invariant

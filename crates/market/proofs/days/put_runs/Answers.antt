@@ -14,7 +14,6 @@ use Rattle.market.proofs.days.put_runs.Goals as goal
 pub loop-j-init : goal.loop-j-init
 loop-j-init c =
     record {
-      inside = search rules;
       began = start_none _ _ _;
       early = search rules;
       added = joined_none _ _ _ _ (search rules) (search rules);
@@ -27,7 +26,6 @@ loop-j-preserved c =
     let start_is = c.next_start-start.ensures
     ∙ start_next _ a.a a.n l.j _ l.start c.ends_run-ends.ensures l.invariant.began in
     record {
-      inside = search rules;
       began = start_is;
       early = omega (arith, start_is, start_le (λ i. mark_of a.codes (slot_at a.file.now i)) a.a a.n (l.j + 1));
       added =

@@ -1,5 +1,5 @@
 -- `headers::put_200` meets its contract.
-use Rattle.market.specs.Fields.{field, fields}
+use Rattle.market.specs.Fields.{field, fields, lent}
 use Rattle.base.specs.Text.{ascii}
 use Rattle.market.specs.Records.{record200}
 use Rattle.line.proofs.Putting.{then, same}
@@ -9,9 +9,8 @@ use Rattle.market.proofs.headers.put_200.Goals as goal
 pub returns : goal.returns
 unfolding record200 fields
 returns c =
-    let a = c.args in
-    same (meter_parts (ascii "200") (field a.identifier.now) (field a.configuration.now) (field a.register.now)
-    (field a.suffix.now) _)
+    let t = lent c.args.texts.now in
+    same (meter_parts (ascii "200") (field t.identifier) (field t.configuration) (field t.register) (field t.suffix) _)
     (then c.put_meter-meter.ensures
     (then c.put_field-streamed.ensures
     (then c.put_field-numbered.ensures

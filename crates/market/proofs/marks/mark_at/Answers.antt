@@ -10,4 +10,4 @@ returns-then-not-has_code c = rw (slot_at_lem _ _, sym c.has_code.ensures ∙ c.
 
 pub returns : goal.returns
 unfolding mark_of
-returns c = rw (slot_at_lem _ _, sym c.has_code.ensures ∙ c.if-not-has_code.false, c.code_for-code.ensures)
+returns c = rw (slot_at_lem _ _, sym c.has_code.ensures ∙ c.if-not-has_code.false, c.code_for.ensures)

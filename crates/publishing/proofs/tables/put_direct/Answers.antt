@@ -8,7 +8,7 @@ use Rattle.base.specs.Lists.{up_to}
 use lib.ListN.{length, get_or}
 use Rattle.rules.specs.declared.Head.{Head}
 use Rattle.rules.specs.Opening.{Slots, Agreed, slot_count}
-use Rattle.rules.specs.Lent.{slots, agreed_lists}
+use Rattle.rules.specs.Lent.{agreed_in, slots_in}
 use Rattle.rules.specs.Tests.{good_at}
 use Rattle.rules.specs.Inner.Walks.{actual_of, agreed_of, direct_of}
 use Rattle.rules.proofs.Bounds.{bounded, count_high}
@@ -19,13 +19,13 @@ use Rattle.publishing.specs.Inner.Publishing.{direct_totals, Countable}
 use Rattle.publishing.proofs.Buffers.{written_none}
 use Rattle.publishing.proofs.Records.{ran_on, ran_end}
 use Rattle.publishing.proofs.tables.put_direct.Goals as goal
-use Rattle.publishing.proofs.tables.put_direct.Goals.{At-loop-at, In-loop-at, then-is_good, else-is_good+else-agreed_versions-at-eq0}
+use Rattle.publishing.proofs.tables.put_direct.Goals.{At-loop-at, In-loop-at, then-is_good, else-is_good+else-agreed-at-eq0}
 
 abbrev lent : At-loop-at → Slots
-lent c = let a = c.args in slots a.values.now a.versions.now a.statuses.now
+lent c = let a = c.args in slots_in a.slots.now
 
 abbrev settled : At-loop-at → Agreed
-settled c = let a = c.args in agreed_lists a.agreed.now a.agreed_versions.now
+settled c = let a = c.args in agreed_in a.agreed.now
 
 absent : {i from : ℕ} → i < from → from ≤ i → ⊥
 absent l m = omega arith
@@ -77,9 +77,9 @@ loop-at-init c =
 pub is_good-requires : goal.is_good-requires
 is_good-requires c = (c.requires.direct.fitted, below (goal.at.is_good-requires c).In-loop-at)
 
-pub bounds-values-at : goal.bounds-values-at
-bounds-values-at c =
-    omega (arith, below (goal.at.bounds-values-at c).In-loop-at, c.requires.direct.fitted.values)
+pub bounds-slots-at : goal.bounds-slots-at
+bounds-slots-at c =
+    omega (arith, below (goal.at.bounds-slots-at c).In-loop-at, c.requires.direct.fitted.values)
 
 pub overflow_mul-at : goal.overflow_mul-at
 overflow_mul-at c = omega (arith, below (goal.at.overflow_mul-at c).In-loop-at, most (goal.at.overflow_mul-at c).At-loop-at)
@@ -90,23 +90,20 @@ put_slot-requires c = omega (arith, room (goal.at.put_slot-requires c).In-loop-a
 pub add-totals-requires : goal.add-totals-requires
 add-totals-requires c = counts (goal.at.add-totals-requires c).In-loop-at
 
-pub bounds-agreed_versions-at : goal.bounds-agreed_versions-at
-bounds-agreed_versions-at c =
-    omega (arith, below (goal.at.bounds-agreed_versions-at c).In-loop-at, c.requires.direct.settled.versions)
-
-pub shape_of-out-then-agreed_versions-at-eq0 : goal.shape_of-out-then-agreed_versions-at-eq0
-shape_of-out-then-agreed_versions-at-eq0 c = c.loop-at.invariant.long
-
-pub returns-then-agreed_versions-at-eq0 : goal.returns-then-agreed_versions-at-eq0
-returns-then-agreed_versions-at-eq0 c =
-    let cause = sym c.is_good.ensures ∙ c.if-is_good.false in
-    ran_end _ (lent (goal.at.returns-then-agreed_versions-at-eq0 c).At-loop-at)
-    (settled (goal.at.returns-then-agreed_versions-at-eq0 c).At-loop-at) _ _ _ _ _ _ _ _ c.loop-at.invariant
-    (λ l. direct_none _ _ (settled (goal.at.returns-then-agreed_versions-at-eq0 c).At-loop-at) _ cause c.if-agreed_versions-at-eq0.true)
-
 pub bounds-agreed-at : goal.bounds-agreed-at
 bounds-agreed-at c =
-    omega (arith, below (goal.at.bounds-agreed-at c).In-loop-at, c.requires.direct.settled.values)
+    omega (arith, below (goal.at.bounds-agreed-at c).In-loop-at, c.requires.direct.settled.versions)
+
+pub returns-then-agreed-at-eq0 : goal.returns-then-agreed-at-eq0
+returns-then-agreed-at-eq0 c =
+    let cause = sym c.is_good.ensures ∙ c.if-is_good.false in
+    ran_end _ (lent (goal.at.returns-then-agreed-at-eq0 c).At-loop-at)
+    (settled (goal.at.returns-then-agreed-at-eq0 c).At-loop-at) _ _ _ _ _ _ _ _ c.loop-at.invariant
+    (λ l. direct_none _ _ (settled (goal.at.returns-then-agreed-at-eq0 c).At-loop-at) _ cause c.if-agreed-at-eq0.true)
+
+pub bounds-agreed-at-else-is_good : goal.bounds-agreed-at-else-is_good
+bounds-agreed-at-else-is_good c =
+    omega (arith, below (goal.at.bounds-agreed-at-else-is_good c).In-loop-at, c.requires.direct.settled.values)
 
 pub overflow_mul-at-else-is_good : goal.overflow_mul-at-else-is_good
 overflow_mul-at-else-is_good c = omega (
@@ -130,9 +127,6 @@ outage_zero-outage-requires c =
 pub add-totals-requires-else-is_good : goal.add-totals-requires-else-is_good
 add-totals-requires-else-is_good c = counts (goal.at.add-totals-requires-else-is_good c).In-loop-at
 
-pub overflow_add-at : goal.overflow_add-at
-overflow_add-at c = omega (arith, below (goal.at.overflow_add-at c).In-loop-at, most (goal.at.overflow_add-at c).At-loop-at)
-
 pub loop-at-smaller : goal.loop-at-smaller
 loop-at-smaller c = omega (arith, c.loop-at-test.true)
 
@@ -150,16 +144,17 @@ loop-at-preserved c =
           on w.delivered-good.result _ _ _ c.requires.room c.loop-at-test.true (direct_good h s a i is)
           (w.delivered-good.ensures ∙ good-outcome h s a i is)
           (w.outage-is ∙ zero) (w.totals-is ∙ w.add-totals.ensures) (w.out-is ∙ w.put_slot.ensures)
-      | else-is_good+else-agreed_versions-at-eq0 w ↦
+      | else-is_good+else-agreed-at-eq0 w ↦
           let cause = sym c.is_good.ensures ∙ w.if-is_good.false in
           let zero = rw c.requires.direct.fitted.versions at w.outage_zero-outage.ensures in
           on w.by_agreement-settled.result _ _ _ c.requires.room c.loop-at-test.true
-          (direct_agreed h s a i w.if-agreed_versions-at-eq0.false)
+          (direct_agreed h s a i w.if-agreed-at-eq0.false)
           (w.by_agreement-settled.ensures ∙ agreed-outcome h s a i cause)
           (w.outage-is ∙ zero) (w.totals-is ∙ w.add-totals-else-is_good.ensures) (w.out-is ∙ w.put_slot-else-is_good.ensures)
     ]
 
 pub returns : goal.returns
 returns c =
-    ran_end _ (lent (goal.at.returns c).At-loop-at) (settled (goal.at.returns c).At-loop-at) _ _ _ _ _ _ _ _ c.loop-at.invariant
-    (λ l. absurd (absent l c.loop-at-test.false))
+    let end : c.loop-at.at ≡ c.args.to = omega (arith, c.loop-at.invariant.inside, c.loop-at-test.false) in
+    rw end at (ran_end _ (lent (goal.at.returns c).At-loop-at) (settled (goal.at.returns c).At-loop-at) _ _ _ _ _ _ _ _ c.loop-at.invariant
+    (λ l. absurd (absent l c.loop-at-test.false)))

@@ -7,7 +7,7 @@ use native.Mathlib.Omega.{arith}
 use lib.ListN.{length}
 use Rattle.rules.specs.declared.stretch.Stretch.{Stretch}
 use Rattle.rules.specs.Opening.{Cells, slot_count}
-use Rattle.rules.specs.Lent.{slots, agreed_lists, cells}
+use Rattle.rules.specs.Lent.{cells_in}
 use Rattle.rules.specs.Tests.{good_at}
 use Rattle.rules.specs.Spans.{spans}
 use Rattle.rules.specs.Filling.{is_outage_zero, is_agreed, filled_at, shape_at}
@@ -30,8 +30,7 @@ use Rattle.publishing.proofs.tables.put_inside.Goals.{In-loop-at, Start}
 abbrev lent : Start → Cells
 lent c =
     let a = c.args in
-    cells (slots a.values.now a.versions.now a.statuses.now) a.holidays.now a.readings.now a.read_versions.now
-    (agreed_lists a.agreed.now a.agreed_versions.now) a.widths.now
+    cells_in a.cells.now
 
 bounds : (c : Start) → Bounded c.args.head
 bounds c = bounded c.args.head c.requires.roomy.whole.lent.fitted.head

@@ -3,9 +3,10 @@ use mathlib.Core.Path.{◌≡◌, sym, ap, ◌∙◌}
 use Prim.Native.Nat.{◌+◌, ◌*◌, ◌≤◌}
 use native.Mathlib.Omega.{arith}
 use lib.ListN.{length}
-use Rattle.rules.specs.declared.stretch.Begins.{Begins}
+use Rattle.std.specs.Prelude.{Option}
+use Rattle.rules.specs.declared.Span.{Span}
 use Rattle.rules.specs.Opening.{Cells, slot_count}
-use Rattle.rules.specs.Lent.{slots, agreed_lists, cells}
+use Rattle.rules.specs.Lent.{cells_in}
 use Rattle.rules.specs.Spans.{spans}
 use Rattle.rules.specs.Inner.Stretches.{begins_at}
 use Rattle.rules.specs.Inner.Passes.{pass_at, list_of, begun_before}
@@ -20,8 +21,7 @@ use Rattle.publishing.proofs.tables.put_stretch.Goals.{Start}
 abbrev lent : Start → Cells
 lent c =
     let a = c.args in
-    cells (slots a.values.now a.versions.now a.statuses.now) a.holidays.now a.readings.now a.read_versions.now
-    (agreed_lists a.agreed.now a.agreed_versions.now) a.widths.now
+    cells_in a.cells.now
 
 bounds : (c : Start) → Bounded c.args.head
 bounds c = bounded c.args.head c.requires.roomy.whole.lent.fitted.head
@@ -49,7 +49,7 @@ put_begun-spans-requires c =
     let i = c.args.here.pass.walk.at in
     let g : length (list_of c.enter-entered.result.begins) ≡ length
     (list_of (begins_at h (lent (goal.at.put_begun-spans-requires c).Start) i)) =
-    ap (λ (x : Begins). length (list_of x)) c.enter-entered.ensures.0 in
+    ap (λ (x : Option Span). length (list_of x)) c.enter-entered.ensures.0 in
     omega (
       arith,
       before (goal.at.put_begun-spans-requires c).Start,

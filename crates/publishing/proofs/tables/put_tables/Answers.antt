@@ -4,7 +4,7 @@ use Prim.Native.Nat.{zero-le}
 use native.Mathlib.Omega.{arith}
 use borrow.Author.Rules.{rules}
 use Rattle.rules.specs.Opening.{Cells, slot_count}
-use Rattle.rules.specs.Lent.{slots, agreed_lists, cells}
+use Rattle.rules.specs.Lent.{cells_in}
 use Rattle.rules.specs.Spans.{outcomes}
 use Rattle.publishing.specs.declared.tables.Progress.{Progress}
 use Rattle.publishing.specs.Inner.Publishing.{progress_at, buffer_at}
@@ -16,8 +16,7 @@ use Rattle.publishing.proofs.tables.put_tables.Goals.{At-loop-i, Start}
 abbrev lent : Start → Cells
 lent c =
     let a = c.args in
-    cells (slots a.values.now a.versions.now a.statuses.now) a.holidays.now a.readings.now a.read_versions.now
-    (agreed_lists a.agreed.now a.agreed_versions.now) a.widths.now
+    cells_in a.cells.now
 
 place : (c : At-loop-i) → c.loop-i.here.pass.walk.at ≡ c.loop-i.i
 place c = progress_place c.args.head (lent (goal.at.At-loop-i c).Start) c.loop-i.i c.loop-i.here c.loop-i.invariant.known

@@ -5,7 +5,7 @@ use Prim.Native.Nat.{ℕ, ◌-◌, ◌≤◌}
 use lib.ListN.{length}
 use Rattle.rules.specs.declared.Head.{Head}
 use Rattle.rules.specs.Opening.{Cells}
-use Rattle.rules.specs.Lent.{slots, agreed_lists, cells}
+use Rattle.rules.specs.Lent.{cells_in}
 use Rattle.publishing.specs.declared.tables.Progress.{Progress}
 use Rattle.publishing.specs.Inner.Publishing.{progress_at, buffer_at}
 use Rattle.publishing.proofs.tables.put_tables.Given as goal
@@ -17,8 +17,7 @@ pub record Held (h : Head) (b : Cells) (d₀ : List ℕ) (n : ℕ) (d : List ℕ
   pub bytes : d ≡ buffer_at h b d₀ i
 
 abbrev pub invariant-loop-i : goal.invariant-loop-i
-invariant-loop-i l = Held l.head (cells (slots l.values l.versions l.statuses) l.holidays l.readings l.read_versions
-    (agreed_lists l.agreed l.agreed_versions) l.widths) l.initial.out l.n
+invariant-loop-i l = Held l.head (cells_in l.cells) l.initial.out l.n
     l.out l.here l.i
 
 abbrev pub decreases-loop-i : goal.decreases-loop-i

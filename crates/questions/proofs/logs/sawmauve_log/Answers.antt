@@ -3,7 +3,7 @@ use Rattle.questions.proofs.Logging.{other_figures, figures_told}
 use Rattle.questions.proofs.logs.sawmauve_log.Goals as goal
 
 pub returns-then-figures-ne9 : goal.returns-then-figures-ne9
-returns-then-figures-ne9 c = other_figures _ _ c.if-figures-ne9.true
+returns-then-figures-ne9 c = rw c.number.ensures (other_figures _ _ c.if-figures-ne9.true)
 
 pub returns : goal.returns
 returns c =

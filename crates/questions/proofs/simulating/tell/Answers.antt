@@ -11,12 +11,12 @@ use Rattle.questions.proofs.Reporting.{two_set}
 use borrow.Author.Rules.{rules}
 use Rattle.questions.proofs.simulating.tell.Goals as goal
 
-pub returns-in-Run : goal.returns-in-Run
-returns-in-Run c =
-    let found = c.in-Run.found in
+pub returns-in-Ok : goal.returns-in-Ok
+returns-in-Ok c =
+    let found = c.in-Ok.found in
     let small : Fits w8 found.state = search rules in
     let fits : SFits w64 found.difference = search rules in
-    rw c.in-Run.is (
+    rw c.in-Ok.is (
       refl,
       two_set c.args.report.now _ _ c.requires
           ∙ ap₂ (λ (x y : ℤ). x ∷ y ∷ []) (to_z_pos w64 _ (omega (arith, small.fits))) (to_z-of_z w64 _ fits),

@@ -7,19 +7,19 @@ use native.Mathlib.Omega.{arith}
 use lib.ListN.{length}
 use Rattle.rules.specs.Opening.{Slots, slots_per_day, slot_count}
 use Rattle.rules.specs.References.{in_four}
-use Rattle.rules.specs.Lent.{slots}
+use Rattle.rules.specs.Lent.{slots_in}
 use Rattle.rules.specs.Inner.Ways.{value_of, InBook}
 use Rattle.rules.specs.Weeks.{first_back, farthest_back}
 use Rattle.rules.proofs.Bounds.{Bounded, bounded, count_high, day_below}
 use Rattle.rules.proofs.References.{values_each}
-use Rattle.rules.proofs.Searches.{Keeping, Standing, begin_fits, stands_first, keeps_none, slot_inside, stands_on, keeps_passed}
+use Rattle.rules.proofs.Searches.{Keeping, Standing, stands_first, keeps_none, stands_on, keeps_passed}
 use Rattle.rules.proofs.Searches.{keeps_found, weeks_fit, past_gaps}
 use Rattle.rules.proofs.Searches.{keeps_spent, keeps_full}
 use Rattle.rules.proofs.filling.find_references.Goals as goal
 use Rattle.rules.proofs.filling.find_references.Goals.{After-day_with-day, After-pass_gaps-passed, After-way_back-way, Else-left-eq0, Start}
 
 abbrev lent : Start → Slots
-lent c = let a = c.args in slots a.values.now a.versions.now a.statuses.now
+lent c = let a = c.args in slots_in a.slots.now
 
 bounds : (c : Start) → Bounded c.args.head
 bounds c = bounded c.args.head c.requires.0.fitted.head
@@ -96,14 +96,6 @@ overflow_mul-begin c =
     rw c.day_with-day.ensures.1
     (omega (arith, mul-le-mul c.way_back-way.ensures.1.short (bounds (goal.at.overflow_mul-begin c).Start).day_high))
 
-pub overflow_sub-begin : goal.overflow_sub-begin
-overflow_sub-begin c =
-    let fits = begin_fits c.args.head (bounds (goal.at.overflow_sub-begin c).Start) c.args.slot _
-    (week (goal.at.overflow_sub-begin c).After-day_with-day) c.args.holidays.now _ _
-    (first (goal.at.overflow_sub-begin c).After-way_back-way) (weeks (goal.at.overflow_sub-begin c).After-way_back-way) in
-    let same = ap (λ (x : ℕ). c.way_back-way.result.first * x) c.day_with-day.ensures.1 in
-    omega (arith, fits, same)
-
 pub pass_gaps-passed-requires : goal.pass_gaps-passed-requires
 pass_gaps-passed-requires c = (
   weeks_fit c.args.head (bounds (goal.at.pass_gaps-passed-requires c).Start) c.args.slot _
@@ -116,38 +108,6 @@ weeks-init c =
     let values = keeps (value_of (lent (goal.at.weeks-init c).Start)) (goal.at.weeks-init c).After-pass_gaps-passed in
     record { standing = values.0; values = values.1; dates = (keeps _ (goal.at.weeks-init c).After-pass_gaps-passed).1 }
 
-pub overflow_sub-at : goal.overflow_sub-at
-overflow_sub-at c =
-    slot_inside c.args.head (bounds (goal.at.overflow_sub-at c).Start) _ _ c.weeks.invariant.standing.seven c.weeks.invariant.standing
-    c.if-left-eq0.false
-
-pub overflow_sub-left : goal.overflow_sub-left
-overflow_sub-left c = omega (arith, c.if-left-eq0.false)
-
-pub is_reference-requires : goal.is_reference-requires
-is_reference-requires c = (c.requires.0, inside (goal.at.is_reference-requires c).Else-left-eq0)
-
-pub offset_bounds-values-at : goal.offset_bounds-values-at
-offset_bounds-values-at c = omega (
-  arith,
-  inside (goal.at.offset_bounds-values-at c).Else-left-eq0,
-  most
-      (goal.at.offset_bounds-values-at c).Start,
-)
-
-pub bounds-values-at : goal.bounds-values-at
-bounds-values-at c =
-    omega (arith, inside (goal.at.bounds-values-at c).Else-left-eq0, c.requires.0.fitted.values)
-
-pub offset_bounds-found-count : goal.offset_bounds-found-count
-offset_bounds-found-count c = omega (arith, c.weeks.invariant.standing.room)
-
-pub bounds-found-count : goal.bounds-found-count
-bounds-found-count c = omega (arith, c.weeks.invariant.standing.room)
-
-pub day_of-requires : goal.day_of-requires
-day_of-requires c = c.requires.0.fitted.head
-
 pub overflow_cast-days : goal.overflow_cast-days
 overflow_cast-days c =
     rw c.day_of.ensures
@@ -159,18 +119,6 @@ overflow_cast-days c =
         (bounds (goal.at.overflow_cast-days c).Start).days_high,
       );
     })
-
-pub offset_bounds-days-count : goal.offset_bounds-days-count
-offset_bounds-days-count c = omega (arith, c.weeks.invariant.standing.room)
-
-pub bounds-days-count : goal.bounds-days-count
-bounds-days-count c = omega (arith, c.weeks.invariant.standing.room)
-
-pub overflow_add-count : goal.overflow_add-count
-overflow_add-count c = omega (arith, c.weeks.invariant.standing.room)
-
-pub weeks-smaller-else-count-eq4 : goal.weeks-smaller-else-count-eq4
-weeks-smaller-else-count-eq4 c = omega (arith, c.if-left-eq0.false)
 
 pub weeks-preserved-else-count-eq4 : goal.weeks-preserved-else-count-eq4
 weeks-preserved-else-count-eq4 c =
@@ -186,9 +134,6 @@ weeks-preserved-else-count-eq4 c =
       dates = keeps_found c.args.head (bounds (goal.at.weeks-preserved-else-count-eq4 c).Start) _ _ seven held.standing more held.dates _
           c.day_of.ensures yes;
     }
-
-pub weeks-smaller : goal.weeks-smaller
-weeks-smaller c = omega (arith, c.if-left-eq0.false)
 
 pub weeks-preserved : goal.weeks-preserved
 weeks-preserved c =

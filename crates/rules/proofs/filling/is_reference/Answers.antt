@@ -3,21 +3,21 @@ use mathlib.Core.Bool.{true, false}
 use mathlib.Core.Path.{◌≡◌, sym, ◌∙◌}
 use Rattle.rules.specs.Tests.{good_at}
 use Rattle.rules.specs.Filling.{is_reference}
-use Rattle.rules.specs.Lent.{slots}
+use Rattle.rules.specs.Lent.{slots_in}
 use Rattle.rules.proofs.Bounds.{bounded, day_below}
 use Rattle.rules.proofs.filling.is_reference.Goals as goal
 use Rattle.rules.proofs.filling.is_reference.Goals.{Else-not-is_good}
 
 -- the slot is good
 good : (c : Else-not-is_good) → let a = c.args in
-    good_at a.head (slots a.values.now a.versions.now a.statuses.now) a.at ≡ true
+    good_at a.head (slots_in a.slots.now) a.at ≡ true
 good c = sym c.is_good.ensures ∙ c.if-not-is_good.false
 
 pub returns-then-not-is_good : goal.returns-then-not-is_good
 unfolding is_reference
 returns-then-not-is_good c =
     let a = c.args in
-    let bad : good_at a.head (slots a.values.now a.versions.now a.statuses.now) a.at ≡ false =
+    let bad : good_at a.head (slots_in a.slots.now) a.at ≡ false =
     sym c.is_good.ensures ∙ c.if-not-is_good.true in
     simp bad
 

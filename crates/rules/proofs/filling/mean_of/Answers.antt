@@ -1,7 +1,8 @@
 -- `filling::mean_of`. The loop's sum is the total of the values passed; what it has beyond the mean is the remainder.
-use mathlib.Core.Path.{◌≡◌, refl, ◌∙◌}
+use mathlib.Core.Path.{◌≡◌, refl, ap, ◌∙◌}
+use Rattle.std.proofs.lemmas.List.{take_all}
 use Prim.Native.Nat.{◌<◌}
-use native.Mathlib.Nat.{div-lt_iff_lt-mul, div-add-mod', mod-lt}
+use native.Mathlib.Nat.{div-add-mod', mod-lt}
 use mir.Val.{Fits}
 use mir.Syntax.{w32}
 use native.Mathlib.Omega.{arith}
@@ -19,37 +20,21 @@ returns c =
     let v = c.args.found.values in
     let n = c.args.found.count in
     let l : length v ≡ 4 = search rules in
-    let e : c.loop-i.i ≡ n = omega arith in
+    let e : c.loop-value.value-index ≡ n = omega arith in
     let p : 0 < n = omega arith in
-    let t : c.loop-i.sum ≡ sum_of (take n v) = rw e at c.loop-i.invariant.known in
-    (rw (length-take-le n v (omega arith), ← t), refl, div-add-mod' c.loop-i.sum n ∙ t, mod-lt c.loop-i.sum p)
+    let k : length (take n v) ≡ n = length-take-le n v (omega arith) in
+    let t : c.loop-value.sum ≡ sum_of (take n v) =
+    c.loop-value.invariant.known ∙ ap sum_of (take_all c.loop-value.value-index (take n v) (omega arith)) in
+    (rw (k, ← t), refl, div-add-mod' c.loop-value.sum n ∙ t, mod-lt c.loop-value.sum p)
 
-pub loop-i-init : goal.loop-i-init
+pub loop-value-init : goal.loop-value-init
 unfolding sum_of
-loop-i-init c = search rules
+loop-value-init c = search rules
 
-pub overflow_add-sum : goal.overflow_add-sum
-overflow_add-sum c =
-    let e : Fits w32 (get_or c.args.found.values c.loop-i.i 0) = search rules in
-    omega arith
-
-pub loop-i-preserved : goal.loop-i-preserved
-loop-i-preserved c =
-    let e : Fits w32 (get_or c.args.found.values c.loop-i.i 0) = search rules in
+pub loop-value-preserved : goal.loop-value-preserved
+loop-value-preserved c =
+    let e : Fits w32 (get_or (take c.args.found.count c.args.found.values) c.loop-value.value-index 0) = search rules in
     record {
-      inside = omega arith;
-      known = total_next c.args.found.values c.loop-i.i _ c.loop-i.invariant.known;
+      known = total_next (take c.args.found.count c.args.found.values) c.loop-value.value-index _ c.loop-value.invariant.known;
       small = omega arith;
     }
-
-pub overflow_cast-result : goal.overflow_cast-result
-overflow_cast-result c =
-    let n = c.args.found.count in
-    let p : 0 < n = omega arith in
-    let e : c.loop-i.i ≡ n = omega arith in
-    record { fits = (div-lt_iff_lt-mul p).1 (omega arith) }
-
-pub overflow_cast-result-2 : goal.overflow_cast-result-2
-overflow_cast-result-2 c =
-    let p : 0 < c.args.found.count = omega arith in
-    omega (arith, mod-lt c.loop-i.sum p)

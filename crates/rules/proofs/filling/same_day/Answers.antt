@@ -5,7 +5,7 @@ use native.Mathlib.Omega.{arith}
 use lib.ListN.{length, take}
 use Rattle.base.specs.Lists.{sum_of}
 use Rattle.rules.specs.Filling.{references, shape_of}
-use Rattle.rules.specs.Lent.{slots}
+use Rattle.rules.specs.Lent.{slots_in}
 use Rattle.rules.proofs.References.{from_none, from_some}
 use Rattle.rules.proofs.Searches.{first_places}
 use Rattle.rules.proofs.Shapes.{shape_exact, references_few}
@@ -14,14 +14,14 @@ use Rattle.rules.proofs.filling.same_day.Goals.{After-find_references-found}
 
 -- the references, at most four, and what is found of them
 few : (c : After-find_references-found) → let a = c.args in
-    length (references a.head (slots a.values.now a.versions.now a.statuses.now) a.holidays.now a.at) ≤ 4
+    length (references a.head (slots_in a.slots.now) a.holidays.now a.at) ≤ 4
 few c =
     let a = c.args in
-    references_few a.head (slots a.values.now a.versions.now a.statuses.now) a.holidays.now a.at
+    references_few a.head (slots_in a.slots.now) a.holidays.now a.at
 
 values : (c : After-find_references-found) → let a = c.args in let r = c.find_references-found.result in
     take r.count r.values
-    ≡ references a.head (slots a.values.now a.versions.now a.statuses.now) a.holidays.now a.at
+    ≡ references a.head (slots_in a.slots.now) a.holidays.now a.at
 values c = first_places _ _ _ c.find_references-found.ensures.1 c.find_references-found.ensures.2
     (few (goal.at.After-find_references-found c).After-find_references-found)
 

@@ -15,9 +15,6 @@ pub returns-then-outage : goal.returns-then-outage
 unfolding ruled_by shape_of
 returns-then-outage c = (c.unshaped.ensures.0 ∙ rw c.if-outage.true, rw c.unshaped.ensures.0 c.unshaped.ensures.1)
 
-pub line_value-value-requires : goal.line_value-value-requires
-line_value-value-requires c = c.requires.2 c.if-line-gt0.true
-
 pub returns-then-line-gt0 : goal.returns-then-line-gt0
 unfolding ruled_by shape_of
 returns-then-line-gt0 c =

@@ -3,7 +3,7 @@ use mathlib.Core.Path.{sym, ◌∙◌}
 use Prim.Native.Nat.{◌+◌, ◌<◌}
 use native.Mathlib.Omega.{arith}
 use Rattle.rules.specs.Opening.{slot_count}
-use Rattle.rules.specs.Lent.{slots}
+use Rattle.rules.specs.Lent.{slots_in}
 use Rattle.rules.proofs.Bounds.{bounded, count_high}
 use Rattle.rules.proofs.Lines.{line_first_slot, line_no_left, line_no_right, line_ends, line_found}
 use borrow.Author.Rules.{rules}
@@ -13,7 +13,7 @@ use Rattle.rules.proofs.linear.begin.Goals.{Else-length-eq0}
 -- a slot follows the run
 inside : (c : Else-length-eq0) → c.args.at + c.length_within-length.result < slot_count c.args.head
 inside c =
-    line_ends c.args.head (slots c.args.values.now c.args.versions.now c.args.statuses.now)
+    line_ends c.args.head (slots_in c.args.slots.now)
     c.args.agreed_versions.now c.args.at c.requires.2 c.requires.3 c.requires.4 c.if-at-lt1.false
     (sym c.is_good.ensures ∙ c.if-not-is_good.false) c.length_within-length.result
     c.length_within-length.ensures c.if-length-eq0.false
@@ -21,24 +21,20 @@ inside c =
 pub returns-then-at-lt1 : goal.returns-then-at-lt1
 returns-then-at-lt1 c =
     let a = c.args in
-    c.bare.ensures ∙ line_first_slot a.head (slots a.values.now a.versions.now a.statuses.now) a.agreed_versions.now
+    c.bare.ensures ∙ line_first_slot a.head (slots_in a.slots.now) a.agreed_versions.now
     a.at c.requires.2 c.requires.3 c.requires.4 c.if-at-lt1.true
-
-pub is_good-requires : goal.is_good-requires
-is_good-requires c =
-    (record { head = c.requires.0.head; values = omega arith; versions = omega arith; statuses = omega arith }, omega arith)
 
 pub returns-then-not-is_good : goal.returns-then-not-is_good
 returns-then-not-is_good c =
     let a = c.args in
-    c.bare-then-not-is_good.ensures ∙ line_no_left a.head (slots a.values.now a.versions.now a.statuses.now) a.agreed_versions.now
+    c.bare-then-not-is_good.ensures ∙ line_no_left a.head (slots_in a.slots.now) a.agreed_versions.now
     a.at c.requires.2 c.requires.3 c.requires.4 c.if-at-lt1.false
     (sym c.is_good.ensures ∙ c.if-not-is_good.true)
 
 pub returns-then-length-eq0 : goal.returns-then-length-eq0
 returns-then-length-eq0 c =
     let a = c.args in
-    c.bare-then-length-eq0.ensures ∙ line_no_right a.head (slots a.values.now a.versions.now a.statuses.now) a.agreed_versions.now
+    c.bare-then-length-eq0.ensures ∙ line_no_right a.head (slots_in a.slots.now) a.agreed_versions.now
     a.at c.requires.2 c.requires.3 c.requires.4 c.if-at-lt1.false
     (sym c.is_good.ensures ∙ c.if-not-is_good.false) c.length_within-length.result
     c.length_within-length.ensures c.if-length-eq0.true
@@ -51,16 +47,16 @@ overflow_cast-result c =
     let b = count_high _ (bounded _ c.requires.0.head) in
     record { fits = omega (arith, inside (goal.at.overflow_cast-result c).Else-length-eq0) }
 
-pub offset_bounds-values-after : goal.offset_bounds-values-after
-offset_bounds-values-after c = let l = inside (goal.at.offset_bounds-values-after c).Else-length-eq0 in search rules
+pub offset_bounds-slots-after : goal.offset_bounds-slots-after
+offset_bounds-slots-after c = let l = inside (goal.at.offset_bounds-slots-after c).Else-length-eq0 in search rules
 
-pub bounds-values-after : goal.bounds-values-after
-bounds-values-after c = omega (arith, inside (goal.at.bounds-values-after c).Else-length-eq0)
+pub bounds-slots-after : goal.bounds-slots-after
+bounds-slots-after c = omega (arith, inside (goal.at.bounds-slots-after c).Else-length-eq0)
 
 pub returns : goal.returns
 returns c =
     let a = c.args in
-    line_found a.head (slots a.values.now a.versions.now a.statuses.now) a.agreed_versions.now a.at c.requires.2
+    line_found a.head (slots_in a.slots.now) a.agreed_versions.now a.at c.requires.2
     c.requires.3 c.requires.4 c.if-at-lt1.false
     (sym c.is_good.ensures ∙ c.if-not-is_good.false)
     c.length_within-length.result c.length_within-length.ensures c.if-length-eq0.false

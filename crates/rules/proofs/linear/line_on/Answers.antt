@@ -1,6 +1,6 @@
 -- `linear::line_on`: an agreed slot lies in no run.
 use mathlib.Core.Path.{◌∙◌}
-use Rattle.rules.specs.Lent.{slots}
+use Rattle.rules.specs.Lent.{slots_in}
 use Rattle.rules.proofs.Runs.{not_agreed, run_agreed}
 use Rattle.rules.proofs.Lines.{line_none}
 use Rattle.rules.proofs.linear.line_on.Goals as goal
@@ -8,7 +8,7 @@ use Rattle.rules.proofs.linear.line_on.Goals as goal
 pub returns-then-agreed_versions-at-gt0 : goal.returns-then-agreed_versions-at-gt0
 returns-then-agreed_versions-at-gt0 c =
     let a = c.args in
-    let s = slots a.values.now a.versions.now a.statuses.now in
+    let s = slots_in a.slots.now in
     let v = a.agreed_versions.now in
     c.bare.ensures ∙ line_none a.head s v a.at (run_agreed a.head s v a.at c.if-agreed_versions-at-gt0.true)
 
@@ -23,6 +23,3 @@ line_unagreed-requires c =
       c.requires.4,
       c.requires.5,
     )
-
-pub returns : goal.returns
-returns c = c.line_unagreed.ensures

@@ -5,6 +5,7 @@ use mathlib.Core.Path.{◌≡◌, refl}
 use Prim.Native.Nat.{ℕ}
 use borrow.Author.Tests.{eqb-true}
 use lib.Dec.{eqb}
+use borrow.Author.Rules.{rules}
 use Rattle.base.proofs.Logic.{or_parts}
 use Rattle.rules.specs.Opening.{interval_ok, slots_per_day}
 use Rattle.rules.proofs.Bounds.{bounded}
@@ -17,15 +18,17 @@ five_left l e n m =
     (λ d. ⊎_elim (λ x. absurd (n (eqb-true l 15 x))) (λ x. absurd (m (eqb-true l 30 x))) (or_parts (eqb l 15) (eqb l 30) d))
     (or_parts (eqb l 5) _ e)
 
-pub returns-then-head-eq30 : goal.returns-then-head-eq30
+pub returns-in-30 : goal.returns-in-30
 unfolding slots_per_day
-returns-then-head-eq30 c = rw c.if-head-eq30.true (refl, refl)
+returns-in-30 c = rw c.in-30.is (refl, refl)
 
-pub returns-then-head-eq15 : goal.returns-then-head-eq15
+pub returns-in-15 : goal.returns-in-15
 unfolding slots_per_day
-returns-then-head-eq15 c = rw c.if-head-eq15.true (refl, refl)
+returns-in-15 c = rw c.in-15.is (refl, refl)
 
-pub returns : goal.returns
+pub returns-in_default : goal.returns-in_default
 unfolding slots_per_day
-returns c =
-    rw (five_left _ (bounded _ c.requires).interval_good c.if-head-eq15.false c.if-head-eq30.false) (refl, refl)
+returns-in_default c =
+    let n : c.args.head.interval ≡ 15 → ⊥ = search rules in
+    let m : c.args.head.interval ≡ 30 → ⊥ = search rules in
+    rw (five_left _ (bounded _ c.requires).interval_good n m) (refl, refl)

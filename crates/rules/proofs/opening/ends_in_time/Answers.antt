@@ -14,9 +14,6 @@ returns-then-head-lt2098 c =
     let ends : first_day h + h.days ≤ 36525 = omega (arith, early, c.requires.1) in
     rw (le-leb _ _ ends)
 
-pub day_number-requires : goal.day_number-requires
-day_number-requires c = c.requires.0
-
 pub overflow_add-result : goal.overflow_add-result
 overflow_add-result c = omega (arith, c.day_number.ensures, last_day _ _ _ c.requires.0, c.requires.1)
 

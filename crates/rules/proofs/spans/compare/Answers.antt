@@ -5,9 +5,6 @@ use Rattle.rules.proofs.Ranges.{advance_below}
 use Rattle.rules.specs.Inner.Summaries.{compared_with}
 use Rattle.rules.proofs.spans.compare.Goals as goal
 
-pub advanced-advance-requires : goal.advanced-advance-requires
-advanced-advance-requires c = c.requires.0.low c.args.first
-
 pub range_of-range-requires : goal.range_of-range-requires
 range_of-range-requires c =
     let a = c.args in

@@ -7,7 +7,7 @@ use native.Mathlib.Omega.{arith}
 use Rattle.base.specs.Lists.{sum, any}
 use Rattle.rules.specs.Opening.{Slots, Agreed, slot_count}
 use Rattle.rules.specs.Tests.{good_at}
-use Rattle.rules.specs.Lent.{slots, agreed_lists}
+use Rattle.rules.specs.Lent.{slots_in, agreed_in}
 use Rattle.rules.specs.Filling.{is_outage_zero, is_agreed, filled_at, shape_at}
 use Rattle.rules.specs.Inner.Summaries.{summary_of, actual_added}
 use Rattle.rules.proofs.Bounds.{Bounded, bounded, count_high}
@@ -20,10 +20,10 @@ use Rattle.rules.proofs.spans.summarise.Goals as goal
 use Rattle.rules.proofs.spans.summarise.Goals.{After-outage_zero-outage, After-unscaled-shaped, At-loop-k, Else-at-run, In-loop-k}
 
 abbrev lent : At-loop-k → Slots
-lent c = let a = c.args in slots a.values.now a.versions.now a.statuses.now
+lent c = let a = c.args in slots_in a.slots.now
 
 abbrev settled : At-loop-k → Agreed
-settled c = let a = c.args in agreed_lists a.agreed.now a.agreed_versions.now
+settled c = let a = c.args in agreed_in a.agreed.now
 
 bounds : (c : At-loop-k) → Bounded c.args.head
 bounds c = bounded c.args.head c.requires.0.fitted.head
@@ -79,34 +79,17 @@ ruled_here c =
     c.unscaled-shaped.ensures.0
     c.unscaled-shaped.ensures.1
 
-pub overflow_add-to : goal.overflow_add-to
-overflow_add-to c = omega (arith, c.requires.2, count_high c.args.head (bounded c.args.head c.requires.0.fitted.head))
-
 pub loop-k-init : goal.loop-k-init
 unfolding summary_of sum any
 loop-k-init c =
     let a = c.args in
     let known = c.requires.3 in
-    let s = slots a.values.now a.versions.now a.statuses.now in
+    let s = slots_in a.slots.now in
     record {
       inside = zero-le;
-      outage = rw add-zero (walk_outage a.head s a.agreed_versions.now a.first a.first.at known _ refl);
-      line = rw add-zero (walk_line a.head s a.agreed_versions.now a.first a.first.at known);
+      outage = rw add-zero (walk_outage a.head s a.agreed.now.versions.now a.first a.first.at known _ refl);
+      line = rw add-zero (walk_line a.head s a.agreed.now.versions.now a.first a.first.at known);
       known = refl;
-    }
-
-pub overflow_add-at : goal.overflow_add-at
-overflow_add-at c = omega (arith, below (goal.at.overflow_add-at c).In-loop-k, most (goal.at.overflow_add-at c).At-loop-k)
-
-pub add_up-run-requires : goal.add_up-run-requires
-add_up-run-requires c =
-    let pre = c.requires in
-    record {
-      fitted = pre.0.fitted;
-      settled = pre.1;
-      ordered = omega (arith, c.loop-k.invariant.inside);
-      inside = pre.2;
-      outage = c.loop-k.invariant.outage;
     }
 
 pub add_actual-sum-requires : goal.add_actual-sum-requires
@@ -119,13 +102,6 @@ add_actual-sum-requires c =
       c.requires.2,
       most (goal.at.add_actual-sum-requires c).At-loop-k,
     )
-
-pub overflow_sub-k : goal.overflow_sub-k
-overflow_sub-k c = omega (arith, c.add_up-run.ensures.0.further)
-
-pub loop-k-smaller-then-at-run : goal.loop-k-smaller-then-at-run
-loop-k-smaller-then-at-run c =
-    omega (arith, c.if-at-run.true, c.loop-k-test.true, c.add_up-run.ensures.0.inside)
 
 pub loop-k-preserved-then-at-run : goal.loop-k-preserved-then-at-run
 loop-k-preserved-then-at-run c =
@@ -147,14 +123,6 @@ loop-k-preserved-then-at-run c =
           c.loop-k.sum
           c.loop-k.invariant.known (end - a.first.at) (sym k) to.further;
     }
-
-pub outage_zero-outage-requires : goal.outage_zero-outage-requires
-outage_zero-outage-requires c =
-    let fitted = c.requires.0.fitted in (
-      fitted.statuses ∙ sym fitted.versions,
-      omega (arith, below (goal.at.outage_zero-outage-requires c).In-loop-k, fitted.versions),
-      rw fitted.versions c.loop-k.invariant.outage,
-    )
 
 pub line_unagreed-line-requires : goal.line_unagreed-line-requires
 line_unagreed-line-requires c =
@@ -182,13 +150,6 @@ unscaled-shaped-requires c =
 pub add-sum-requires : goal.add-sum-requires
 add-sum-requires c = room (goal.at.add-sum-requires c).At-loop-k _ (ruled_here (goal.at.add-sum-requires c).After-unscaled-shaped).1
 
-pub overflow_add-k : goal.overflow_add-k
-overflow_add-k c =
-    omega (arith, below (goal.at.overflow_add-k c).In-loop-k, most (goal.at.overflow_add-k c).At-loop-k)
-
-pub loop-k-smaller : goal.loop-k-smaller
-loop-k-smaller c = omega (arith, c.loop-k-test.true)
-
 pub loop-k-preserved : goal.loop-k-preserved
 loop-k-preserved c =
     let a = c.args in
@@ -204,10 +165,3 @@ loop-k-preserved c =
           summary_on a.head s x a.holidays.now a.first.at c.loop-k.k _ _ _ _ c.loop-k.invariant.known c.add-sum.ensures
           found.0 found.1;
     }
-
-pub returns : goal.returns
-returns c =
-    let a = c.args in
-    let e : c.loop-k.k ≡ a.count = omega (arith, c.loop-k-test.false, c.loop-k.invariant.inside) in
-    c.loop-k.invariant.known ∙ ap (summary_of a.head (lent (goal.at.returns c).At-loop-k) (settled (goal.at.returns c).At-loop-k)
-    a.holidays.now a.first.at) e

@@ -7,7 +7,7 @@ use Rattle.rules.specs.declared.Head.{Head}
 use Rattle.rules.specs.declared.linear.StraightLine.{StraightLine}
 use Rattle.rules.specs.declared.spans.Summary.{Summary}
 use Rattle.rules.specs.Opening.{Slots, Agreed, slot_count}
-use Rattle.rules.specs.Lent.{slots, agreed_lists}
+use Rattle.rules.specs.Lent.{slots_in, agreed_in}
 use Rattle.rules.specs.Inner.Walks.{zero_before, line_before}
 use Rattle.rules.specs.Inner.Summaries.{summary_of}
 use Rattle.rules.proofs.spans.summarise.Given as goal
@@ -22,7 +22,7 @@ pub record Held (h : Head) (s : Slots) (a : Agreed) (holidays : List ℕ) (start
     pub known : m ≡ summary_of h s a holidays start k
 
 abbrev pub invariant-loop-k : goal.invariant-loop-k
-invariant-loop-k l = Held l.head (slots l.values l.versions l.statuses) (agreed_lists l.agreed l.agreed_versions) l.holidays l.start l.count
+invariant-loop-k l = Held l.head (slots_in l.slots) (agreed_in l.agreed) l.holidays l.start l.count
     l.sum l.outage l.line l.k
 
 abbrev pub decreases-loop-k : goal.decreases-loop-k

@@ -18,10 +18,6 @@ returns-then-not-is_substituted c =
     let q : is_s c.args.slot.quality ≡ false = sym c.is_substituted.ensures ∙ c.if-not-is_substituted.true in
     rw q (refl, refl)
 
-pub scale-scaled-requires : goal.scale-scaled-requires
-scale-scaled-requires c =
-    c.requires.scales (sym c.is_substituted.ensures ∙ c.if-not-is_substituted.false) c.if-by-eq0.false
-
 pub returns : goal.returns
 unfolding fit_outcome fit_next
 returns c =

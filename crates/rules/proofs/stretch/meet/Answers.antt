@@ -1,12 +1,11 @@
 -- `stretch::meet`: the sums of the span's slots give its outcome and its scaling.
-use mathlib.Core.List.{[]}
 use mathlib.Core.Path.{◌≡◌, ◌∙◌}
 use Prim.Native.Nat.{◌-◌, ◌*◌, ◌≤◌}
 use native.Mathlib.Nat.{mul-le-mul}
 use native.Mathlib.Omega.{arith}
 use Rattle.rules.specs.Opening.{slots_per_day}
-use Rattle.rules.specs.Spans.{start, slots_in}
-use Rattle.rules.specs.Lent.{slots, agreed_lists, cells}
+use Rattle.rules.specs.Spans.{start, slots_in as span_length}
+use Rattle.rules.specs.Lent.{cells_in}
 use Rattle.rules.specs.Inner.Summaries.{summary_of}
 use Rattle.rules.proofs.Bounds.{bounded}
 use Rattle.rules.proofs.Places.{slots_within}
@@ -34,18 +33,6 @@ compare-found-requires c =
     let w = c.requires.3 in
     (c.requires.1, c.requires.4, omega (arith, w.within, w.ordered), w.within, b.days_high)
 
-pub overflow_cast-span : goal.overflow_cast-span
-overflow_cast-span c =
-    let b = bounded c.args.head c.requires.0.fitted.head in
-    let w = c.requires.3 in
-    omega (arith, b.days_high, w.within, w.ordered)
-
-pub overflow_cast-span-2 : goal.overflow_cast-span-2
-overflow_cast-span-2 c =
-    let b = bounded c.args.head c.requires.0.fitted.head in
-    let w = c.requires.3 in
-    omega (arith, b.days_high, w.within, w.ordered)
-
 pub overflow_mul-last-2 : goal.overflow_mul-last-2
 overflow_mul-last-2 c =
     let b = bounded c.args.head c.requires.0.fitted.head in
@@ -59,13 +46,12 @@ pub stretch_by-requires : goal.stretch_by-requires
 stretch_by-requires c = compared_advance _ _ _ _ _ _ _ c.compare-found.ensures
 
 pub returns : goal.returns
-unfolding start slots_in
+unfolding start span_length
 returns c =
     let a = c.args in
     let w = c.requires.3 in
     let e = c.slots_per_day-day.ensures in
-    let b = cells (slots a.values.now a.versions.now a.statuses.now) a.holidays.now a.readings.now []
-    (agreed_lists a.agreed.now a.agreed_versions.now) a.widths.now in
+    let b = cells_in a.cells.now in
     let m = c.summarise-sum.result in
     let s : m ≡ summary_of a.head b.slots b.agreed b.holidays (a.first * slots_per_day a.head)
     ((a.last - a.first) * slots_per_day a.head) = c.summarise-sum.ensures ∙ (simp (e, w.at_first)) in

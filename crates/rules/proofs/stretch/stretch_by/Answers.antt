@@ -7,9 +7,6 @@ pub returns-then-state-ne1 : goal.returns-then-state-ne1
 unfolding stretch_by
 returns-then-state-ne1 c = rw (ne_eqb _ _ c.if-state-ne1.true) c.unscaled_to.ensures
 
-pub scaling_of-requires : goal.scaling_of-requires
-scaling_of-requires c = c.requires c.if-state-ne1.false
-
 pub returns : goal.returns
 unfolding stretch_by
 returns c = rw (eq-eqb _ _ c.if-state-ne1.false, c.scaling_of.ensures)

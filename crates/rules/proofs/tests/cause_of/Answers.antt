@@ -1,7 +1,6 @@
 -- `tests::cause_of` gives the first test that applies.
 use borrow.Author.Tests.{eq-eqb, ne_eqb, lt-ltb, le-ltb}
 use Rattle.rules.specs.Tests.{cause_of, time_change_bit, partial_bit}
-use Rattle.rules.proofs.Bounds.{product}
 use Rattle.rules.proofs.tests.cause_of.Goals as goal
 
 pub returns-then-version-eq0 : goal.returns-then-version-eq0
@@ -15,9 +14,6 @@ returns-then-status-eq1 c = simp (ne_eqb _ _ c.if-version-eq0.false, eq-eqb _ _ 
 pub returns-then-status-eq1-2 : goal.returns-then-status-eq1-2
 unfolding cause_of time_change_bit partial_bit
 returns-then-status-eq1-2 c = simp (ne_eqb _ _ c.if-version-eq0.false, ne_eqb _ _ c.if-status-eq1.false, eq-eqb _ _ c.if-status-eq1-2.true)
-
-pub overflow_mul-limit : goal.overflow_mul-limit
-overflow_mul-limit c = record { fits = product c.ranges.limit.fits c.ranges.interval.fits }
 
 pub returns-then-limit-interval : goal.returns-then-limit-interval
 unfolding cause_of time_change_bit partial_bit

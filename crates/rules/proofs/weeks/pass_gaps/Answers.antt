@@ -22,21 +22,6 @@ loop-left-init c =
       passed = rw (sub_self c.args.weeks) refl;
     }
 
-pub are_gaps-requires : goal.are_gaps-requires
-are_gaps-requires c = ((four (goal.at.are_gaps-requires c).In-loop-left).0, omega (arith, c.requires.1, c.loop-left.invariant.near))
-
-pub returns-then-not-are_gaps : goal.returns-then-not-are_gaps
-returns-then-not-are_gaps c = let held = c.loop-left.invariant in (held.fewer, held.passed)
-
-pub overflow_mul-at : goal.overflow_mul-at
-overflow_mul-at c = omega (arith, (four (goal.at.overflow_mul-at c).In-loop-left).0)
-
-pub overflow_sub-at : goal.overflow_sub-at
-overflow_sub-at c = omega (arith, (four (goal.at.overflow_sub-at c).In-loop-left).0)
-
-pub loop-left-smaller : goal.loop-left-smaller
-loop-left-smaller c = omega (arith, c.loop-left-test.true)
-
 pub loop-left-preserved : goal.loop-left-preserved
 loop-left-preserved c =
     let held = c.loop-left.invariant in
@@ -51,6 +36,3 @@ loop-left-preserved c =
           held.fewer gaps
           held.passed;
     }
-
-pub returns : goal.returns
-returns c = let held = c.loop-left.invariant in (held.fewer, held.passed)

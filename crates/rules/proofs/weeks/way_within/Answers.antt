@@ -4,10 +4,6 @@ use native.Mathlib.Omega.{arith}
 use Rattle.rules.specs.Weeks.{weeks_within}
 use Rattle.rules.proofs.weeks.way_within.Goals as goal
 
-pub returns-then-day-farthest : goal.returns-then-day-farthest
-unfolding weeks_within
-returns-then-day-farthest c = (refl, record { short = c.requires.0; inside = omega arith; within = omega arith; all = λ x. omega arith })
-
 pub returns : goal.returns
 unfolding weeks_within
-returns c = (refl, record { short = c.requires.0; inside = omega arith; within = omega arith; all = λ x. omega arith })
+returns c = rw c.min.ensures (refl, record { short = c.requires.0; inside = omega arith; within = omega arith; all = λ x. omega arith })

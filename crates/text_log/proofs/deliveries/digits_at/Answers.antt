@@ -1,40 +1,18 @@
 -- `deliveries::digits_at`: the digits so far and their value; nine of them at most.
-use mathlib.Core.Path.{◌≡◌}
-use Prim.Native.Nat.{◌+◌, ◌≤◌}
+use borrow.Author.Rules.{rules}
 use native.Mathlib.Omega.{arith}
-use lib.ListN.{length}
 use Rattle.text_log.proofs.OnePass.{few_begin, few_eight, few_next}
 use Rattle.text_log.proofs.deliveries.digits_at.Goals as goal
-use Rattle.text_log.proofs.deliveries.digits_at.Goals.{Else-byte-gt57}
 
--- the bytes have room for nine
-room : (c : Else-byte-gt57) → c.args.from + 9 ≤ length c.args.bytes.now
-room c = c.requires
-
-pub loop-i-init : goal.loop-i-init
-loop-i-init c = few_begin c.requires
-
-pub returns-then-byte-lt48 : goal.returns-then-byte-lt48
-returns-then-byte-lt48 c = c.loop-i.invariant.digits
-
-pub returns-then-byte-gt57 : goal.returns-then-byte-gt57
-returns-then-byte-gt57 c = c.loop-i.invariant.digits
+pub loop-end-init : goal.loop-end-init
+loop-end-init c = few_begin c.requires
 
 pub overflow_mul-value : goal.overflow_mul-value
-overflow_mul-value c = omega (arith, few_eight (room (goal.at.overflow_mul-value c).Else-byte-gt57) c.loop-i.invariant c.loop-i-test.true)
+overflow_mul-value c = omega (arith, few_eight c.requires c.loop-end.invariant c.loop-end-test.true)
 
 pub overflow_add-value : goal.overflow_add-value
-overflow_add-value c = omega (
-  arith,
-  few_eight (room (goal.at.overflow_add-value c).Else-byte-gt57) c.loop-i.invariant c.loop-i-test.true,
-  c.if-byte-gt57.false,
-)
+overflow_add-value c = omega (arith, few_eight c.requires c.loop-end.invariant c.loop-end-test.true)
 
-pub loop-i-preserved : goal.loop-i-preserved
-loop-i-preserved c = few_next (room (goal.at.loop-i-preserved c).Else-byte-gt57) c.loop-i.invariant c.loop-i-test.true c.if-byte-lt48.false
-    (omega (arith, c.if-byte-gt57.false))
-
-pub returns : goal.returns
-returns c =
-    let full : c.loop-i.i ≡ c.args.from + 9 = omega arith in
-    rw full at c.loop-i.invariant.digits
+pub loop-end-preserved : goal.loop-end-preserved
+loop-end-preserved c =
+    rw c.from.ensures (few_next c.requires c.loop-end.invariant c.loop-end-test.true (search rules) (search rules))

@@ -1,31 +1,19 @@
--- `log::line::open_after` meets its contract.
+-- `line::open_after`: a date, and four numbers by their places.
 use mathlib.Core.Path.{sym, ◌∙◌}
-use Rattle.text_log.proofs.Splitting.{pieces}
-use Rattle.text_log.proofs.Fields.{no_words, more_words}
 use Rattle.text_log.proofs.Calls.{no_fields, no_date, no_open, is_open}
 use Rattle.text_log.proofs.line.open_after.Goals as goal
 
-pub returns-then-line-end : goal.returns-then-line-end
-returns-then-line-end c = no_fields _ (no_words c.args.line.now c.args.end c.if-line-end.true)
-
 pub returns-in_default : goal.returns-in_default
-returns-in_default c =
-    no_date _ _ _ (more_words c.args.line.now c.args.end
-    c.if-line-end.false
-    ∙ pieces 32 _ _ c.end_of-date.result c.end_of-date.ensures.2) (sym c.date_of.ensures
-    ∙ c.in_default.is)
+returns-in_default c = no_fields _ c.in_default.ensures
 
-pub returns-then-not-fields : goal.returns-then-not-fields
-returns-then-not-fields c =
-    no_open _ _ _ (more_words c.args.line.now c.args.end
-    c.if-line-end.false
-    ∙ pieces 32 _ _ c.end_of-date.result c.end_of-date.ensures.2) _ _ _ (sym c.date_of.ensures
-    ∙ c.in-Is.is) (sym c.values_after-fields.ensures.0 ∙ c.if-not-fields.true)
+pub returns-in_default-date_of : goal.returns-in_default-date_of
+returns-in_default-date_of c = no_date _ _ _ c.in-Some.ensures.0 (sym c.date_of.ensures ∙ c.in_default-date_of.is)
+
+pub returns-in_default-values_in : goal.returns-in_default-values_in
+returns-in_default-values_in c =
+    no_open _ _ _ c.in-Some.ensures.0 _ (sym c.date_of.ensures ∙ c.in-Some-date_of.is) (sym c.values_in.ensures ∙ c.in_default-values_in.is)
 
 pub returns : goal.returns
 returns c =
-    is_open _ _ _ (more_words c.args.line.now c.args.end
-    c.if-line-end.false
-    ∙ pieces 32 _ _ c.end_of-date.result c.end_of-date.ensures.2) _ _ _ (sym c.date_of.ensures
-    ∙ c.in-Is.is) c.values_after-fields.result.values (sym c.values_after-fields.ensures.0
-    ∙ c.if-not-fields.false) (c.values_after-fields.ensures.1 (c.if-not-fields.false))
+    is_open _ _ _ c.in-Some.ensures.0 _ (sym c.date_of.ensures ∙ c.in-Some-date_of.is)
+    _ (sym c.values_in.ensures ∙ c.in-Some-values_in.is)

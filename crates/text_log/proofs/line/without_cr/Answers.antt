@@ -1,13 +1,13 @@
--- `log::line::without_cr` meets its contract.
-use Rattle.text_log.proofs.Calls.{cr_empty, cr_dropped, cr_none}
+-- `line::without_cr`: the last byte is a CR, or is none.
 use borrow.Author.Rules.{rules}
+use Rattle.text_log.proofs.Calls.{cr_empty, cr_dropped, cr_none}
 use Rattle.text_log.proofs.line.without_cr.Goals as goal
 
-pub returns-then-bytes-eq0 : goal.returns-then-bytes-eq0
-returns-then-bytes-eq0 c = (search rules, cr_empty c.args.bytes.now c.if-bytes-eq0.true)
+pub returns-in-13 : goal.returns-in-13
+returns-in-13 c = cr_dropped c.args.bytes.now (search rules)
 
-pub returns-then-bytes-last-eq13 : goal.returns-then-bytes-last-eq13
-returns-then-bytes-last-eq13 c = (search rules, cr_dropped c.args.bytes.now c.if-bytes-last-eq13.true)
+pub returns-in_default : goal.returns-in_default
+returns-in_default c = cr_empty c.args.bytes.now c.in_default.len_below
 
-pub returns : goal.returns
-returns c = (search rules, cr_none c.args.bytes.now c.if-bytes-last-eq13.false)
+pub returns-in_default-2 : goal.returns-in_default-2
+returns-in_default-2 c = cr_none c.args.bytes.now (search rules)

@@ -19,9 +19,9 @@ overflow_add-totals c =
 
 pub loop-k-preserved : goal.loop-k-preserved
 loop-k-preserved c =
-    replaced_next _ _ _ _ _ c.loop-k.invariant c.loop-k-test.true
+    replaced_next _ _ _ _ _ c.loop-k.invariant (search rules)
     (ap₂ ◌+◌ (c.loop-k.invariant.left c.loop-k.k (search rules)) c.share.ensures.0)
 
 pub returns : goal.returns
 unfolding with_day
-returns c = replaced_all _ _ _ _ c.loop-k.invariant c.loop-k-test.false
+returns c = replaced_all _ _ _ _ c.loop-k.invariant (search rules)

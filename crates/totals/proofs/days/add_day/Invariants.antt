@@ -1,7 +1,7 @@
 -- `days::add_day`: after k turns k totals have the day added.
 use mathlib.Core.Bool.{cond}
-use Prim.Native.Nat.{◌-◌, ◌+◌}
-use lib.ListN.{length, get_or}
+use Prim.Native.Nat.{◌+◌}
+use lib.ListN.{get_or}
 use Rattle.totals.specs.Inner.Adding.{holds}
 use Rattle.totals.specs.Stays.{first_of, end_of}
 use Rattle.totals.proofs.Replaced.{Replaced}
@@ -10,6 +10,3 @@ use Rattle.totals.proofs.days.add_day.Given as goal
 abbrev pub invariant-loop-k : goal.invariant-loop-k
 invariant-loop-k l = Replaced (λ j. get_or l.initial.totals j 0 + cond (holds (first_of l.pairs j) (end_of l.pairs j) l.day) l.energy 0)
     l.initial.totals l.totals l.k
-
-abbrev pub decreases-loop-k : goal.decreases-loop-k
-decreases-loop-k l = length l.initial.totals - l.k

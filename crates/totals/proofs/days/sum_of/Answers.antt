@@ -7,12 +7,11 @@ use Rattle.base.proofs.Sums.{sum_empty, sum_more}
 use Rattle.totals.proofs.days.sum_of.Goals as goal
 
 pub loop-i-init : goal.loop-i-init
-loop-i-init c = record { inside = search rules; known = sym (sum_empty _ _); small = search rules }
+loop-i-init c = record { known = sym (sum_empty _ _); small = search rules }
 
 pub loop-i-preserved : goal.loop-i-preserved
 loop-i-preserved c =
     record {
-      inside = search rules;
       known =
           ap₂ ◌+◌ c.loop-i.invariant.known c.value_at-energy.ensures.0
           ∙ sym (sum_more _ c.args.a c.loop-i.i);

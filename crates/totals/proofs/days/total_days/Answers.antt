@@ -9,11 +9,7 @@ use Rattle.totals.proofs.Adding.{day_within, before_none, before_length, before_
 use Rattle.totals.proofs.days.total_days.Goals as goal
 
 pub loop-day-init : goal.loop-day-init
-loop-day-init c =
-    record {
-      inside = search rules;
-      known = c.clear.ensures ∙ before_none _ _ _ c.args.totals.now c.requires.1;
-    }
+loop-day-init c = c.fill.ensures.after (λ y e. e) ∙ before_none _ _ _ c.args.totals.now c.requires.1
 
 pub overflow_mul-day : goal.overflow_mul-day
 overflow_mul-day c =
@@ -33,23 +29,18 @@ add_day-requires c =
     let a = c.args in
     let fit = c.requires.0 in
     let bytes : Bytes a.file.now = λ i. omega (arith, c.type_inv.file i) in
-    before_room a.file.now a.n a.pairs.now bytes fit.day l.day (omega arith) l.totals l.invariant.known _
+    before_room a.file.now a.n a.pairs.now bytes fit.day l.day (omega arith) l.totals l.invariant _
     c.sum_of-energy.ensures.1
 
 pub loop-day-preserved : goal.loop-day-preserved
 loop-day-preserved c =
     let l = c.loop-day in
     let a = c.args in
-    record {
-      inside = search rules;
-      known =
-          before_next a.file.now a.n a.pairs.now l.day _ l.totals _ c.sum_of-energy.ensures.0 l.invariant.known
-          c.add_day.ensures;
-    }
+    before_next a.file.now a.n a.pairs.now l.day _ l.totals _ c.sum_of-energy.ensures.0 l.invariant c.add_day.ensures
 
 pub shape_of-totals : goal.shape_of-totals
-shape_of-totals c = ap length c.loop-day.invariant.known ∙ before_length _ _ _ _ ∙ sym c.requires.1
+shape_of-totals c = ap length c.loop-day.invariant ∙ before_length _ _ _ _ ∙ sym c.requires.1
 
 pub returns : goal.returns
 returns c =
-    let done : c.loop-day.day ≡ c.args.days = omega arith in rw done at c.loop-day.invariant.known
+    let done : c.loop-day.day ≡ c.args.days = omega arith in rw done at c.loop-day.invariant

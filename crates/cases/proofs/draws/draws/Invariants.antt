@@ -1,6 +1,0 @@
--- `draws::draws`: ten turns.
-use Rattle.std.proofs.Common.{◌-◌}
-use Rattle.cases.proofs.draws.draws.Given as goal
-
-abbrev pub decreases-loop-i : goal.decreases-loop-i
-decreases-loop-i g l = 10 - l.i

@@ -1,0 +1,7 @@
+-- `from_strips`: after i turns the places of the first i slots hold what is laid of them.
+use mathlib.Core.Path.{◌≡◌}
+use Rattle.strips.proofs.Passes.{table_to}
+use Rattle.strips.proofs.from_strips.Given as goal
+
+abbrev pub invariant-loop-i : goal.invariant-loop-i
+invariant-loop-i l = l.out ≡ table_to l.n l.strips l.initial.out l.i
