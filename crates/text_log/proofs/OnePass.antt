@@ -21,7 +21,7 @@ use Rattle.text_log.specs.Line.{entry_of}
 use Rattle.text_log.specs.Log.{with_byte, lines, item_in, item_of, items}
 use Rattle.text_log.specs.Log.Item.{call}
 use Rattle.text_log.specs.Inner.Lines.{FoundAt}
-use Rattle.text_log.specs.Inner.Deliveries.{keyword, DigitsAt, FieldAt, NumbersAt, DeliveryAt}
+use Rattle.text_log.specs.Inner.Deliveries.{DigitsAt, FieldAt, NumbersAt, KeyedAt, DeliveryAt}
 
 -- ---- Digits
 
@@ -248,8 +248,10 @@ field_number f =
     let low : value_of f.word ≤ 4294967295 = omega (arith, f.valued, f.low) in
     rw (ne_eqb _ _ f.some, f.digits, le-leb _ _ low)
 
-module _ (bytes : List ℕ) (at : ℕ) (r : Delivery) (n : NumbersAt bytes (at + 9) r)
-    (word : take 9 (drop at bytes) ≡ keyword) where
+module _ (bytes : List ℕ) (at : ℕ) (r : Delivery) (keyed : KeyedAt bytes at 10 r) where
+  abbrev n : NumbersAt bytes (at + 9) 10 r
+  n = keyed.numbers
+
   -- the line's text
   abbrev found : List ℕ
   found = text n.slot.word n.version.word n.value.word n.status.word
@@ -257,7 +259,7 @@ module _ (bytes : List ℕ) (at : ℕ) (r : Delivery) (n : NumbersAt bytes (at +
   begins : drop at bytes ≡ found ++ (10 ∷ drop r.next bytes)
   begins =
       sym (take-append-drop 9 (drop at bytes))
-      ∙ rw (word, drop-drop, n.slot.text, n.version.text, n.value.text, n.status.text)
+      ∙ rw (keyed.begins, drop-drop, n.slot.text, n.version.text, n.value.text, n.status.text)
       (joins n.slot.word n.version.word n.value.word n.status.word (drop r.next bytes))
     where
       joins : (a b c d rest : List ℕ)

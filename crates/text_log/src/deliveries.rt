@@ -1,6 +1,7 @@
-// A delivery's line in one pass: nearly every line of a log is one.
+// A delivery's line in one pass: nearly every line of a log is one. What reads it is inlined, so that `delivery_end` computes no values
+// (docs/DECISIONS.md).
 ghost use Rattle.std.specs.Prelude.{true, ◌≡◌, ◌+◌, ◌≤◌, length, take, drop, IfSome};
-ghost use Rattle.text_log.specs.Inner.Deliveries.{keyword, DigitsAt, FieldAt, NumbersAt, DeliveryAt, DeliveryTo};
+ghost use Rattle.text_log.specs.Inner.Deliveries.{keyword, DigitsAt, FieldAt, NumbersAt, KeyedAt, DeliveryAt, DeliveryTo};
 
 // A row of digits, up to `end`, and its value.
 #[derive(Clone, Copy)]
@@ -35,6 +36,7 @@ fn is_delivery(bytes: &[u8], at: usize) -> bool
 }
 
 // The digits from `from` on, nine at most: they stay below 1,000,000,000.
+#[inline(always)]
 fn digits_at(bytes: &[u8], from: usize) -> Digits
     requires { from + 9 ≤ length bytes.now }
     ensures { DigitsAt bytes.now from result.value result.end }
@@ -54,6 +56,7 @@ fn digits_at(bytes: &[u8], from: usize) -> Digits
 }
 
 // The number that begins at `from`, where the separator follows it.
+#[inline(always)]
 fn field_at(bytes: &[u8], from: usize, separator: u8) -> Option<Field>
     requires { from + 10 ≤ length bytes.now }
     ensures { IfSome result (λ field. FieldAt bytes.now from separator field.value field.next) }
@@ -71,15 +74,16 @@ fn field_at(bytes: &[u8], from: usize, separator: u8) -> Option<Field>
     })
 }
 
-// The numbers of a delivery from `from` on.
-fn numbers_at(bytes: &[u8], from: usize) -> Option<Delivery>
+// The numbers of a delivery from `from` on, with `separator` after the last.
+#[inline(always)]
+fn numbers_at(bytes: &[u8], from: usize, separator: u8) -> Option<Delivery>
     requires { from + 40 ≤ length bytes.now }
-    ensures { IfSome result (NumbersAt bytes.now from) }
+    ensures { IfSome result (NumbersAt bytes.now from separator) }
 {
     let slot = field_at(bytes, from, b' ')?;
     let version = field_at(bytes, slot.next, b' ')?;
     let value = field_at(bytes, version.next, b' ')?;
-    let status = field_at(bytes, value.next, b'\n')?;
+    let status = field_at(bytes, value.next, separator)?;
     Some(Delivery {
         slot: slot.value,
         version: version.value,
@@ -89,11 +93,11 @@ fn numbers_at(bytes: &[u8], from: usize) -> Option<Delivery>
     })
 }
 
-// The delivery whose line begins at `at` and ends in LF, where each number has nine digits at most and the bytes have room for them;
-// another line may be one too.
-pub fn delivery_at(bytes: &[u8], at: usize) -> Option<Delivery>
+// The keyword at `at` and the numbers behind it, where each has nine digits at most and the bytes have room for them.
+#[inline(always)]
+fn keyed_at(bytes: &[u8], at: usize, separator: u8) -> Option<Delivery>
     requires { at ≤ length bytes.now }
-    ensures { IfSome result (DeliveryAt bytes.now at) }
+    ensures { IfSome result (KeyedAt bytes.now at separator) }
 {
     if bytes.len() - at < 49 {
         return None;
@@ -101,7 +105,16 @@ pub fn delivery_at(bytes: &[u8], at: usize) -> Option<Delivery>
     if !is_delivery(bytes, at) {
         return None;
     }
-    numbers_at(bytes, at + 9)
+    numbers_at(bytes, at + 9, separator)
+}
+
+// The delivery whose line begins at `at` and ends in LF, where it is in that form; another line may be one too.
+#[inline(always)]
+pub fn delivery_at(bytes: &[u8], at: usize) -> Option<Delivery>
+    requires { at ≤ length bytes.now }
+    ensures { IfSome result (DeliveryAt bytes.now at) }
+{
+    keyed_at(bytes, at, b'\n')
 }
 
 // Where the line after such a delivery begins.
@@ -109,5 +122,6 @@ pub fn delivery_end(bytes: &[u8], at: usize) -> Option<usize>
     requires { at ≤ length bytes.now }
     ensures { IfSome result (DeliveryTo bytes.now at) }
 {
-    delivery_at(bytes, at).map(|delivery| delivery.next)
+    let delivery = keyed_at(bytes, at, b'\n')?;
+    Some(delivery.next)
 }

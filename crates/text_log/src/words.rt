@@ -13,7 +13,8 @@ pub fn next_word(rest: &[u8]) -> Option<(&[u8], &[u8])>
     Some(pieces::cut(after, b' '))
 }
 
-// The values of the words left, where they are `N` numbers.
+// The values of the words left, where they are `N` numbers. Inlined, so that they do not go through memory.
+#[inline(always)]
 pub fn values_in<const N: usize>(mut rest: &[u8]) -> Option<[u32; N]>
     ensures { result ≡ numbers_in N (words_left rest.now) }
 {

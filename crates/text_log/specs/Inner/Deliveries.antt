@@ -32,15 +32,20 @@ pub record FieldAt (bytes : List ℕ) (from separator value next : ℕ) : Type 0
   pub near : next ≤ from + 10
   pub inside : next ≤ length bytes
 
--- four such words, with spaces between them and LF after the last
-pub record NumbersAt (bytes : List ℕ) (from : ℕ) (r : Delivery) : Type 0 where
+-- four such words, with spaces between them and a separator after the last
+pub record NumbersAt (bytes : List ℕ) (from separator : ℕ) (r : Delivery) : Type 0 where
   pub versions : ℕ
   pub values : ℕ
   pub statuses : ℕ
   pub slot : FieldAt bytes from 32 r.slot versions
   pub version : FieldAt bytes versions 32 r.version values
   pub value : FieldAt bytes values 32 r.value statuses
-  pub status : FieldAt bytes statuses 10 r.status r.next
+  pub status : FieldAt bytes statuses separator r.status r.next
+
+-- the keyword, and four such words behind it
+pub record KeyedAt (bytes : List ℕ) (at separator : ℕ) (r : Delivery) : Type 0 where
+  pub begins : take 9 (drop at bytes) ≡ keyword
+  pub numbers : NumbersAt bytes (at + 9) separator r
 
 -- the line that begins at place `at` is this delivery
 abbrev pub DeliveryAt : List ℕ → ℕ → Delivery → Type 0
