@@ -51,7 +51,7 @@ fn with_none(found: Counted, slot: SlotRecord) -> Counted
     ensures { met_by result ≡ counted_with (met_by found) slot }
 {
     Counted {
-        formed: found.formed & is_zero(slot, b'N', 0),
+        formed: found.formed && is_zero(slot, b'N', 0),
         none: found.none + 1,
         sum: found.sum + slot.value as u64,
         ..found
@@ -63,7 +63,7 @@ fn with_substituted(found: Counted, slot: SlotRecord) -> Counted
     ensures { met_by result ≡ counted_with (met_by found) slot }
 {
     Counted {
-        formed: found.formed & is_filling(slot.method),
+        formed: found.formed && is_filling(slot.method),
         substituted: found.substituted + 1,
         sum: found.sum + slot.value as u64,
         ..found
@@ -76,7 +76,7 @@ fn with_agreed(found: Counted, slot: SlotRecord) -> Counted
     ensures { met_by result ≡ counted_with (met_by found) slot }
 {
     Counted {
-        formed: found.formed & (slot.method == 5),
+        formed: found.formed && slot.method == 5,
         highest: found.highest.max(slot.value),
         substituted: found.substituted + 1,
         agreed: found.agreed + 1,
@@ -91,7 +91,7 @@ fn with_rest(found: Counted, slot: SlotRecord) -> Counted
     ensures { met_by result ≡ counted_with (met_by found) slot }
 {
     Counted {
-        formed: found.formed & is_zero(slot, b'A', 1),
+        formed: found.formed && is_zero(slot, b'A', 1),
         actual: found.actual + (slot.letter == b'A') as usize,
         sum: found.sum + slot.value as u64,
         ..found
